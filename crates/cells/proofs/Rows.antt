@@ -1,0 +1,92 @@
+-- Laws of the table by cell type: a list that a rule gives, entry by entry, and a test that holds of every row.
+use Prim.Native.Nat.{ℕ, zero, suc, _+_, _≤_, _<_}
+use mathlib.Core.Path.{_≡_, refl, sym, ap, _∙_}
+use mathlib.Core.Bool.{Bool, true, false, _&&_, cond}
+use mathlib.Core.List.{List, [], _∷_}
+use native.Mathlib.Nat.{add-zero, suc-add, add-suc, le-of-suc-le-suc, not-suc-le-zero}
+use native.Mathlib.Omega.{arith}
+use lib.Dec.{eqb, ltb}
+use lib.ListN.{getD}
+use borrow.Author.Tests.{ltb-true, ne-eqb}
+use Rattle.cells.specs.declared.table.Row.{Row}
+use Rattle.cells.specs.declared.table.Class.{Class}
+use Rattle.cells.specs.Table.{Line, lines, rowAs, rowAmong, rowIn, rowOf, no-row, typeCount}
+
+-- the entries f i, f (i + 1), .. : n of them
+unfoldable pub listed : {A : Type 0} → (ℕ → A) → ℕ → ℕ → List A
+listed f i zero = []
+listed f i (suc n) = f i ∷ listed f (suc i) n
+
+pub listed-at : {A : Type 0} (f : ℕ → A) (i n k : ℕ) (d : A) → k < n → getD (listed f i n) k d ≡ f (i + k)
+unfolding listed
+listed-at f i zero k d h = absurd (not-suc-le-zero h)
+listed-at f i (suc n) zero d h = ap f (sym (add-zero i))
+listed-at f i (suc n) (suc k) d h = listed-at f (suc i) n k d (le-of-suc-le-suc h) ∙ ap f (suc-add i k ∙ sym (add-suc i k))
+
+pub and-left : (a b : Bool) → (a && b) ≡ true → a ≡ true
+and-left true b e = refl
+and-left false b e = e
+
+pub and-right : (a b : Bool) → (a && b) ≡ true → b ≡ true
+and-right true b e = e
+and-right false b e = absurd (mathlib.Core.Bool.false≢true e)
+
+-- a test passes at each row that the lines give, and at the row of a number past the table
+abbrev allAmong : (Row → Bool) → Line → List (ℕ × Class) → Bool
+allAmong P l [] = true
+allAmong P l (t ∷ ts) = P (rowAs l (t .1)) && allAmong P l ts
+
+abbrev pub allRows : (Row → Bool) → List Line → Bool
+allRows P [] = P no-row
+allRows P (l ∷ ls) = allAmong P l (l .types) && allRows P ls
+
+either : (P : Row → Bool) (b : Bool) (v w : Row) → P v ≡ true → P w ≡ true → P (cond b v w) ≡ true
+either P true v w p q = p
+either P false v w p q = q
+
+among-all : (P : Row → Bool) (n : ℕ) (l : Line) (ts : List (ℕ × Class)) (other : Row)
+    → allAmong P l ts ≡ true → P other ≡ true → P (rowAmong n l ts other) ≡ true
+among-all P n l [] other a o = o
+among-all P n l (t ∷ ts) other a o =
+    either P (eqb n (t .0)) (rowAs l (t .1)) (rowAmong n l ts other) (and-left (P (rowAs l (t .1))) (allAmong P l ts) a)
+    (among-all P n l ts other (and-right (P (rowAs l (t .1))) (allAmong P l ts) a) o)
+
+in-all : (P : Row → Bool) (n : ℕ) (ls : List Line) → allRows P ls ≡ true → P (rowIn n ls) ≡ true
+in-all P n [] a = a
+in-all P n (l ∷ ls) a =
+    among-all P n l (l .types) (rowIn n ls) (and-left (allAmong P l (l .types)) (allRows P ls) a)
+    (in-all P n ls (and-right (allAmong P l (l .types)) (allRows P ls) a))
+
+-- the rule at each entry, from the test over the whole table
+pub every-row : (P : Row → Bool) → allRows P lines ≡ true → (n : ℕ) → P (rowOf n) ≡ true
+unfolding rowOf
+every-row P a n = in-all P n lines a
+
+-- the lines name no type from m on
+belowAll : ℕ → List (ℕ × Class) → Bool
+belowAll m [] = true
+belowAll m (t ∷ ts) = ltb (t .0) m && belowAll m ts
+
+belowLines : ℕ → List Line → Bool
+belowLines m [] = true
+belowLines m (l ∷ ls) = belowAll m (l .types) && belowLines m ls
+
+past-among : (m n : ℕ) (l : Line) (ts : List (ℕ × Class)) (other : Row) → belowAll m ts ≡ true → m ≤ n → rowAmong n l ts other ≡ other
+unfolding belowAll
+past-among m n l [] other a h = refl
+past-among m n l (t ∷ ts) other a h =
+    let below : t .0 < m = ltb-true (t .0) m (and-left (ltb (t .0) m) (belowAll m ts) a) in
+    let miss : n ≡ t .0 → ⊥ = omega arith in
+    rw (ne-eqb n (t .0) miss) (past-among m n l ts other (and-right (ltb (t .0) m) (belowAll m ts) a) h)
+
+past-lines : (m n : ℕ) (ls : List Line) → belowLines m ls ≡ true → m ≤ n → rowIn n ls ≡ no-row
+unfolding belowLines
+past-lines m n [] a h = refl
+past-lines m n (l ∷ ls) a h =
+    past-among m n l (l .types) (rowIn n ls) (and-left (belowAll m (l .types)) (belowLines m ls) a) h
+    ∙ past-lines m n ls (and-right (belowAll m (l .types)) (belowLines m ls) a) h
+
+-- a number past the table has the row that does nothing
+pub past-table : (n : ℕ) → typeCount ≤ n → rowOf n ≡ no-row
+unfolding rowOf belowAll belowLines
+past-table n h = past-lines typeCount n lines refl h

@@ -1,0 +1,116 @@
+-- Document 01, "Cells": the table by cell type.
+-- A slot set and the readings of the slots are both `Slots`: one bit for each of X, Y, Z, F.
+use Prim.Native.Nat.{ℕ}
+use mathlib.Core.Bool.{Bool, true, false, not, _&&_, cond}
+use mathlib.Core.List.{List, [], _∷_}
+use mathlib.Core.Option.{Option, none, some}
+use lib.Dec.{eqb}
+use Rattle.cells.specs.declared.table.Slots.{Slots}
+use Rattle.cells.specs.declared.table.Row.{Row}
+use Rattle.cells.specs.declared.table.Class.{Class}
+use Rattle.cells.specs.declared.table.Class.the-variants.{Nothing, Constant, Lookup, And2, Or2, Xor2, And4, Or4, DFlop, SyncDFlop, ClearDFlop, Jk, OneShot, Delay}
+
+abbrev pub slots : Bool → Bool → Bool → Bool → Slots
+slots x y z f = record { x = x; y = y; z = z; f = f }
+
+-- a line of the table: its types, each with what it does; the slots used; the edge slots; the largest configuration, none where there is none
+pub record Line : Type 0 where
+  pub types : List (ℕ × Class)
+  pub used : Slots
+  pub edge : Slots
+  pub config : Option ℕ
+
+-- the sets of slots that the table names
+abbrev pub no-slot : Slots
+no-slot = slots false false false false
+
+abbrev pub XY : Slots
+XY = slots true true false false
+
+abbrev pub XYZ : Slots
+XYZ = slots true true true false
+
+abbrev pub XYZF : Slots
+XYZF = slots true true true true
+
+abbrev pub XYF : Slots
+XYF = slots true true false true
+
+abbrev pub only-Y : Slots
+only-Y = slots false true false false
+
+abbrev pub only-Z : Slots
+only-Z = slots false false true false
+
+-- the largest number of a configuration of 16 bits
+abbrev pub largestConfig : ℕ
+largestConfig = 65535
+
+-- a one-shot or a delay takes a trigger while its count is above 0 (retriggerable), or ignores it
+abbrev pub retriggerable : Bool
+retriggerable = true
+
+abbrev pub not-retriggerable : Bool
+not-retriggerable = false
+
+abbrev pub line : List (ℕ × Class) → Slots → Slots → Option ℕ → Line
+line types used edge config = record { types = types; used = used; edge = edge; config = config }
+
+-- the table of "Cells", in its order
+abbrev pub lines : List Line
+lines =
+    line ((0, Constant) ∷ []) no-slot no-slot (some largestConfig)
+    ∷ line ((1, DFlop) ∷ (12, SyncDFlop) ∷ []) XYZF only-Y none
+    ∷ line ((2, Lookup) ∷ []) XY no-slot (some 15)
+    ∷ line ((3, Lookup) ∷ []) XYZ no-slot (some 255)
+    ∷ line ((4, Lookup) ∷ []) XYZF no-slot (some largestConfig)
+    ∷ line ((5, And2) ∷ (6, Or2) ∷ (7, Xor2) ∷ []) XY no-slot none
+    ∷ line ((8, OneShot retriggerable) ∷ (14, OneShot not-retriggerable) ∷ []) XYZ XY (some largestConfig)
+    ∷ line ((9, Delay retriggerable) ∷ (15, Delay not-retriggerable) ∷ []) XYZ XY (some largestConfig)
+    ∷ line ((10, And4) ∷ (11, Or4) ∷ []) XYZF no-slot none
+    ∷ line ((13, Jk) ∷ []) XYZ only-Z none
+    ∷ line ((16, OneShot not-retriggerable) ∷ (17, Delay not-retriggerable) ∷ []) XYZF XYF (some largestConfig)
+    ∷ line ((18, ClearDFlop) ∷ []) XYZF only-Y none
+    ∷ []
+
+-- the number of cell types: the table has 0 to 18
+abbrev pub typeCount : ℕ
+typeCount = 19
+
+abbrev pub hasConfig : Option ℕ → Bool
+hasConfig none = false
+hasConfig (some n) = true
+
+abbrev pub configLimit : Option ℕ → ℕ
+configLimit none = 0
+configLimit (some n) = n
+
+-- what a line says of a type that does k
+abbrev pub rowAs : Line → Class → Row
+rowAs l k = record { used = l .used; edge = l .edge; configured = hasConfig (l .config); largest = configLimit (l .config); class = k }
+
+-- a number past the table: no slots, and nothing done
+abbrev pub no-row : Row
+no-row = record { used = no-slot; edge = no-slot; configured = false; largest = 0; class = Nothing }
+
+-- a line's row for type n, if n is one of its types, else what the other lines say
+abbrev pub rowAmong : ℕ → Line → List (ℕ × Class) → Row → Row
+rowAmong n l [] other = other
+rowAmong n l (t ∷ ts) other = cond (eqb n (t .0)) (rowAs l (t .1)) (rowAmong n l ts other)
+
+abbrev pub rowIn : ℕ → List Line → Row
+rowIn n [] = no-row
+rowIn n (l ∷ ls) = rowAmong n l (l .types) (rowIn n ls)
+
+-- what the table says of type n
+unfoldable pub rowOf : ℕ → Row
+rowOf n = rowIn n lines
+
+-- the readings of the slots of a set; a slot outside it reads low
+abbrev pub masked : Slots → Slots → Slots
+masked s r = slots (s .x && r .x) (s .y && r .y) (s .z && r .z) (s .f && r .f)
+
+-- the level slots: the used slots that are no edge slots
+abbrev pub levelSlots : Row → Slots
+levelSlots w =
+    slots (w .used .x && not (w .edge .x)) (w .used .y && not (w .edge .y)) (w .used .z && not (w .edge .z)) (w .used .f && not (w .edge .f))

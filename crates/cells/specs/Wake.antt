@@ -1,0 +1,49 @@
+-- Document 01, "Who wakes": whether a quick tick works out a cell.
+use Prim.Native.Nat.{ℕ}
+use mathlib.Core.Bool.{Bool, true, false, not, _&&_, _||_, Bool·beq}
+use lib.Dec.{ltb}
+use Rattle.cells.specs.declared.table.Slots.{Slots}
+use Rattle.cells.specs.declared.table.Class.{Class}
+use Rattle.cells.specs.declared.table.Class.the-variants.{Nothing, Constant, Lookup, And2, Or2, Xor2, And4, Or4, DFlop, SyncDFlop, ClearDFlop, Jk, OneShot, Delay}
+use Rattle.cells.specs.declared.cell.State.{State}
+use Rattle.cells.specs.Table.{rowOf, masked, levelSlots}
+use Rattle.cells.specs.Work.{trigger}
+
+-- "a timer's trigger is high; a timer's clock is high while its count is above 0 or its pulse is on"
+abbrev pub timerStirred : State → Slots → Bool
+timerStirred s r = trigger r || (r .y && (ltb 0 (s .count .0) || s .pulse))
+
+-- stirred: "a flip-flop's clock slot is high", or the above; gates and constants are never stirred
+unfoldable pub stirredAs : Class → State → Slots → Bool
+stirredAs Nothing s r = false
+stirredAs Constant s r = false
+stirredAs Lookup s r = false
+stirredAs And2 s r = false
+stirredAs Or2 s r = false
+stirredAs Xor2 s r = false
+stirredAs And4 s r = false
+stirredAs Or4 s r = false
+stirredAs DFlop s r = r .y
+stirredAs SyncDFlop s r = r .y
+stirredAs ClearDFlop s r = r .y
+stirredAs Jk s r = r .z
+stirredAs (OneShot t) s r = timerStirred s r
+stirredAs (Delay t) s r = timerStirred s r
+
+unfoldable pub stirred : ℕ → State → Slots → Bool
+stirred kind s r = stirredAs (rowOf kind .class) s (masked (rowOf kind .used) r)
+
+-- in a slot of the set the two readings have other values
+abbrev pub differ : Bool → Bool → Bool → Bool
+differ s a b = s && not (Bool·beq a b)
+
+abbrev pub disagreeOn : Slots → Slots → Slots → Bool
+disagreeOn s a b = (differ (s .x) (a .x) (b .x) || differ (s .y) (a .y) (b .y)) || (differ (s .z) (a .z) (b .z) || differ (s .f) (a .f) (b .f))
+
+-- "a used slot that isn't an edge slot has another value than in that tick"
+unfoldable pub disagree : ℕ → Slots → Slots → Bool
+disagree kind now last = disagreeOn (levelSlots (rowOf kind)) now last
+
+-- a cell wakes: "it was edited since the last tick that ran", or is stirred, or a level slot disagrees with that tick
+unfoldable pub wakes : ℕ → State → Bool → Slots → Slots → Bool
+wakes kind s edited now last = edited || (stirred kind s now || disagree kind now last)

@@ -1,0 +1,143 @@
+-- Document 01, "Cells": what working out a cell gives, class by class.
+-- In every definition `r` holds the readings of the used slots; a slot that is not used reads low.
+use Prim.Native.Nat.{ℕ, _+_, _-_, _*_}
+use mathlib.Core.Bool.{Bool, true, false, not, _&&_, _||_, Bool·beq, cond}
+use lib.Dec.{eqb, ltb}
+use Rattle.words.specs.Bits.{bitAt, bitNumber}
+use Rattle.cells.specs.declared.table.Slots.{Slots}
+use Rattle.cells.specs.declared.table.Class.{Class}
+use Rattle.cells.specs.declared.table.Class.the-variants.{Nothing, Constant, Lookup, And2, Or2, Xor2, And4, Or4, DFlop, SyncDFlop, ClearDFlop, Jk, OneShot, Delay}
+use Rattle.cells.specs.declared.cell.State.{State}
+use Rattle.cells.specs.declared.cell.Worked.{Worked}
+use Rattle.cells.specs.declared.cell.Pulses.{Pulses}
+use Rattle.cells.specs.Table.{rowOf, masked}
+
+-- a number of pulses
+abbrev pub pulses : ℕ → Pulses
+pulses n = record { 0 = n }
+
+-- "constant: high unless 0"
+abbrev pub constantOut : ℕ → Bool
+constantOut config = not (eqb config 0)
+
+-- "p = X + 2Y + 4Z + 8F over the slots used"
+abbrev pub placeOf : Slots → ℕ
+placeOf r = bitNumber (r .x) + 2 * bitNumber (r .y) + 4 * bitNumber (r .z) + 8 * bitNumber (r .f)
+
+-- "the answer is bit number p of the code"
+abbrev pub lookupOut : ℕ → Slots → Bool
+lookupOut code r = bitAt code (placeOf r)
+
+-- the gates of two and of four slots
+abbrev pub and2 : Slots → Bool
+and2 r = r .x && r .y
+
+abbrev pub or2 : Slots → Bool
+or2 r = r .x || r .y
+
+abbrev pub xor2 : Slots → Bool
+xor2 r = not (Bool·beq (r .x) (r .y))
+
+abbrev pub and4 : Slots → Bool
+and4 r = (r .x && r .y) && (r .z && r .f)
+
+abbrev pub or4 : Slots → Bool
+or4 r = (r .x || r .y) || (r .z || r .f)
+
+-- type 1: "reset gives 0; else preset gives 1; else a clock edge takes D; else hold"
+abbrev pub dFlop : Slots → Bool → Bool
+dFlop r bit = cond (r .z) false (cond (r .f) true (cond (r .y) (r .x) bit))
+
+-- type 12: "the same three, only at a clock edge"
+abbrev pub syncDFlop : Slots → Bool → Bool
+syncDFlop r bit = cond (r .y) (cond (r .z) false (cond (r .f) true (r .x))) bit
+
+-- type 18: "reset gives 0; else at an edge F gives 0, else D"
+abbrev pub clearDFlop : Slots → Bool → Bool
+clearDFlop r bit = cond (r .z) false (cond (r .y) (cond (r .f) false (r .x)) bit)
+
+-- type 13: "at an edge J K = 10 sets, 01 clears, 11 toggles, 00 holds"
+abbrev pub jk : Slots → Bool → Bool
+jk r bit = cond (r .z) (cond (r .x) (cond (r .y) (not bit) true) (cond (r .y) false bit)) bit
+
+-- a timer's trigger: X or, where F is used, F
+abbrev pub trigger : Slots → Bool
+trigger r = r .x || r .f
+
+-- a trigger is taken unless the timer ignores triggers while its count is above 0, and it is
+unfoldable pub taken : Bool → Slots → ℕ → Bool
+taken retrigger r count = trigger r && (retrigger || not (ltb 0 count))
+
+-- a timer's count, of duration d: "reset sets the count to 0. Else a taken trigger sets it to d and the clock is ignored. Else a clock edge
+-- lowers a count above 0 by 1." A delay's goes in the "same order"
+abbrev pub nextCount : (reset taken clock : Bool) → ℕ → ℕ → ℕ
+nextCount reset taken clock d count = cond reset 0 (cond taken d (cond clock (count - 1) count))
+
+-- a delay's pulse: "a taken trigger ... ends a pulse; with d = 0 it starts the pulse"; at a clock edge "reaching 0 starts the pulse; an edge
+-- that finds the count at 0 ends a pulse"; "reset also ends the pulse"
+abbrev pub nextPulse : (reset taken clock : Bool) → ℕ → ℕ → Bool → Bool
+nextPulse reset taken clock d count pulse =
+    cond reset false (cond taken (eqb d 0) (cond clock (cond (ltb 0 count) (eqb count 1 || pulse) false) pulse))
+
+-- worked out with the state as it was; with a new bit, which is the output; with a new count and pulse
+abbrev pub keeping : State → Bool → Worked
+keeping s out = record { state = s; out = out }
+
+abbrev pub holding : State → Bool → Worked
+holding s bit = record { state = record { bit = bit; count = s .count; pulse = s .pulse }; out = bit }
+
+abbrev pub counting : State → ℕ → Bool → Bool → Worked
+counting s count pulse out = record { state = record { bit = s .bit; count = pulses count; pulse = pulse }; out = out }
+
+-- a timer's count after this tick
+abbrev pub countAfter : Bool → ℕ → State → Slots → ℕ
+countAfter retrigger d s r = nextCount (r .z) (taken retrigger r (s .count .0)) (r .y) d (s .count .0)
+
+abbrev pub pulseAfter : Bool → ℕ → State → Slots → Bool
+pulseAfter retrigger d s r = nextPulse (r .z) (taken retrigger r (s .count .0)) (r .y) d (s .count .0) (s .pulse)
+
+-- one-shot: "high while the count is above 0"
+abbrev pub oneShot : Bool → ℕ → State → Slots → Worked
+oneShot retrigger d s r = counting s (countAfter retrigger d s r) (s .pulse) (ltb 0 (countAfter retrigger d s r))
+
+-- delay: "high during the pulse"
+abbrev pub delay : Bool → ℕ → State → Slots → Worked
+delay retrigger d s r = counting s (countAfter retrigger d s r) (pulseAfter retrigger d s r) (pulseAfter retrigger d s r)
+
+-- what each class makes of the configuration, the state and the used readings
+unfoldable pub workAs : Class → ℕ → State → Slots → Worked
+workAs Nothing config s r = keeping s false
+workAs Constant config s r = keeping s (constantOut config)
+workAs Lookup config s r = keeping s (lookupOut config r)
+workAs And2 config s r = keeping s (and2 r)
+workAs Or2 config s r = keeping s (or2 r)
+workAs Xor2 config s r = keeping s (xor2 r)
+workAs And4 config s r = keeping s (and4 r)
+workAs Or4 config s r = keeping s (or4 r)
+workAs DFlop config s r = holding s (dFlop r (s .bit))
+workAs SyncDFlop config s r = holding s (syncDFlop r (s .bit))
+workAs ClearDFlop config s r = holding s (clearDFlop r (s .bit))
+workAs Jk config s r = holding s (jk r (s .bit))
+workAs (OneShot retrigger) config s r = oneShot retrigger config s r
+workAs (Delay retrigger) config s r = delay retrigger config s r
+
+-- a cell of a type, worked out with the readings of its four slots
+unfoldable pub workOut : ℕ → ℕ → State → Slots → Worked
+workOut kind config s r = workAs (rowOf kind .class) config s (masked (rowOf kind .used) r)
+
+-- what a state shows: a flip-flop's bit, whether a one-shot's count is above 0, a delay's pulse; gates and constants keep nothing, and show `out`
+unfoldable pub shown : Class → State → Bool → Bool
+shown Nothing s out = out
+shown Constant s out = out
+shown Lookup s out = out
+shown And2 s out = out
+shown Or2 s out = out
+shown Xor2 s out = out
+shown And4 s out = out
+shown Or4 s out = out
+shown DFlop s out = s .bit
+shown SyncDFlop s out = s .bit
+shown ClearDFlop s out = s .bit
+shown Jk s out = s .bit
+shown (OneShot t) s out = ltb 0 (s .count .0)
+shown (Delay t) s out = s .pulse

@@ -1,0 +1,29 @@
+// A cell as the card holds it.
+
+// A number of pulses, which are clock edges and never ticks: a duration, or a count of pulses left.
+#[repr(C)]
+pub struct Pulses(pub u16);
+
+// What a cell keeps between ticks, the same for every type: a flip-flop's bit, a timer's count and pulse.
+#[repr(C)]
+pub struct State {
+    pub bit: bool,
+    pub count: Pulses,
+    pub pulse: bool,
+}
+
+// One of the card's cells: its settings (type, configuration, the addresses in its slots X Y Z F) and its state.
+#[repr(C)]
+pub struct Cell {
+    pub kind: u8,
+    pub config: u16,
+    pub slots: [u8; 4],
+    pub state: State,
+}
+
+// What working out a cell gives: the state that it keeps, and its output.
+#[repr(C)]
+pub struct Worked {
+    pub state: State,
+    pub out: bool,
+}

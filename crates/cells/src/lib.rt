@@ -1,0 +1,4 @@
+pub mod cell;
+pub mod table;
+pub mod wake;
+pub mod work;

@@ -1,0 +1,215 @@
+// A cell worked out: one function for each class, and the one that picks among them.
+ghost use mathlib.Core.Path.{_≡_};
+ghost use Prim.Native.Nat.{_<_, _≤_};
+ghost use Rattle.words.specs.Bits.{bitNumber};
+ghost use Rattle.cells.specs.Work;
+ghost use Rattle.cells.specs.Work.{placeOf, lookupOut, dFlop, syncDFlop, clearDFlop, nextCount, nextPulse, pulses};
+ghost use Rattle.cells.specs.Work.{keeping, holding, oneShot, workAs, workOut};
+use crate::cell::Pulses;
+use crate::cell::State;
+use crate::cell::Worked;
+use crate::table::Class;
+use crate::table::Slots;
+use crate::table::masked;
+use crate::table::row_of;
+
+// A reading as a number.
+fn number(b: bool) -> u32
+    ensures { λ n. ⌜ (n ≡ bitNumber b) × (n ≤ 1) ⌝ }
+{
+    if b { 1 } else { 0 }
+}
+
+// The place in the lookup code that the readings choose.
+fn place_of(r: Slots) -> u32
+    ensures { λ p. ⌜ (p ≡ placeOf r) × (p < 16) ⌝ }
+{
+    number(r.x) + 2 * number(r.y) + 4 * number(r.z) + 8 * number(r.f)
+}
+
+// The bit of the code at that place.
+fn lookup(code: u16, r: Slots) -> bool
+    ensures { λ q. ⌜ q ≡ lookupOut code r ⌝ }
+{
+    words::bit(code as u64, place_of(r))
+}
+
+fn d_flop(r: Slots, bit: bool) -> bool
+    ensures { λ q. ⌜ q ≡ dFlop r bit ⌝ }
+{
+    if r.z {
+        false
+    } else if r.f {
+        true
+    } else if r.y {
+        r.x
+    } else {
+        bit
+    }
+}
+
+fn sync_d_flop(r: Slots, bit: bool) -> bool
+    ensures { λ q. ⌜ q ≡ syncDFlop r bit ⌝ }
+{
+    if r.y {
+        if r.z {
+            false
+        } else if r.f {
+            true
+        } else {
+            r.x
+        }
+    } else {
+        bit
+    }
+}
+
+fn clear_d_flop(r: Slots, bit: bool) -> bool
+    ensures { λ q. ⌜ q ≡ clearDFlop r bit ⌝ }
+{
+    if r.z {
+        false
+    } else if r.y {
+        if r.f { false } else { r.x }
+    } else {
+        bit
+    }
+}
+
+fn jk(r: Slots, bit: bool) -> bool
+    ensures { λ q. ⌜ q ≡ Work.jk r bit ⌝ }
+{
+    if r.z {
+        if r.x {
+            if r.y { !bit } else { true }
+        } else {
+            if r.y { false } else { bit }
+        }
+    } else {
+        bit
+    }
+}
+
+// Whether a timer takes its trigger.
+fn taken(retrigger: bool, r: Slots, count: Pulses) -> bool
+    ensures { λ q. ⌜ q ≡ Work.taken retrigger r (count .0) ⌝ }
+{
+    (r.x | r.f) & (retrigger | !(0 < count.0))
+}
+
+// A timer's count. A one-shot's and a delay's go the same way.
+fn next_count(reset: bool, taken: bool, clock: bool, d: Pulses, count: Pulses) -> Pulses
+    ensures { λ n. ⌜ n ≡ pulses (nextCount reset taken clock (d .0) (count .0)) ⌝ }
+{
+    if reset {
+        Pulses(0)
+    } else if taken {
+        d
+    } else if clock {
+        if 0 < count.0 {
+            Pulses(count.0 - 1)
+        } else {
+            count
+        }
+    } else {
+        count
+    }
+}
+
+// A delay's pulse.
+fn next_pulse(reset: bool, taken: bool, clock: bool, d: Pulses, count: Pulses, pulse: bool) -> bool
+    ensures { λ q. ⌜ q ≡ nextPulse reset taken clock (d .0) (count .0) pulse ⌝ }
+{
+    if reset {
+        false
+    } else if taken {
+        d.0 == 0
+    } else if clock {
+        if 0 < count.0 {
+            (count.0 == 1) | pulse
+        } else {
+            false
+        }
+    } else {
+        pulse
+    }
+}
+
+// The state as it was, with an output.
+fn keep(s: State, out: bool) -> Worked
+    ensures { λ w. ⌜ w ≡ keeping s out ⌝ }
+{
+    Worked { state: s, out: out }
+}
+
+// The state with another bit, which is the output.
+fn hold(s: State, bit: bool) -> Worked
+    ensures { λ w. ⌜ w ≡ holding s bit ⌝ }
+{
+    let mut next = s;
+    next.bit = bit;
+    Worked {
+        state: next,
+        out: bit,
+    }
+}
+
+fn one_shot(retrigger: bool, config: u16, s: State, r: Slots) -> Worked
+    ensures { λ w. ⌜ w ≡ oneShot retrigger config s r ⌝ }
+{
+    let took = taken(retrigger, r, s.count);
+    let count = next_count(r.z, took, r.y, Pulses(config), s.count);
+    let mut next = s;
+    next.count = count;
+    Worked {
+        state: next,
+        out: 0 < count.0,
+    }
+}
+
+fn delay(retrigger: bool, config: u16, s: State, r: Slots) -> Worked
+    ensures { λ w. ⌜ w ≡ Work.delay retrigger config s r ⌝ }
+{
+    let took = taken(retrigger, r, s.count);
+    let count = next_count(r.z, took, r.y, Pulses(config), s.count);
+    let pulse = next_pulse(r.z, took, r.y, Pulses(config), s.count, s.pulse);
+    let mut next = s;
+    next.count = count;
+    next.pulse = pulse;
+    Worked {
+        state: next,
+        out: pulse,
+    }
+}
+
+// What a class makes of the used readings.
+fn work_as(class: Class, config: u16, s: State, r: Slots) -> Worked
+    ensures { λ w. ⌜ w ≡ workAs class config s r ⌝ }
+{
+    match class {
+        Class::Nothing => keep(s, false),
+        Class::Constant => keep(s, config != 0),
+        Class::Lookup => keep(s, lookup(config, r)),
+        Class::And2 => keep(s, r.x & r.y),
+        Class::Or2 => keep(s, r.x | r.y),
+        Class::Xor2 => keep(s, r.x ^ r.y),
+        Class::And4 => keep(s, (r.x & r.y) & (r.z & r.f)),
+        Class::Or4 => keep(s, (r.x | r.y) | (r.z | r.f)),
+        Class::DFlop => hold(s, d_flop(r, s.bit)),
+        Class::SyncDFlop => hold(s, sync_d_flop(r, s.bit)),
+        Class::ClearDFlop => hold(s, clear_d_flop(r, s.bit)),
+        Class::Jk => hold(s, jk(r, s.bit)),
+        Class::OneShot(retrigger) => one_shot(retrigger, config, s, r),
+        Class::Delay(retrigger) => delay(retrigger, config, s, r),
+    }
+}
+
+// A cell of a type worked out with the readings of its four slots.
+pub fn work(kind: u8, config: u16, s: State, r: Slots) -> Worked
+    ensures { λ w. ⌜ w ≡ workOut kind config s r ⌝ }
+{
+    let row = row_of(kind);
+    let class = row.class;
+    let used = row.used;
+    work_as(class, config, s, masked(used, r))
+}

@@ -1,0 +1,2 @@
+-- The proofs: the laws of words that every function and caller cites.
+pub mod Laws
