@@ -12,7 +12,7 @@ use Rattle.cells.specs.declared.table.Class.the-variants.{Nothing, Const
 use Rattle.cells.specs.declared.cell.State.{State}
 use Rattle.cells.specs.declared.cell.Worked.{Worked}
 use Rattle.cells.specs.Table.{rowOf, masked, levelSlots, slots}
-use Rattle.cells.specs.Work.{trigger, taken, nextCount, nextPulse, countAfter, pulseAfter, keeping, holding, counting, shown, workAs, workOut}
+use Rattle.cells.specs.Work.{constantOut, trigger, taken, nextCount, nextPulse, countAfter, pulseAfter, keeping, holding, counting, shown, workAs, workOut}
 use Rattle.cells.specs.Wake.{timerStirred, stirredAs, stirred, differ, disagreeOn, disagree, wakes}
 use Rattle.cells.proofs.Rows.{and-left, and-right, every-row}
 
@@ -203,6 +203,52 @@ pub wakes-splits : (kind : ℕ) (s : State) (edited : Bool) (now last : Slots)
     → wakes kind s edited now last ≡ (edited || (stirred kind s now || disagree kind now last))
 unfolding wakes
 wakes-splits kind s edited now last = refl
+
+-- agreement on the level slots goes both ways, and from one reading to the next
+
+differ-sym : (s a b : Bool) → differ s a b ≡ differ s b a
+differ-sym false a b = refl
+differ-sym true true true = refl
+differ-sym true true false = refl
+differ-sym true false true = refl
+differ-sym true false false = refl
+
+pub disagree-sym : (kind : ℕ) (a b : Slots) → disagree kind a b ≡ disagree kind b a
+unfolding disagree
+disagree-sym kind a b =
+    let l = levelSlots (rowOf kind) in
+    rw (differ-sym (l .x) (a .x) (b .x), differ-sym (l .y) (a .y) (b .y), differ-sym (l .z) (a .z) (b .z), differ-sym (l .f) (a .f) (b .f))
+
+differ-trans : (s a b c : Bool) → differ s a b ≡ false → differ s b c ≡ false → differ s a c ≡ false
+differ-trans false a b c p q = refl
+differ-trans true true true c p q = q
+differ-trans true true false c p q = absurd (true≢false p)
+differ-trans true false true c p q = absurd (true≢false p)
+differ-trans true false false c p q = q
+
+or-join : (a b : Bool) → a ≡ false → b ≡ false → (a || b) ≡ false
+or-join a b p q = rw (p, q)
+
+pub disagree-trans : (kind : ℕ) (a b c : Slots) → disagree kind a b ≡ false → disagree kind b c ≡ false → disagree kind a c ≡ false
+unfolding disagree
+disagree-trans kind a b c p q =
+    let l = levelSlots (rowOf kind) in
+    let p1 = or-left (differ (l .x) (a .x) (b .x) || differ (l .y) (a .y) (b .y)) _ p in
+    let p2 = or-right (differ (l .x) (a .x) (b .x) || differ (l .y) (a .y) (b .y)) _ p in
+    let q1 = or-left (differ (l .x) (b .x) (c .x) || differ (l .y) (b .y) (c .y)) _ q in
+    let q2 = or-right (differ (l .x) (b .x) (c .x) || differ (l .y) (b .y) (c .y)) _ q in
+    let x = differ-trans (l .x) (a .x) (b .x) (c .x) (or-left _ _ p1) (or-left _ _ q1) in
+    let y = differ-trans (l .y) (a .y) (b .y) (c .y) (or-right (differ (l .x) (a .x) (b .x)) _ p1) (or-right (differ (l .x) (b .x) (c .x)) _ q1) in
+    let z = differ-trans (l .z) (a .z) (b .z) (c .z) (or-left _ _ p2) (or-left _ _ q2) in
+    let f = differ-trans (l .f) (a .f) (b .f) (c .f) (or-right (differ (l .z) (a .z) (b .z)) _ p2) (or-right (differ (l .z) (b .z) (c .z)) _ q2) in
+    or-join _ _ (or-join _ _ x y) (or-join _ _ z f)
+
+-- ---- the constant
+
+-- type 0 shows its configuration, and keeps its state
+pub constant-works : (config : ℕ) (s : State) (r : Slots) → workOut 0 config s r ≡ keeping s (constantOut config)
+unfolding workOut workAs rowOf
+constant-works config s r = refl
 
 -- ---- what an output shows
 

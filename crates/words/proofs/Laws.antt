@@ -5,7 +5,7 @@ use mathlib.Core.Bool.{Bool, true, false, not, _&&_, _||_, Bool·beq}
 use Prim.Native.Nat.{ℕ, zero, suc, _+_, _-_, _*_, _/_, _%_, _^_, _≤_, _<_, zero-le}
 use native.Mathlib.Nat.{add-zero, add-comm, le-of-suc-le-suc, eq-or-lt-of-le, lt-of-lt-of-le, mod-lt, mod-eq-of-lt, div-eq-of-lt, mul-add-mod-self-right, two-pow-succ, zero-lt-suc, lt-suc-self, mod-one, zero-div, zero-mod}
 use native.Mathlib.Decide.{decLt, ℕ-discrete}
-use native.Mathlib.Numerals.{one-add}
+use native.Mathlib.Numerals.{add-one, one-add}
 use native.Mathlib.Omega.{arith}
 use lib.Arith.{digits-lt}
 use lib.Dec.{eqb}
@@ -330,3 +330,21 @@ fill-bit w n i b h l =
     let v : ℕ = withBit w i false in
     or-lone v n i b (with-lt w n i false h l) l ∙ ap (λ (x : Bool). withBit v i (x || b)) (bit-with-same w i false)
     ∙ with-with w n i b false h l
+
+-- ---- a loop that builds a word
+
+-- what was built so far, with the next bit pushed, is what is built one further
+pub built-next : (f : ℕ → Bool) (i w r : ℕ) (b : Bool) → w ≡ wordOf f i → b ≡ f i → r ≡ w + bitNumber b * 2 ^ i → r ≡ wordOf f (i + 1)
+unfolding wordOf
+built-next f i w r b ew eb er = rw (add-one, er, ew, eb)
+
+pub built-fits : (f : ℕ → Bool) (i w : ℕ) → w ≡ wordOf f i → w < 2 ^ i
+built-fits f i w e = rw e (built-lt f i)
+
+-- a pushed bit keeps the word within one bit more
+pub pushed-lt : (n i w : ℕ) (b : Bool) → w < 2 ^ i → i < n → w + bitNumber b * 2 ^ i < 2 ^ n
+pushed-lt n i w b h k = lt-of-lt-of-le (bound b) (pow-mono k)
+  where
+    bound : (b : Bool) → w + bitNumber b * 2 ^ i < 2 ^ suc i
+    bound true = omega (arith, two-pow-succ i)
+    bound false = omega (arith, two-pow-succ i, pow-pos i)

@@ -1,2 +1,3 @@
 -- The proofs: the laws of words that every function and caller cites.
 pub mod Laws
+pub mod Listed

@@ -1,0 +1,3 @@
+pub mod Sleep
+pub mod Ticks
+pub mod Views

@@ -1,0 +1,243 @@
+-- The theorems of ticks: the count is the number of woken cells, the memory holds what was read, and on a settled card a quick tick does what a
+-- full one does. A fresh card is settled and every tick keeps it so.
+use Prim.Native.Nat.{ℕ, zero, suc, _+_, _-_, _*_, _^_, _≤_, _<_}
+use mathlib.Core.Path.{_≡_, refl, sym, ap, ap₂, _∙_, subst}
+use mathlib.Core.Bool.{Bool, true, false, _||_, cond}
+use mathlib.Core.List.{List}
+use native.Mathlib.Nat.{le-refl, lt-of-lt-of-le, lt-suc-self, le-of-lt}
+use native.Mathlib.Decide.{decLt}
+use native.Mathlib.Omega.{arith}
+use lib.Count.{ones}
+use lib.Dec.{ltb, eqb}
+use lib.ListN.{getD, getD-replicate}
+use borrow.Author.Tests.{lt-ltb, le-ltb}
+use Rattle.words.specs.Bits.{bitAt, bitNumber, wordOf, countOf}
+use Rattle.words.specs.Listed.{listed}
+use Rattle.words.proofs.Laws.{bit-zero, bit-built, built-all, ones-built}
+use Rattle.words.proofs.Listed.{listed-at, listed-same}
+use Rattle.cells.specs.declared.table.Slots.{Slots}
+use Rattle.cells.specs.declared.cell.Cell.{Cell}
+use Rattle.cells.specs.declared.cell.Worked.{Worked}
+use Rattle.cells.specs.Work.{keeping, workOut}
+use Rattle.cells.specs.Wake.{stirred, disagree, wakes}
+use Rattle.cells.proofs.Laws.{again, constant-works, sleeps, disagree-sym, disagree-trans}
+use Rattle.card.specs.declared.card.Card.{Card}
+use Rattle.card.specs.declared.tick.Wires.{Wires}
+use Rattle.card.specs.declared.tick.Turn.{Turn}
+use Rattle.card.specs.declared.tick.Ticked.{Ticked}
+use Rattle.card.specs.Address.{cellCount, levelAt, slotsRead, mixed, view}
+use Rattle.card.specs.Fresh.{fresh, clearState, freshCell}
+use Rattle.card.specs.Tick.{noCell, readNow, readLast, withState, workedTurn, sleptTurn, named, turnAt, outputsBelow, turnOf, cellAfter, wokeAt, turned, wiresOf, lines, cardAfter, turnedIn, ticked, idle, tick}
+use Rattle.card.specs.Settled.{remembered, Keeps, Settled, AlikeTicks}
+use Rattle.card.proofs.Ticks.{outAt, outputs-built}
+
+-- ---- what a reader sees of the outputs
+
+mixed-same : (i below other others j : ℕ) → ((j : ℕ) → j < i → bitAt below j ≡ bitAt other j) → mixed i below others j ≡ mixed i other others j
+unfolding mixed
+mixed-same i below other others j same = go (decLt j i)
+  where
+    go : Dec (j < i) → cond (ltb j i) (bitAt below j) (bitAt others j) ≡ cond (ltb j i) (bitAt other j) (bitAt others j)
+    go (yes h) = rw (lt-ltb j i h) (same j h)
+    go (no h) =
+        let g : i ≤ j = omega arith in
+        rw (le-ltb j i g)
+
+-- a reader in position i sees of this tick's outputs only those of cells below i
+view-same : (n i below other others levels : ℕ) → ((j : ℕ) → j < i → bitAt below j ≡ bitAt other j)
+    → view n i below others levels ≡ view n i other others levels
+unfolding view
+view-same n i below other others levels same = λ k b. levelAt n (λ j. mixed-same i below other others j same k) (bitAt levels) b
+
+module _ (n : ℕ) (full : Bool) (cells : List Cell) (edited : ℕ) (w : Wires) where
+  -- the output of each cell stands in the cell word, and in every word of outputs above it
+  pub output-bit : (m i : ℕ) → i < m → bitAt (outputsBelow n full cells edited w m) i ≡ outAt n full cells edited w i
+  output-bit m i h = ap (λ (x : ℕ). bitAt x i) (outputs-built n full cells edited w m) ∙ bit-built (outAt n full cells edited w) m i h
+
+  outputs-agree : (m i : ℕ) → i ≤ m → (j : ℕ) → j < i → bitAt (outputsBelow n full cells edited w m) j ≡ bitAt (outputsBelow n full cells edited w i) j
+  outputs-agree m i h j k = output-bit m j (lt-of-lt-of-le k h) ∙ sym (output-bit i j k)
+
+  -- what a reader in position i read in a tick is what the whole cell word would have it read
+  pub read-whole : (m i : ℕ) (s : List ℕ) → i ≤ m
+      → readNow n i w (outputsBelow n full cells edited w m) s ≡ readNow n i w (outputsBelow n full cells edited w i) s
+  unfolding readNow
+  read-whole m i s h =
+      ap (λ (f : ℕ → Bool). slotsRead f (view n i (w .outputs) (w .outputs2) (w .levels2)) s)
+      (view-same n i (outputsBelow n full cells edited w m) (outputsBelow n full cells edited w i) (w .outputs) (w .levels) (outputs-agree m i h))
+
+-- ---- the woken set
+
+-- the number of ones in a word of n tests is the number of tests that hold: the count in an answer is the number of woken cells
+pub count-is : (n : ℕ) (full : Bool) (cells : List Cell) (edited : ℕ) (w : Wires)
+    → ones (turned n full cells edited w .woken) ≡ countOf (wokeAt n full cells edited w) n
+unfolding turned
+count-is n full cells edited w = ones-built (wokeAt n full cells edited w) n
+
+-- a full tick's set is all ones
+pub full-set : (n : ℕ) (cells : List Cell) (edited : ℕ) (w : Wires) → turned n true cells edited w .woken ≡ 2 ^ n - 1
+unfolding turned turnAt
+full-set n cells edited w = built-all n
+
+cond-woke : (b : Bool) (cell : Cell) (now : Slots) (out : Bool) → cond b (workedTurn cell now) (sleptTurn cell out) .woke ≡ b
+cond-woke true cell now out = refl
+cond-woke false cell now out = refl
+
+-- a quick tick's set is exactly the cells that the rules name
+pub quick-set : (n : ℕ) (cells : List Cell) (edited : ℕ) (w : Wires) (i : ℕ) → i < n
+    → bitAt (turned n false cells edited w .woken) i ≡ named n (getD cells i noCell) i edited w (outputsBelow n false cells edited w i)
+unfolding turned turnAt
+quick-set n cells edited w i h =
+    bit-built (wokeAt n false cells edited w) n i h
+    ∙ cond-woke (named n (getD cells i noCell) i edited w (outputsBelow n false cells edited w i)) _ _ _
+
+-- ---- the memory
+
+-- after a tick that ran, the memory says of each reader what it read in it: cells and connectors, levels and edges
+pub remembers : (n : ℕ) (full : Bool) (c : Card) (sample i : ℕ) (s : List ℕ) → i ≤ n
+    → let w = wiresOf c (lines n c sample .levels) in
+    remembered n i (ticked n full c sample .card) s ≡ readNow n i w (outputsBelow n full (c .cells) (c .edited) w i) s
+unfolding remembered turned readNow
+remembers n full c sample i s h =
+    read-whole n full (c .cells) (c .edited) (wiresOf c (lines n c sample .levels)) n i s h
+
+-- before a tick, what its readers had read in the last one is what the memory says
+pub recalls : (n i : ℕ) (c : Card) (levels : ℕ) (s : List ℕ) → readLast n i (wiresOf c levels) s ≡ remembered n i c s
+unfolding readLast remembered
+recalls n i c levels s = refl
+
+-- ---- settled cards
+
+-- a cell that was worked out keeps what it got
+keeps-worked : (cell : Cell) (now : Slots) → Keeps (workedTurn cell now .cell) (workedTurn cell now .out) now
+unfolding Keeps
+keeps-worked cell now next agree quiet =
+    again (cell .kind) (cell .config) (cell .state) now next (disagree-sym (cell .kind) now next ∙ agree) quiet
+
+-- a cell that slept keeps what it has, also under the readings that let it sleep
+keeps-slept : (cell : Cell) (out : Bool) (now last : Slots) → disagree (cell .kind) now last ≡ false → Keeps cell out last → Keeps cell out now
+unfolding Keeps
+keeps-slept cell out now last same keeps next agree quiet = keeps next (disagree-trans (cell .kind) next now last agree same) quiet
+
+-- the turn of a cell, whether it was worked out or slept: it keeps what the turn left, and the turn leaves its slots
+turn-slots : (b : Bool) (cell : Cell) (now : Slots) (out : Bool) → cond b (workedTurn cell now) (sleptTurn cell out) .cell .slots ≡ cell .slots
+turn-slots true cell now out = refl
+turn-slots false cell now out = refl
+
+slots-stay : (n : ℕ) (full : Bool) (cell : Cell) (i edited : ℕ) (w : Wires) (below : ℕ) → turnAt n full cell i edited w below .cell .slots ≡ cell .slots
+unfolding turnAt
+slots-stay n full cell i edited w below = turn-slots (full || named n cell i edited w below) cell _ _
+
+module _ (n : ℕ) (c : Card) (levels : ℕ) (settled : Settled n c) where
+  -- a cell that the rules do not name is settled under what the last tick read
+  slept-keeps : (i below : ℕ) → i < n → let cell = getD (c .cells) i noCell in
+      named n cell i (c .edited) (wiresOf c levels) below ≡ false
+      → (disagree (cell .kind) (readNow n i (wiresOf c levels) below (cell .slots)) (readLast n i (wiresOf c levels) (cell .slots)) ≡ false)
+      × (stirred (cell .kind) (cell .state) (readNow n i (wiresOf c levels) below (cell .slots)) ≡ false)
+      × Keeps cell (bitAt (c .outputs) i) (readLast n i (wiresOf c levels) (cell .slots))
+  unfolding named Settled
+  slept-keeps i below h asleep =
+      let cell = getD (c .cells) i noCell in
+      let s = sleeps (cell .kind) (cell .state) (bitAt (c .edited) i) (readNow n i (wiresOf c levels) below (cell .slots))
+      (readLast n i (wiresOf c levels) (cell .slots)) asleep in
+      (s .2, s .1, rw (recalls n i c levels (cell .slots)) (settled i h (s .0)))
+
+  -- either kind of turn leaves a cell that keeps its state and output under what it has now read
+  turn-keeps : (full : Bool) (i below : ℕ) → i < n → let t = turnAt n full (getD (c .cells) i noCell) i (c .edited) (wiresOf c levels) below in
+      Keeps (t .cell) (t .out) (readNow n i (wiresOf c levels) below (getD (c .cells) i noCell .slots))
+  unfolding turnAt
+  turn-keeps true i below h = keeps-worked _ _
+  turn-keeps false i below h = go (named n (getD (c .cells) i noCell) i (c .edited) (wiresOf c levels) below) refl
+    where
+      go : (b : Bool) → named n (getD (c .cells) i noCell) i (c .edited) (wiresOf c levels) below ≡ b
+          → let cell = getD (c .cells) i noCell in
+          let now = readNow n i (wiresOf c levels) below (cell .slots) in
+          let t = cond b (workedTurn cell now) (sleptTurn cell (bitAt (c .outputs) i)) in Keeps (t .cell) (t .out) now
+      go true e = keeps-worked _ _
+      go false e =
+          let k = slept-keeps i below h e in
+          keeps-slept (getD (c .cells) i noCell) (bitAt (c .outputs) i) _ _ (k .0) (k .2)
+
+  -- and the two kinds leave the same cell and the same output
+  turn-same : (i below : ℕ) → i < n
+      → let quick = turnAt n false (getD (c .cells) i noCell) i (c .edited) (wiresOf c levels) below in
+      let whole = turnAt n true (getD (c .cells) i noCell) i (c .edited) (wiresOf c levels) below in
+      (quick .cell ≡ whole .cell) × (quick .out ≡ whole .out)
+  unfolding turnAt Keeps
+  turn-same i below h = go (named n (getD (c .cells) i noCell) i (c .edited) (wiresOf c levels) below) refl
+    where
+      go : (b : Bool) → named n (getD (c .cells) i noCell) i (c .edited) (wiresOf c levels) below ≡ b
+          → let cell = getD (c .cells) i noCell in
+          let now = readNow n i (wiresOf c levels) below (cell .slots) in
+          let quick = cond b (workedTurn cell now) (sleptTurn cell (bitAt (c .outputs) i)) in
+          (quick .cell ≡ workedTurn cell now .cell) × (quick .out ≡ workedTurn cell now .out)
+      go true e = (refl, refl)
+      go false e =
+          let k = slept-keeps i below h e in
+          let w = k .2 (readNow n i (wiresOf c levels) below (getD (c .cells) i noCell .slots)) (k .0) (k .1) in
+          (ap (withState (getD (c .cells) i noCell)) (sym w), ap (λ (r : Worked). r .out) (sym w))
+
+  -- so quick and full ticks agree in the outputs, cell by cell
+  outputs-same : (i : ℕ) → i ≤ n
+      → outputsBelow n false (c .cells) (c .edited) (wiresOf c levels) i ≡ outputsBelow n true (c .cells) (c .edited) (wiresOf c levels) i
+  unfolding outputsBelow
+  outputs-same zero h = refl
+  outputs-same (suc i) h =
+      let below = outputs-same i (le-of-lt h) in
+      let out = turn-same i (outputsBelow n false (c .cells) (c .edited) (wiresOf c levels) i) h .1
+      ∙ ap (λ (b : ℕ). turnAt n true (getD (c .cells) i noCell) i (c .edited) (wiresOf c levels) b .out) below in
+      ap₂ (λ (x : ℕ) (b : Bool). x + bitNumber b * 2 ^ i) below out
+
+  cells-same : listed (cellAfter n false (c .cells) (c .edited) (wiresOf c levels)) n ≡ listed (cellAfter n true (c .cells) (c .edited) (wiresOf c levels)) n
+  cells-same =
+      listed-same (cellAfter n false (c .cells) (c .edited) (wiresOf c levels)) (cellAfter n true (c .cells) (c .edited) (wiresOf c levels)) n
+      (λ i h. turn-same i (outputsBelow n false (c .cells) (c .edited) (wiresOf c levels) i) h .0
+      ∙ ap (λ (b : ℕ). turnAt n true (getD (c .cells) i noCell) i (c .edited) (wiresOf c levels) b .cell) (outputs-same i (le-of-lt h)))
+
+-- ---- the theorems
+
+-- every tick of either kind keeps a card settled
+ticked-settled : (n : ℕ) (full : Bool) (c : Card) (sample : ℕ) → Settled n c → Settled n (ticked n full c sample .card)
+unfolding Settled turned
+ticked-settled n full c sample settled i h edited =
+    let l = lines n c sample .levels in
+    let w = wiresOf c l in
+    let b = outputsBelow n full (c .cells) (c .edited) w i in
+    let old = getD (c .cells) i noCell in
+    rw (
+      listed-at (cellAfter n full (c .cells) (c .edited) w) n i noCell h,
+      output-bit n full (c .cells) (c .edited) w n i h,
+      slots-stay n full old i (c .edited) w b,
+      remembers n full c sample i (old .slots) (le-of-lt h),
+    )
+    (turn-keeps n c l settled full i b h)
+
+pub tick-settled : (n : ℕ) (full : Bool) (c : Card) (code sample : ℕ) → Settled n c → Settled n (tick n full c code sample .card)
+unfolding tick
+tick-settled n full c code sample settled = go (eqb code (c .trigger))
+  where
+    go : (b : Bool) → Settled n (cond b (ticked n full c sample) (idle c) .card)
+    go true = ticked-settled n full c sample settled
+    go false = settled
+
+-- on a settled card a quick tick and a full one give the same card, and answers that are alike but for the woken set and its count
+pub same-ticks : (n : ℕ) (c : Card) (code sample : ℕ) → Settled n c → AlikeTicks (tick n false c code sample) (tick n true c code sample)
+unfolding tick turned
+same-ticks n c code sample settled = go (eqb code (c .trigger))
+  where
+    go : (b : Bool) → AlikeTicks (cond b (ticked n false c sample) (idle c)) (cond b (ticked n true c sample) (idle c))
+    go true =
+        let cells = cells-same n c (lines n c sample .levels) settled in
+        let outputs = outputs-same n c (lines n c sample .levels) settled n (le-refl n) in
+        record {
+          card = λ k. cardAfter c (lines n c sample) (record { cells = cells k; outputs = outputs k; woken = 0 });
+          ran = refl;
+          driven = refl;
+          cells = outputs;
+        }
+    go false = record { card = refl; ran = refl; driven = refl; cells = refl }
+
+-- a fresh card is settled
+pub fresh-settled : Settled cellCount fresh
+unfolding Settled Keeps fresh
+fresh-settled i h edited now agree quiet =
+    rw (getD-replicate cellCount i freshCell noCell h, bit-zero i) (constant-works 0 clearState now)

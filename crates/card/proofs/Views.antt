@@ -1,0 +1,207 @@
+-- Laws of addresses and views: the word that holds a view has the view's bits, and the formula that reads an address reads it.
+use Prim.Native.Nat.{ℕ, zero, suc, _+_, _-_, _*_, _/_, _%_, _^_, _≤_, _<_}
+use mathlib.Core.Path.{_≡_, refl, sym, ap, ap₂, _∙_}
+use mathlib.Core.Bool.{Bool, true, false, not, _&&_, _||_, Bool·beq, cond, and-false}
+use mathlib.Core.Logic.{⊎-elim}
+use mathlib.Core.List.{List}
+use native.Mathlib.Nat.{add-zero, mod-lt, lt-of-le-of-lt, lt-of-lt-of-le}
+use native.Mathlib.Numerals.{one-add}
+use native.Mathlib.Decide.{decLt}
+use native.Mathlib.Omega.{arith}
+use lib.Dec.{leb, ltb, eqb, lit<}
+use lib.Bits.{bitAnd, bitXor, xor-lt, and-lt, and-le-l}
+use lib.ListN.{getD}
+use lib.Pow.{ones-lt, pow-mono}
+use borrow.Author.Tests.{lt-ltb, le-ltb, le-leb, lt-leb}
+use Rattle.words.specs.Bits.{bitAt, wordOf}
+use Rattle.words.proofs.Laws.{bit-zero, bit-above, bit-ones, bit-low, bit-high, bit-and, bit-xor, bit-built, built-same, built-of-bits}
+use Rattle.cells.specs.declared.table.Slots.{Slots}
+use Rattle.card.specs.Address.{connectorCount, firstConnector, among, levelAt, baseOf, readsLevels, reads, slotsRead, mixed, view}
+
+-- ---- the word of a view
+
+-- below under the mask of i ones, the others above it
+unfoldable pub mix : ℕ → ℕ → ℕ → ℕ
+mix i below others = bitXor others (bitAnd (bitXor below others) (2 ^ i - 1))
+
+masked-in : (o b : Bool) → not (Bool·beq o (not (Bool·beq b o) && true)) ≡ b
+masked-in true true = refl
+masked-in true false = refl
+masked-in false true = refl
+masked-in false false = refl
+
+masked-out : (o x : Bool) → not (Bool·beq o (x && false)) ≡ o
+masked-out true true = refl
+masked-out true false = refl
+masked-out false true = refl
+masked-out false false = refl
+
+mix-bit : (i below others j : ℕ) → bitAt (mix i below others) j ≡ mixed i below others j
+unfolding mix mixed
+mix-bit i below others j =
+    bit-xor others (bitAnd (bitXor below others) (2 ^ i - 1)) j
+    ∙ ap (λ (x : Bool). not (Bool·beq (bitAt others j) x)) (bit-and (bitXor below others) (2 ^ i - 1) j)
+    ∙ ap (λ (x : Bool). not (Bool·beq (bitAt others j) (x && bitAt (2 ^ i - 1) j))) (bit-xor below others j)
+    ∙ go (decLt j i)
+  where
+    go : Dec (j < i) → not (Bool·beq (bitAt others j) (not (Bool·beq (bitAt below j) (bitAt others j)) && bitAt (2 ^ i - 1) j))
+        ≡ cond (ltb j i) (bitAt below j) (bitAt others j)
+    go (yes h) = rw (bit-ones i j h, lt-ltb j i h) (masked-in (bitAt others j) (bitAt below j))
+    go (no h) =
+        let g : i ≤ j = omega arith in
+        rw (bit-above (2 ^ i - 1) i j (ones-lt i) g, le-ltb j i g) (masked-out (bitAt others j) (not (Bool·beq (bitAt below j) (bitAt others j))))
+
+pub mix-lt : (n i below others : ℕ) → below < 2 ^ n → others < 2 ^ n → mix i below others < 2 ^ n
+unfolding mix
+mix-lt n i below others b o =
+    xor-lt n others (bitAnd (bitXor below others) (2 ^ i - 1)) o
+    (lt-of-le-of-lt (and-le-l (bitXor below others) (2 ^ i - 1)) (xor-lt n below others b o))
+
+among-in : (first count b : ℕ) → first ≤ b → b < first + count → among first count b ≡ true
+among-in first count b h k = rw (le-leb first b h, lt-ltb b (first + count) k)
+
+among-below : (first count b : ℕ) → b < first → among first count b ≡ false
+among-below first count b h = rw (lt-leb first b h)
+
+among-above : (first count b : ℕ) → first + count ≤ b → among first count b ≡ false
+among-above first count b h = rw (le-ltb b (first + count) h) (and-false (leb first b))
+
+-- a base is low, or a cell's, or a connector's
+pub level-cell : (n : ℕ) (cells connectors : ℕ → Bool) (j : ℕ) → j < n → levelAt n cells connectors (1 + j) ≡ cells j
+unfolding levelAt
+level-cell n cells connectors j h = rw (among-in 1 n (1 + j) (omega arith) (omega arith)) (ap cells (omega arith))
+
+pub level-connector : (n : ℕ) (cells connectors : ℕ → Bool) (k : ℕ) → n ≤ 32 → k < connectorCount
+    → levelAt n cells connectors (firstConnector + k) ≡ connectors k
+unfolding levelAt
+level-connector n cells connectors k hn h =
+    rw (among-above 1 n (firstConnector + k) (omega arith), among-in firstConnector connectorCount (firstConnector + k) (omega arith) (omega arith))
+    (ap connectors (omega arith))
+
+pub level-zero : (n : ℕ) (cells connectors : ℕ → Bool) → levelAt n cells connectors 0 ≡ false
+unfolding levelAt
+level-zero n cells connectors = refl
+
+level-gap : (n : ℕ) (cells connectors : ℕ → Bool) (b : ℕ) → n < b → b < firstConnector → levelAt n cells connectors b ≡ false
+unfolding levelAt
+level-gap n cells connectors b h k = rw (among-above 1 n b (omega arith), among-below firstConnector connectorCount b k)
+
+level-past : (n : ℕ) (cells connectors : ℕ → Bool) (b : ℕ) → n ≤ 32 → firstConnector + connectorCount ≤ b → levelAt n cells connectors b ≡ false
+unfolding levelAt
+level-past n cells connectors b hn h = rw (among-above 1 n b (omega arith), among-above firstConnector connectorCount b h)
+
+-- the levels above the cells, the cells above base 0: the bit at each base
+module _ (n m l : ℕ) (hn : n ≤ 32) (hm : m < 2 ^ n) (hl : l < 2 ^ connectorCount) (hw : m * 2 < 2 ^ firstConnector) where
+  low-bit : (b : ℕ) → b < firstConnector → bitAt (m * 2 ^ 1 + 0) b ≡ levelAt n (bitAt m) (bitAt l) b
+  low-bit zero h = bit-low m 1 0 0 (omega arith) ∙ bit-zero 0 ∙ sym (level-zero n (bitAt m) (bitAt l))
+  low-bit (suc j) h = ap (bitAt (m * 2 ^ 1 + 0)) (sym (one-add j)) ∙ bit-high m 1 0 j (omega arith) ∙ go (decLt j n)
+    where
+      go : Dec (j < n) → bitAt m j ≡ levelAt n (bitAt m) (bitAt l) (suc j)
+      go (yes k) = sym (level-cell n (bitAt m) (bitAt l) j k) ∙ ap (levelAt n (bitAt m) (bitAt l)) (one-add j)
+      go (no k) =
+          let g : n ≤ j = omega arith in
+          bit-above m n j hm g ∙ sym (level-gap n (bitAt m) (bitAt l) (suc j) (omega arith) h)
+
+  level-bit : (b : ℕ) → bitAt (l * 2 ^ firstConnector + m * 2) b ≡ levelAt n (bitAt m) (bitAt l) b
+  level-bit b = go (decLt b firstConnector)
+    where
+      far : (k : ℕ) → Dec (k < connectorCount) → bitAt l k ≡ levelAt n (bitAt m) (bitAt l) (firstConnector + k)
+      far k (yes h) = sym (level-connector n (bitAt m) (bitAt l) k hn h)
+      far k (no h) =
+          let g : connectorCount ≤ k = omega arith in
+          bit-above l connectorCount k hl g ∙ sym (level-past n (bitAt m) (bitAt l) (firstConnector + k) hn (omega arith))
+
+      go : Dec (b < firstConnector) → bitAt (l * 2 ^ firstConnector + m * 2) b ≡ levelAt n (bitAt m) (bitAt l) b
+      go (yes h) = bit-low l firstConnector (m * 2) b h ∙ ap (λ (x : ℕ). bitAt x b) (sym (add-zero (m * 2))) ∙ low-bit b h
+      go (no h) =
+          let k : ℕ = b - firstConnector in
+          let e : b ≡ firstConnector + k = omega arith in
+          rw e (bit-high l firstConnector (m * 2) k hw ∙ far k (decLt k connectorCount))
+
+-- so the word that the code makes is the word of the view
+pub view-word : (n i below others levels w : ℕ) → n ≤ 32 → below < 2 ^ n → others < 2 ^ n → levels < 2 ^ connectorCount
+    → w ≡ levels * 2 ^ firstConnector + mix i below others * 2 → w ≡ wordOf (view n i below others levels) 64
+unfolding view
+view-word n i below others levels w hn hb ho hl e =
+    let m = mix i below others in
+    let hm : m < 2 ^ n = mix-lt n i below others hb ho in
+    let fits : m < 2 ^ 32 = lt-of-lt-of-le hm (pow-mono hn) in
+    let word = levels * 2 ^ firstConnector + m * 2 in
+    let bits : (b : ℕ) → b < 64 → bitAt word b ≡ view n i below others levels b = λ b h.
+    level-bit n m levels hn hm hl (omega arith) b ∙ (λ k. levelAt n (λ j. mix-bit i below others j k) (bitAt levels) b) in
+    e ∙ sym (built-of-bits word 64 (omega arith)) ∙ built-same (bitAt word) (view n i below others levels) 64 bits
+
+-- ---- reading an address
+
+-- the four readings of a level now and before
+as-level : (n b : Bool) → (not (Bool·beq n false) && (not false || not (Bool·beq n b))) ≡ n
+as-level true b = refl
+as-level false b = refl
+
+as-inverse : (n b : Bool) → (not (Bool·beq n true) && (not false || not (Bool·beq n b))) ≡ not n
+as-inverse true b = refl
+as-inverse false b = refl
+
+as-rise : (n b : Bool) → (not (Bool·beq n false) && (not true || not (Bool·beq n b))) ≡ (n && not b)
+as-rise true true = refl
+as-rise true false = refl
+as-rise false b = refl
+
+as-fall : (n b : Bool) → (not (Bool·beq n true) && (not true || not (Bool·beq n b))) ≡ (not n && b)
+as-fall true b = refl
+as-fall false true = refl
+as-fall false false = refl
+
+-- inverted in every second quarter, an edge from 128 on
+abbrev pub formula : ℕ → Bool → Bool → Bool
+formula a n b = not (Bool·beq n (eqb (a / 64 % 2) 1)) && (not (leb 128 a) || not (Bool·beq n b))
+
+formula-reads : (a : ℕ) (n b : Bool) → a < 256 → formula a n b ≡ readsLevels a n b
+unfolding readsLevels
+formula-reads a n b h = level (decLt a 64)
+  where
+    fall : Dec (a < 192) → 128 ≤ a → formula a n b ≡ readsLevels a n b
+    fall (yes k) g =
+        let q : a / 64 % 2 ≡ 0 = omega arith in
+        rw (q, le-leb 128 a g, le-ltb a 64 (omega arith), le-ltb a 128 g, lt-ltb a 192 k) (as-rise n b)
+    fall (no k) g =
+        let q : a / 64 % 2 ≡ 1 = omega arith in
+        rw (q, le-leb 128 a g, le-ltb a 64 (omega arith), le-ltb a 128 g, le-ltb a 192 (omega arith)) (as-fall n b)
+
+    inverse : Dec (a < 128) → 64 ≤ a → formula a n b ≡ readsLevels a n b
+    inverse (yes k) g =
+        let q : a / 64 % 2 ≡ 1 = omega arith in
+        rw (q, lt-leb 128 a k, le-ltb a 64 g, lt-ltb a 128 k) (as-inverse n b)
+    inverse (no k) g = fall (decLt a 192) (omega arith)
+
+    level : Dec (a < 64) → formula a n b ≡ readsLevels a n b
+    level (yes k) =
+        let q : a / 64 % 2 ≡ 0 = omega arith in
+        rw (q, lt-leb 128 a (omega arith), lt-ltb a 64 k) (as-level n b)
+    level (no k) = inverse (decLt a 128) (omega arith)
+
+or-cond : (t b : Bool) → (t || b) ≡ cond t true b
+or-cond true b = refl
+or-cond false b = refl
+
+pub formula-is : (now before : ℕ → Bool) (a : ℕ) → a < 256
+    → (eqb a 192 || formula a (now (baseOf a)) (before (baseOf a))) ≡ reads now before a
+unfolding reads
+formula-is now before a h =
+    or-cond (eqb a 192) _ ∙ ap (cond (eqb a 192) true) (formula-reads a (now (baseOf a)) (before (baseOf a)) h)
+
+-- an address looks at one base below 64, so the word of a view reads as the view
+pub reads-built : (f g : ℕ → Bool) (a : ℕ) → reads (bitAt (wordOf f 64)) (bitAt (wordOf g 64)) a ≡ reads f g a
+unfolding reads
+reads-built f g a =
+    let h : baseOf a < 64 = mod-lt a (lit< tt) in
+    rw (bit-built f 64 (baseOf a) h, bit-built g 64 (baseOf a) h)
+
+pub slots-built : (f g : ℕ → Bool) (s : List ℕ) → slotsRead (bitAt (wordOf f 64)) (bitAt (wordOf g 64)) s ≡ slotsRead f g s
+unfolding slotsRead
+slots-built f g s = rw (reads-built f g (getD s 0 0), reads-built f g (getD s 1 0), reads-built f g (getD s 2 0), reads-built f g (getD s 3 0))
+
+-- what the code reads by two words of views is what the views read
+pub read-as : (f g : ℕ → Bool) (a b : ℕ) (s : List ℕ) (r : Slots) → a ≡ wordOf f 64 → b ≡ wordOf g 64 → r ≡ slotsRead (bitAt a) (bitAt b) s
+    → r ≡ slotsRead f g s
+read-as f g a b s r ea eb er = er ∙ ap₂ (λ (x y : ℕ). slotsRead (bitAt x) (bitAt y) s) ea eb ∙ slots-built f g s

@@ -1,0 +1,39 @@
+-- Document 01, "Lines", its last sentence: the card as it powers up, with everything low and no cell edited.
+use mathlib.Core.Bool.{false}
+use mathlib.Core.List.{List, [], _∷_, _++_}
+use lib.ListN.{replicate}
+use Rattle.cells.specs.declared.cell.Cell.{Cell}
+use Rattle.cells.specs.declared.cell.State.{State}
+use Rattle.cells.specs.Work.{pulses}
+use Rattle.card.specs.declared.card.Connector.{Connector}
+use Rattle.card.specs.declared.card.Card.{Card}
+use Rattle.card.specs.Address.{cellCount}
+
+-- all that a cell keeps between ticks, cleared
+abbrev pub clearState : State
+clearState = record { bit = false; count = pulses 0; pulse = false }
+
+-- "cells constant 0"
+abbrev pub freshCell : Cell
+freshCell = record { kind = 0; config = 0; slots = replicate 4 0; state = clearState }
+
+-- "BNCs push-pull from 0, backplane inputs from 0"
+abbrev pub freshConnectors : List Connector
+freshConnectors = replicate 8 (record { kind = 2; source = 0 }) ++ replicate 8 (record { kind = 0; source = 0 })
+
+-- "pointer 1, cells constant 0, BNCs push-pull from 0, backplane inputs from 0, trigger 0"
+unfoldable pub fresh : Card
+fresh =
+    record {
+      pointer = 1;
+      trigger = 0;
+      cells = replicate cellCount freshCell;
+      connectors = freshConnectors;
+      edited = 0;
+      driven = 0;
+      outputs = 0;
+      outputs2 = 0;
+      outputs3 = 0;
+      levels = 0;
+      levels2 = 0;
+    }

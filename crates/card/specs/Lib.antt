@@ -1,0 +1,5 @@
+pub mod Address
+pub mod Connectors
+pub mod Fresh
+pub mod Tick
+pub mod Settled

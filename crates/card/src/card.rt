@@ -1,0 +1,78 @@
+// What the card holds, by value.
+ghost use mathlib.Core.Path.{_≡_};
+ghost use Rattle.card.specs.Fresh;
+use cells::cell::Cell;
+use cells::cell::Pulses;
+use cells::cell::State;
+
+// A front or backplane connector: its type (0 input, 1 open-drain, 2 push-pull) and the address that it is driven from.
+#[repr(C)]
+pub struct Connector {
+    pub kind: u8,
+    pub source: u8,
+}
+
+// The card. The words of the last tick that ran are `outputs`, `levels` and `driven`; `outputs2` and `levels2` are those of the tick before it,
+// and `outputs3` those of the one before that. No tick has to write anything for a cell that sleeps.
+#[repr(C)]
+pub struct Card {
+    pub pointer: u8,
+    pub trigger: u8,
+    pub cells: [Cell; 16],
+    pub connectors: [Connector; 16],
+    pub edited: u16,
+    pub driven: u16,
+    pub outputs: u16,
+    pub outputs2: u16,
+    pub outputs3: u16,
+    pub levels: u16,
+    pub levels2: u16,
+}
+
+// A card as it powers up.
+pub fn fresh() -> Card
+    ensures { λ c. ⌜ c ≡ Fresh.fresh ⌝ }
+{
+    let cell = Cell {
+        kind: 0,
+        config: 0,
+        slots: [0, 0, 0, 0],
+        state: State {
+            bit: false,
+            count: Pulses(0),
+            pulse: false,
+        },
+    };
+    let front = Connector { kind: 2, source: 0 };
+    let back = Connector { kind: 0, source: 0 };
+    Card {
+        pointer: 1,
+        trigger: 0,
+        cells: [cell; 16],
+        connectors: [
+            front,
+            front,
+            front,
+            front,
+            front,
+            front,
+            front,
+            front,
+            back,
+            back,
+            back,
+            back,
+            back,
+            back,
+            back,
+            back,
+        ],
+        edited: 0,
+        driven: 0,
+        outputs: 0,
+        outputs2: 0,
+        outputs3: 0,
+        levels: 0,
+        levels2: 0,
+    }
+}

@@ -1,0 +1,5 @@
+// The card: what it holds, what a reader sees at an address, and its ticks.
+pub mod card;
+pub mod connectors;
+pub mod tick;
+pub mod view;

@@ -1,0 +1,44 @@
+-- Laws of a list given entry by entry: its entries, and a loop that replaces one entry a turn.
+use Prim.Native.Nat.{ℕ, zero, suc, _+_, _≤_, _<_}
+use mathlib.Core.Path.{_≡_, refl, sym, ap, ap₂, _∙_}
+use mathlib.Core.List.{List, [], _∷_, _++_, append-nil, append-assoc}
+use mathlib.Core.Logic.{_⊎_, inl, inr}
+use native.Mathlib.Nat.{le-refl, le-of-suc-le-suc, eq-or-lt-of-le, not-suc-le-zero, lt-suc-self}
+use native.Mathlib.Numerals.{add-one}
+use native.Mathlib.Omega.{arith}
+use lib.ListN.{length, getD, set, drop, length-append, List·getD-append, drop-of-length-le}
+use lib.Seq.{drop-cons, set-at, getD-at, append-snoc}
+use Rattle.words.specs.Listed.{listed}
+
+module _ {A : Type 0} where
+  pub length-listed : (f : ℕ → A) (n : ℕ) → length (listed f n) ≡ n
+  unfolding listed
+  length-listed f zero = refl
+  length-listed f (suc n) = length-append (listed f n) (f n ∷ []) ∙ ap (λ (k : ℕ). k + 1) (length-listed f n) ∙ add-one n
+
+  pub listed-at : (f : ℕ → A) (n k : ℕ) (d : A) → k < n → getD (listed f n) k d ≡ f k
+  unfolding listed
+  listed-at f zero k d h = absurd (not-suc-le-zero h)
+  listed-at f (suc n) k d h = go (listed-at f n k d) (eq-or-lt-of-le (le-of-suc-le-suc h))
+    where
+      go : (k < n → getD (listed f n) k d ≡ f k) → (k ≡ n) ⊎ (k < n) → getD (listed f n ++ (f n ∷ [])) k d ≡ f k
+      go ih (inl e) = rw e (getD-at (listed f n) (f n) [] d n (length-listed f n))
+      go ih (inr l) = List·getD-append (listed f n) (f n ∷ []) d k (rw (length-listed f n) l) ∙ ih l
+
+  pub listed-same : (f g : ℕ → A) (n : ℕ) → ((i : ℕ) → i < n → f i ≡ g i) → listed f n ≡ listed g n
+  unfolding listed
+  listed-same f g zero h = refl
+  listed-same f g (suc n) h =
+      ap₂ (λ (l : List A) (x : A). l ++ (x ∷ [])) (listed-same f g n (λ i k. h i (omega arith))) (h n (lt-suc-self n))
+
+  -- the first i entries of l were replaced, and now the next one
+  pub listed-next : (f : ℕ → A) (i : ℕ) (l r : List A) (v d : A) → r ≡ listed f i ++ drop i l → v ≡ f i → i < length l
+      → set r i v ≡ listed f (i + 1) ++ drop (i + 1) l
+  unfolding listed
+  listed-next f i l r v d er ev h =
+      rw (er, ev, drop-cons l i d h, add-one)
+      (set-at (listed f i) (getD l i d) (drop (suc i) l) (f i) i (length-listed f i) ∙ sym (append-snoc (listed f i) (f i) (drop (suc i) l)))
+
+  -- all of them were
+  pub listed-done : (f : ℕ → A) (n : ℕ) (l r : List A) → r ≡ listed f n ++ drop n l → length l ≤ n → r ≡ listed f n
+  listed-done f n l r e h = e ∙ ap (λ (t : List A). listed f n ++ t) (drop-of-length-le l h) ∙ append-nil (listed f n)
