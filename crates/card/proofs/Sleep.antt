@@ -29,6 +29,7 @@ use Rattle.card.specs.Address.{cellCount, levelAt, slotsRead, mixed, vie
 use Rattle.card.specs.Fresh.{fresh, clearState, freshCell}
 use Rattle.card.specs.Tick.{noCell, readNow, readLast, withState, workedTurn, sleptTurn, named, turnAt, outputsBelow, turnOf, cellAfter, wokeAt, turned, wiresOf, lines, cardAfter, turnedIn, ticked, idle, tick}
 use Rattle.card.specs.Settled.{remembered, Keeps, Settled, AlikeTicks}
+use Rattle.card.specs.Examples.{unsettled, wrong-stays, wrong-goes}
 use Rattle.card.proofs.Ticks.{outAt, outputs-built}
 
 -- ---- what a reader sees of the outputs
@@ -241,3 +242,9 @@ pub fresh-settled : Settled cellCount fresh
 unfolding Settled Keeps fresh
 fresh-settled i h edited now agree quiet =
     rw (getD-replicate cellCount i freshCell noCell h, bit-zero i) (constant-works 0 clearState now)
+
+-- not every card is settled: on this one the two kinds of tick differ
+pub not-settled : Settled cellCount unsettled → ⊥
+not-settled settled =
+    let e : _≡_ {A = ℕ} 1 0 = sym wrong-stays ∙ same-ticks cellCount unsettled 0 0 settled .cells ∙ wrong-goes in
+    omega arith

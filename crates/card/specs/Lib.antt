@@ -3,3 +3,4 @@ pub mod Connectors
 pub mod Fresh
 pub mod Tick
 pub mod Settled
+pub mod Examples
