@@ -1,16 +1,15 @@
 -- Laws of a cell that the card uses: a cell that is not stirred and whose level slots agree may sleep; when a cell wakes; what its output shows.
-use Prim.Native.Nat.{ℕ, _-_, _≤_}
+use Prim.Native.Nat.{ℕ, _≤_}
 use mathlib.Core.Path.{_≡_, refl, sym, ap, _∙_}
 use mathlib.Core.Bool.{Bool, true, false, not, _&&_, _||_, Bool·beq, cond, false≢true, true≢false}
 use native.Mathlib.Omega.{arith}
-use lib.Dec.{eqb, ltb}
-use borrow.Author.Tests.{ltb-false, not-true}
+use lib.Dec.{ltb}
+use borrow.Author.Tests.{ltb-false}
 use Rattle.cells.specs.declared.table.Slots.{Slots}
 use Rattle.cells.specs.declared.table.Row.{Row}
 use Rattle.cells.specs.declared.table.Class.{Class}
 use Rattle.cells.specs.declared.table.Class.the-variants.{Nothing, Constant, Lookup, And2, Or2, Xor2, And4, Or4, DFlop, SyncDFlop, ClearDFlop, Jk, OneShot, Delay}
 use Rattle.cells.specs.declared.cell.State.{State}
-use Rattle.cells.specs.declared.cell.Worked.{Worked}
 use Rattle.cells.specs.Table.{rowOf, masked, levelSlots, slots}
 use Rattle.cells.specs.Work.{constantOut, trigger, taken, nextCount, nextPulse, countAfter, pulseAfter, keeping, holding, counting, shown, workAs, workOut}
 use Rattle.cells.specs.Wake.{timerStirred, stirredAs, stirred, differ, disagreeOn, disagree, wakes}

@@ -1,27 +1,14 @@
--- Laws of the table by cell type: a list that a rule gives, entry by entry, and a test that holds of every row.
-use Prim.Native.Nat.{ℕ, zero, suc, _+_, _≤_, _<_}
-use mathlib.Core.Path.{_≡_, refl, sym, ap, _∙_}
-use mathlib.Core.Bool.{Bool, true, false, _&&_, cond}
+-- Laws of the table by cell type: a test that holds of every row, and the row of a number past the table.
+use Prim.Native.Nat.{ℕ, _≤_, _<_}
+use mathlib.Core.Path.{_≡_, refl, _∙_}
+use mathlib.Core.Bool.{Bool, true, false, _&&_, cond, false≢true}
 use mathlib.Core.List.{List, [], _∷_}
-use native.Mathlib.Nat.{add-zero, suc-add, add-suc, le-of-suc-le-suc, not-suc-le-zero}
 use native.Mathlib.Omega.{arith}
 use lib.Dec.{eqb, ltb}
-use lib.ListN.{getD}
 use borrow.Author.Tests.{ltb-true, ne-eqb}
 use Rattle.cells.specs.declared.table.Row.{Row}
 use Rattle.cells.specs.declared.table.Class.{Class}
 use Rattle.cells.specs.Table.{Line, lines, rowAs, rowAmong, rowIn, rowOf, no-row, typeCount}
-
--- the entries f i, f (i + 1), .. : n of them
-unfoldable pub listed : {A : Type 0} → (ℕ → A) → ℕ → ℕ → List A
-listed f i zero = []
-listed f i (suc n) = f i ∷ listed f (suc i) n
-
-pub listed-at : {A : Type 0} (f : ℕ → A) (i n k : ℕ) (d : A) → k < n → getD (listed f i n) k d ≡ f (i + k)
-unfolding listed
-listed-at f i zero k d h = absurd (not-suc-le-zero h)
-listed-at f i (suc n) zero d h = ap f (sym (add-zero i))
-listed-at f i (suc n) (suc k) d h = listed-at f (suc i) n k d (le-of-suc-le-suc h) ∙ ap f (suc-add i k ∙ sym (add-suc i k))
 
 pub and-left : (a b : Bool) → (a && b) ≡ true → a ≡ true
 and-left true b e = refl
@@ -29,7 +16,7 @@ and-left false b e = e
 
 pub and-right : (a b : Bool) → (a && b) ≡ true → b ≡ true
 and-right true b e = e
-and-right false b e = absurd (mathlib.Core.Bool.false≢true e)
+and-right false b e = absurd (false≢true e)
 
 -- a test passes at each row that the lines give, and at the row of a number past the table
 abbrev allAmong : (Row → Bool) → Line → List (ℕ × Class) → Bool

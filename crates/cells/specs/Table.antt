@@ -8,6 +8,8 @@ use lib.Dec.{eqb}
 use Rattle.cells.specs.declared.table.Slots.{Slots}
 use Rattle.cells.specs.declared.table.Row.{Row}
 use Rattle.cells.specs.declared.table.Class.{Class}
+use Rattle.cells.specs.declared.table.Kept.{Kept}
+use Rattle.cells.specs.declared.table.Kept.the-variants.{Stateless, Bit, Count}
 use Rattle.cells.specs.declared.table.Class.the-variants.{Nothing, Constant, Lookup, And2, Or2, Xor2, And4, Or4, DFlop, SyncDFlop, ClearDFlop, Jk, OneShot, Delay}
 
 abbrev pub slots : Bool → Bool → Bool → Bool → Slots
@@ -85,13 +87,30 @@ abbrev pub configLimit : Option ℕ → ℕ
 configLimit none = 0
 configLimit (some n) = n
 
+-- what a class keeps between ticks: "a flip-flop's bit, a timer's count and pulse"
+abbrev pub keptBy : Class → Kept
+keptBy Nothing = Stateless
+keptBy Constant = Stateless
+keptBy Lookup = Stateless
+keptBy And2 = Stateless
+keptBy Or2 = Stateless
+keptBy Xor2 = Stateless
+keptBy And4 = Stateless
+keptBy Or4 = Stateless
+keptBy DFlop = Bit
+keptBy SyncDFlop = Bit
+keptBy ClearDFlop = Bit
+keptBy Jk = Bit
+keptBy (OneShot t) = Count
+keptBy (Delay t) = Count
+
 -- what a line says of a type that does k
 abbrev pub rowAs : Line → Class → Row
-rowAs l k = record { used = l .used; edge = l .edge; configured = hasConfig (l .config); largest = configLimit (l .config); class = k }
+rowAs l k = record { used = l .used; edge = l .edge; configured = hasConfig (l .config); largest = configLimit (l .config); class = k; kept = keptBy k }
 
 -- a number past the table: no slots, and nothing done
 abbrev pub no-row : Row
-no-row = record { used = no-slot; edge = no-slot; configured = false; largest = 0; class = Nothing }
+no-row = record { used = no-slot; edge = no-slot; configured = false; largest = 0; class = Nothing; kept = Stateless }
 
 -- a line's row for type n, if n is one of its types, else what the other lines say
 abbrev pub rowAmong : ℕ → Line → List (ℕ × Class) → Row → Row

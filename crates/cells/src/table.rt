@@ -30,6 +30,13 @@ pub enum Class {
     Delay(bool),
 }
 
+// What a type keeps between ticks: nothing, a flip-flop's bit, or a timer's count and pulse.
+pub enum Kept {
+    Stateless,
+    Bit,
+    Count,
+}
+
 // What the table holds of a type. Without a configuration the largest is 0.
 pub struct Row {
     pub used: Slots,
@@ -37,6 +44,7 @@ pub struct Row {
     pub configured: bool,
     pub largest: u16,
     pub class: Class,
+    pub kept: Kept,
 }
 
 const NONE: Slots = Slots {
@@ -96,6 +104,7 @@ const TABLE: [Row; 19] = [
         configured: true,
         largest: 65535,
         class: Class::Constant,
+        kept: Kept::Stateless,
     },
     Row {
         used: XYZF,
@@ -103,6 +112,7 @@ const TABLE: [Row; 19] = [
         configured: false,
         largest: 0,
         class: Class::DFlop,
+        kept: Kept::Bit,
     },
     Row {
         used: XY,
@@ -110,6 +120,7 @@ const TABLE: [Row; 19] = [
         configured: true,
         largest: 15,
         class: Class::Lookup,
+        kept: Kept::Stateless,
     },
     Row {
         used: XYZ,
@@ -117,6 +128,7 @@ const TABLE: [Row; 19] = [
         configured: true,
         largest: 255,
         class: Class::Lookup,
+        kept: Kept::Stateless,
     },
     Row {
         used: XYZF,
@@ -124,6 +136,7 @@ const TABLE: [Row; 19] = [
         configured: true,
         largest: 65535,
         class: Class::Lookup,
+        kept: Kept::Stateless,
     },
     Row {
         used: XY,
@@ -131,6 +144,7 @@ const TABLE: [Row; 19] = [
         configured: false,
         largest: 0,
         class: Class::And2,
+        kept: Kept::Stateless,
     },
     Row {
         used: XY,
@@ -138,6 +152,7 @@ const TABLE: [Row; 19] = [
         configured: false,
         largest: 0,
         class: Class::Or2,
+        kept: Kept::Stateless,
     },
     Row {
         used: XY,
@@ -145,6 +160,7 @@ const TABLE: [Row; 19] = [
         configured: false,
         largest: 0,
         class: Class::Xor2,
+        kept: Kept::Stateless,
     },
     Row {
         used: XYZ,
@@ -152,6 +168,7 @@ const TABLE: [Row; 19] = [
         configured: true,
         largest: 65535,
         class: Class::OneShot(true),
+        kept: Kept::Count,
     },
     Row {
         used: XYZ,
@@ -159,6 +176,7 @@ const TABLE: [Row; 19] = [
         configured: true,
         largest: 65535,
         class: Class::Delay(true),
+        kept: Kept::Count,
     },
     Row {
         used: XYZF,
@@ -166,6 +184,7 @@ const TABLE: [Row; 19] = [
         configured: false,
         largest: 0,
         class: Class::And4,
+        kept: Kept::Stateless,
     },
     Row {
         used: XYZF,
@@ -173,6 +192,7 @@ const TABLE: [Row; 19] = [
         configured: false,
         largest: 0,
         class: Class::Or4,
+        kept: Kept::Stateless,
     },
     Row {
         used: XYZF,
@@ -180,6 +200,7 @@ const TABLE: [Row; 19] = [
         configured: false,
         largest: 0,
         class: Class::SyncDFlop,
+        kept: Kept::Bit,
     },
     Row {
         used: XYZ,
@@ -187,6 +208,7 @@ const TABLE: [Row; 19] = [
         configured: false,
         largest: 0,
         class: Class::Jk,
+        kept: Kept::Bit,
     },
     Row {
         used: XYZ,
@@ -194,6 +216,7 @@ const TABLE: [Row; 19] = [
         configured: true,
         largest: 65535,
         class: Class::OneShot(false),
+        kept: Kept::Count,
     },
     Row {
         used: XYZ,
@@ -201,6 +224,7 @@ const TABLE: [Row; 19] = [
         configured: true,
         largest: 65535,
         class: Class::Delay(false),
+        kept: Kept::Count,
     },
     Row {
         used: XYZF,
@@ -208,6 +232,7 @@ const TABLE: [Row; 19] = [
         configured: true,
         largest: 65535,
         class: Class::OneShot(false),
+        kept: Kept::Count,
     },
     Row {
         used: XYZF,
@@ -215,6 +240,7 @@ const TABLE: [Row; 19] = [
         configured: true,
         largest: 65535,
         class: Class::Delay(false),
+        kept: Kept::Count,
     },
     Row {
         used: XYZF,
@@ -222,6 +248,7 @@ const TABLE: [Row; 19] = [
         configured: false,
         largest: 0,
         class: Class::ClearDFlop,
+        kept: Kept::Bit,
     },
 ];
 
@@ -239,6 +266,7 @@ pub fn row_of(kind: u8) -> Row
             configured: false,
             largest: 0,
             class: Class::Nothing,
+            kept: Kept::Stateless,
         }
     }
 }

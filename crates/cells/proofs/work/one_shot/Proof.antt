@@ -1,20 +1,14 @@
+-- `cells::work::one_shot` meets its contract: the count is the one that its two callees give, and the output says whether it is above 0.
 use borrow.Author.Needs.{needs}
 use Rattle.cells.proofs.work.one_shot.Statement.{statement}
 use Rattle.cells.proofs.work.one_shot.Tie as tie
-use Rattle.cells.proofs.work.one_shot.Reads as reads
-use Rattle.cells.proofs.work.one_shot.Lts as lts
-use Rattle.cells.proofs.work.next_count.Reads as next-count-reads
-use Rattle.cells.proofs.work.taken.Reads as taken-reads
 
--- src/work.rt:144:9
 taken-requires : tie.Need-taken-requires
 taken-requires c κs = search needs
 
--- src/work.rt:145:9
 next-count-requires : tie.Need-next-count-requires
 next-count-requires c κs = search needs
 
--- src/work.rt:141:1
 returns : tie.Need-returns
 returns c = rw (c .before .next-count .ensures, c .before .before .taken .ensures)
 

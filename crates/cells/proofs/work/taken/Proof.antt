@@ -1,11 +1,9 @@
+-- `cells::work::taken` meets its contract: the code computes the definition.
 use mathlib.Core.Path.{refl}
 use Rattle.cells.specs.Work.{taken}
 use Rattle.cells.proofs.work.taken.Statement.{statement}
 use Rattle.cells.proofs.work.taken.Tie as tie
-use Rattle.cells.proofs.work.taken.Reads as reads
-use Rattle.cells.proofs.work.taken.Lts as lts
 
--- src/work.rt:89:1
 returns : tie.Need-returns
 unfolding taken
 returns c = refl

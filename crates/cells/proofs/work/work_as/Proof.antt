@@ -1,217 +1,160 @@
+-- `cells::work::work_as` meets its contract: in each arm the class is known, and the callees' contracts give what the definition says of it.
 use Rattle.cells.specs.Work.{workAs}
 use borrow.Author.Needs.{needs}
 use Rattle.cells.proofs.work.work_as.Statement.{statement}
 use Rattle.cells.proofs.work.work_as.Tie as tie
-use Rattle.cells.proofs.work.work_as.Reads as reads
-use Rattle.cells.proofs.work.work_as.Lts as lts
-use Rattle.cells.proofs.work.clear_d_flop.Reads as clear-d-flop-reads
-use Rattle.cells.proofs.work.d_flop.Reads as d-flop-reads
-use Rattle.cells.proofs.work.delay.Reads as delay-reads
-use Rattle.cells.proofs.work.hold.Reads as hold-reads
-use Rattle.cells.proofs.work.jk.Reads as jk-reads
-use Rattle.cells.proofs.work.keep.Reads as keep-reads
-use Rattle.cells.proofs.work.lookup.Reads as lookup-reads
-use Rattle.cells.proofs.work.one_shot.Reads as one-shot-reads
-use Rattle.cells.proofs.work.sync_d_flop.Reads as sync-d-flop-reads
 
--- src/work.rt:166:27
 enum-told : tie.Need-enum-told
 enum-told c = search needs
 
--- src/work.rt:166:27
 keep-requires : tie.Need-keep-requires
 keep-requires c κs = search needs
 
--- src/work.rt:167:36
 enum-told-2 : tie.Need-enum-told-2
 enum-told-2 c = search needs
 
--- src/work.rt:167:28
 keep-requires-2 : tie.Need-keep-requires-2
 keep-requires-2 c κs = search needs
 
--- src/work.rt:168:34
 enum-told-3 : tie.Need-enum-told-3
 enum-told-3 c = search needs
 
--- src/work.rt:168:34
 lookup-requires : tie.Need-lookup-requires
 lookup-requires c κs = search needs
 
--- src/work.rt:168:26
 keep-requires-3 : tie.Need-keep-requires-3
 keep-requires-3 c κs = search needs
 
--- src/work.rt:169:32
 enum-told-4 : tie.Need-enum-told-4
 enum-told-4 c = search needs
 
--- src/work.rt:169:24
 keep-requires-4 : tie.Need-keep-requires-4
 keep-requires-4 c κs = search needs
 
--- src/work.rt:170:31
 enum-told-5 : tie.Need-enum-told-5
 enum-told-5 c = search needs
 
--- src/work.rt:170:23
 keep-requires-5 : tie.Need-keep-requires-5
 keep-requires-5 c κs = search needs
 
--- src/work.rt:171:32
 enum-told-6 : tie.Need-enum-told-6
 enum-told-6 c = search needs
 
--- src/work.rt:171:24
 keep-requires-6 : tie.Need-keep-requires-6
 keep-requires-6 c κs = search needs
 
--- src/work.rt:172:33
 enum-told-7 : tie.Need-enum-told-7
 enum-told-7 c = search needs
 
--- src/work.rt:172:24
 keep-requires-7 : tie.Need-keep-requires-7
 keep-requires-7 c κs = search needs
 
--- src/work.rt:173:32
 enum-told-8 : tie.Need-enum-told-8
 enum-told-8 c = search needs
 
--- src/work.rt:173:23
 keep-requires-8 : tie.Need-keep-requires-8
 keep-requires-8 c κs = search needs
 
--- src/work.rt:174:33
 enum-told-9 : tie.Need-enum-told-9
 enum-told-9 c = search needs
 
--- src/work.rt:174:33
 d-flop-requires : tie.Need-d-flop-requires
 d-flop-requires c κs = search needs
 
--- src/work.rt:174:25
 hold-requires : tie.Need-hold-requires
 hold-requires c κs = search needs
 
--- src/work.rt:175:37
 enum-told-10 : tie.Need-enum-told-10
 enum-told-10 c = search needs
 
--- src/work.rt:175:37
 sync-d-flop-requires : tie.Need-sync-d-flop-requires
 sync-d-flop-requires c κs = search needs
 
--- src/work.rt:175:29
 hold-requires-2 : tie.Need-hold-requires-2
 hold-requires-2 c κs = search needs
 
--- src/work.rt:176:38
 enum-told-11 : tie.Need-enum-told-11
 enum-told-11 c = search needs
 
--- src/work.rt:176:38
 clear-d-flop-requires : tie.Need-clear-d-flop-requires
 clear-d-flop-requires c κs = search needs
 
--- src/work.rt:176:30
 hold-requires-3 : tie.Need-hold-requires-3
 hold-requires-3 c κs = search needs
 
--- src/work.rt:177:30
 enum-told-12 : tie.Need-enum-told-12
 enum-told-12 c = search needs
 
--- src/work.rt:177:30
 jk-requires : tie.Need-jk-requires
 jk-requires c κs = search needs
 
--- src/work.rt:177:22
 hold-requires-4 : tie.Need-hold-requires-4
 hold-requires-4 c κs = search needs
 
--- src/work.rt:178:24
 enum-known-class : tie.Need-enum-known-class
 enum-known-class c = search needs
 
--- src/work.rt:178:38
 one-shot-requires : tie.Need-one-shot-requires
 one-shot-requires c κs = search needs
 
--- src/work.rt:179:22
 enum-known-class-2 : tie.Need-enum-known-class-2
 enum-known-class-2 c = search needs
 
--- src/work.rt:179:36
 delay-requires : tie.Need-delay-requires
 delay-requires c κs = search needs
 
--- src/work.rt:162:1
 returns : tie.Need-returns
 unfolding workAs
 returns c = rw (c .before .enum-told .given .1, c .keep .ensures)
 
--- src/work.rt:162:1
 returns-2 : tie.Need-returns-2
 unfolding workAs
 returns-2 c = rw (c .before .enum-told2 .given .1, c .keep2 .ensures)
 
--- src/work.rt:162:1
 returns-3 : tie.Need-returns-3
 unfolding workAs
 returns-3 c = rw (c .before .before .enum-told3 .given .1, c .keep3 .ensures, c .before .lookup .ensures)
 
--- src/work.rt:162:1
 returns-4 : tie.Need-returns-4
 unfolding workAs
 returns-4 c = rw (c .before .before .enum-told4 .given .1, c .keep4 .ensures)
 
--- src/work.rt:162:1
 returns-5 : tie.Need-returns-5
 unfolding workAs
 returns-5 c = rw (c .before .before .enum-told5 .given .1, c .keep5 .ensures)
 
--- src/work.rt:162:1
 returns-6 : tie.Need-returns-6
 unfolding workAs
 returns-6 c = rw (c .before .before .enum-told6 .given .1, c .keep6 .ensures)
 
--- src/work.rt:162:1
 returns-7 : tie.Need-returns-7
 unfolding workAs
 returns-7 c = rw (c .before .before .before .enum-told7 .given .1, c .keep7 .ensures)
 
--- src/work.rt:162:1
 returns-8 : tie.Need-returns-8
 unfolding workAs
 returns-8 c = rw (c .before .before .before .enum-told8 .given .1, c .keep8 .ensures)
 
--- src/work.rt:162:1
 returns-9 : tie.Need-returns-9
 unfolding workAs
 returns-9 c = rw (c .before .before .enum-told9 .given .1, c .hold .ensures, c .before .d-flop .ensures)
 
--- src/work.rt:162:1
 returns-10 : tie.Need-returns-10
 unfolding workAs
 returns-10 c = rw (c .before .before .enum-told10 .given .1, c .hold2 .ensures, c .before .sync-d-flop .ensures)
 
--- src/work.rt:162:1
 returns-11 : tie.Need-returns-11
 unfolding workAs
 returns-11 c = rw (c .before .before .enum-told11 .given .1, c .hold3 .ensures, c .before .clear-d-flop .ensures)
 
--- src/work.rt:162:1
 returns-12 : tie.Need-returns-12
 unfolding workAs
 returns-12 c = rw (c .before .before .enum-told12 .given .1, c .hold4 .ensures, c .before .jk .ensures)
 
--- src/work.rt:162:1
 returns-13 : tie.Need-returns-13
 unfolding workAs
 returns-13 c = rw (c .before .before .class .given .1, c .one-shot .ensures)
 
--- src/work.rt:162:1
 returns-14 : tie.Need-returns-14
 unfolding workAs
 returns-14 c = rw (c .before .before .class2 .given .1, c .delay .ensures)

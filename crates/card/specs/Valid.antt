@@ -1,0 +1,96 @@
+-- Document 01, rows 5 to 13 of "When the card says no", as tests of single values; and the settings that lines can set, which a record may hold.
+use Prim.Native.Nat.{ℕ, _+_, _%_}
+use mathlib.Core.Bool.{Bool, true, false, not, _&&_, _||_, cond}
+use mathlib.Core.List.{List, [], _∷_}
+use lib.Dec.{leb, ltb, eqb}
+use lib.ListN.{length, getD}
+use Rattle.cells.specs.declared.table.Slots.{Slots}
+use Rattle.cells.specs.declared.table.Row.{Row}
+use Rattle.cells.specs.declared.cell.Cell.{Cell}
+use Rattle.cells.specs.Table.{rowOf, typeCount}
+use Rattle.card.specs.declared.card.Card.{Card}
+use Rattle.card.specs.declared.card.Connector.{Connector}
+use Rattle.card.specs.Address.{firstCell, firstConnector, connectorCount, among, baseOf}
+use Rattle.card.specs.Connectors.{pushPull, isOutput, noConnector}
+use Rattle.card.specs.Tick.{noCell}
+
+-- ---- single values
+
+-- a base that is 0, a cell's or a connector's; the others are reserved
+unfoldable pub permittedBase : ℕ → ℕ → Bool
+permittedBase n b = eqb b 0 || (among firstCell n b || among firstConnector connectorCount b)
+
+-- the largest address, clock code and type of a connector
+abbrev pub largestAddress : ℕ
+largestAddress = 255
+
+abbrev pub largestClock : ℕ
+largestClock = 4
+
+-- the clock code under which BNC1 brings the trigger
+abbrev pub frontTrigger : ℕ
+frontTrigger = 4
+
+-- 5: "pointer place"
+unfoldable pub badPlace : ℕ → ℕ → Bool
+badPlace n p = not (among firstCell n p || among firstConnector connectorCount p)
+
+-- 7: "cell type over 18, connector type over 2, clock over 4"
+unfoldable pub badCellType : ℕ → Bool
+badCellType v = leb typeCount v
+
+unfoldable pub badConnectorType : ℕ → Bool
+badConnectorType v = ltb pushPull v
+
+unfoldable pub badClock : ℕ → Bool
+badClock v = ltb largestClock v
+
+-- 9: "configuration over its range, or a type that has none"
+unfoldable pub badConfig : ℕ → ℕ → Bool
+badConfig kind v = not (rowOf kind .configured) || ltb (rowOf kind .largest) v
+
+-- 10: "slot not used", of the slots that are given
+unfoldable pub unusedSlot : ℕ → Slots → Bool
+unusedSlot kind given =
+    ((given .x && not (rowOf kind .used .x)) || (given .y && not (rowOf kind .used .y)))
+    || ((given .z && not (rowOf kind .used .z)) || (given .f && not (rowOf kind .used .f)))
+
+-- 11: "address over 255 or reserved"
+unfoldable pub badAddress : ℕ → ℕ → Bool
+badAddress n a = ltb largestAddress a || not (permittedBase n (baseOf a))
+
+-- 13: BNC1, the first connector, an output while the trigger is 4
+unfoldable pub frontDriven : ℕ → ℕ → Bool
+frontDriven trigger kind = eqb trigger frontTrigger && isOutput kind
+
+-- ---- settings
+
+-- 15: "unused slot or configuration not 0; edge slot under 128", else an address that a line could set
+unfoldable pub validSlot : ℕ → Bool → Bool → ℕ → Bool
+validSlot n used edge a = cond used (not (badAddress n a) && (not edge || leb 128 a)) (eqb a 0)
+
+-- the largest configuration of a type without one is 0
+unfoldable pub validCell : ℕ → Cell → Bool
+validCell n cell =
+    ((not (badCellType (cell .kind)) && leb (cell .config) (rowOf (cell .kind) .largest)) && eqb (length (cell .slots)) 4)
+    && ((validSlot n (rowOf (cell .kind) .used .x) (rowOf (cell .kind) .edge .x) (getD (cell .slots) 0 0)
+    && validSlot n (rowOf (cell .kind) .used .y) (rowOf (cell .kind) .edge .y) (getD (cell .slots) 1 0))
+    && (validSlot n (rowOf (cell .kind) .used .z) (rowOf (cell .kind) .edge .z) (getD (cell .slots) 2 0)
+    && validSlot n (rowOf (cell .kind) .used .f) (rowOf (cell .kind) .edge .f) (getD (cell .slots) 3 0)))
+
+unfoldable pub validConnector : ℕ → Connector → Bool
+validConnector n k = not (badConnectorType (k .kind)) && not (badAddress n (k .source))
+
+-- every entry of a list passes the test
+unfoldable pub every : {A : Type 0} → (A → Bool) → List A → Bool
+every f [] = true
+every f (x ∷ xs) = f x && every f xs
+
+-- the settings of a card of n cells that lines can set: what a record may hold
+unfoldable pub valid : ℕ → ℕ → List Cell → List Connector → Bool
+valid n trigger cells connectors =
+    ((not (badClock trigger) && not (frontDriven trigger (getD connectors 0 noConnector .kind))) && (eqb (length cells) n && eqb (length connectors) connectorCount))
+    && (every (validCell n) cells && every (validConnector n) connectors)
+
+unfoldable pub validCard : ℕ → Card → Bool
+validCard n c = valid n (c .trigger) (c .cells) (c .connectors)

@@ -1,0 +1,19 @@
+-- `cellchart::reading` meets its contract: each slot reads the bit that `words::bit` gives.
+use borrow.Author.Needs.{needs}
+use Rattle.cellchart.proofs.reading.Statement.{statement}
+use Rattle.cellchart.proofs.reading.Tie as tie
+
+bit-requires : tie.Need-bit-requires
+bit-requires c κs = search needs
+
+bit-requires-2 : tie.Need-bit-requires-2
+bit-requires-2 c κs = search needs
+
+bit-requires-3 : tie.Need-bit-requires-3
+bit-requires-3 c κs = search needs
+
+returns : tie.Need-returns
+returns c = rw (c .bit3 .ensures, c .before .bit2 .ensures, c .before .before .bit .ensures)
+
+pub reading-spec : {M : Type 1} → statement M
+reading-spec = tie.close (tie.spec bit-requires bit-requires-2 bit-requires-3 returns)

@@ -1,0 +1,162 @@
+// Prints what the table says of each cell type, and the course of two timers.
+//
+// A chart line: the type, the used slots, the edge slots, the largest configuration; `-` for none.
+// A line of a course: the readings X Y Z, then the count, pulse and output that they lead to.
+ghost use mathlib.Core.Path.{_≡_};
+ghost use Rattle.cells.specs.Work.{workOut};
+ghost use Rattle.cellchart.specs.Chart.{digitOf, readingOf, clear, duration, after};
+use cells::cell::Pulses;
+use cells::cell::State;
+use cells::cell::Worked;
+use cells::table::Row;
+use cells::table::Slots;
+
+// Of both timers.
+const DURATION: u16 = 2;
+
+// A step of a course is the readings X Y Z of a timer, as bits.
+const TRIGGER: u8 = 1;
+
+const CLOCK: u8 = 2;
+
+const BOTH: u8 = TRIGGER | CLOCK;
+
+const RESET: u8 = 4;
+
+// The pulse starts where the count reaches 0, and the next clock edge ends it.
+const DELAY: [u8; 6] = [TRIGGER, CLOCK, CLOCK, CLOCK, BOTH, RESET];
+
+// Two triggers come while it runs, and are ignored. The second brings a clock edge, which counts.
+const ONE_SHOT: [u8; 6] = [TRIGGER, CLOCK, TRIGGER, BOTH, BOTH, RESET];
+
+// Nothing is kept yet.
+const CLEAR: State = State {
+    bit: false,
+    count: Pulses(0),
+    pulse: false,
+};
+
+fn put(b: u8) {
+    let text = [b];
+    io::write_all(1, &text);
+}
+
+fn digit(b: bool) -> u8
+    ensures { λ r. ⌜ r ≡ digitOf b ⌝ }
+{
+    if b { b'1' } else { b'0' }
+}
+
+fn reading(step: u8) -> Slots
+    ensures { λ r. ⌜ r ≡ readingOf step ⌝ }
+{
+    let n = step as u64;
+    Slots {
+        x: words::bit(n, 0),
+        y: words::bit(n, 1),
+        z: words::bit(n, 2),
+        f: false,
+    }
+}
+
+fn put_number(n: u16) {
+    io::print_decimal(1, n as u64);
+}
+
+fn put_letter(shown: bool, letter: u8) {
+    if shown {
+        put(letter);
+    }
+}
+
+fn put_slots(set: Slots) {
+    put_letter(set.x, b'X');
+    put_letter(set.y, b'Y');
+    put_letter(set.z, b'Z');
+    put_letter(set.f, b'F');
+    put_letter(!((set.x | set.y) | (set.z | set.f)), b'-');
+    put(b' ');
+}
+
+fn put_largest(row: Row) {
+    if row.configured {
+        put_number(row.largest);
+    } else {
+        put(b'-');
+    }
+}
+
+fn put_row(kind: u8) {
+    let row = cells::table::row_of(kind);
+    let used = row.used;
+    let edge = row.edge;
+    put_number(kind as u16);
+    put(b' ');
+    put_slots(used);
+    put_slots(edge);
+    put_largest(row);
+    put(b'\n');
+}
+
+fn put_chart() {
+    let mut kind: u8 = 0;
+    while kind < 19 {
+        put_row(kind);
+        kind += 1;
+    }
+}
+
+fn put_bit(b: bool) {
+    put(digit(b));
+    put(b' ');
+}
+
+fn put_step(r: Slots, w: Worked) {
+    let s = w.state;
+    let count = s.count;
+    put_bit(r.x);
+    put_bit(r.y);
+    put_bit(r.z);
+    put_number(count.0);
+    put(b' ');
+    put_bit(s.pulse);
+    put(digit(w.out));
+    put(b'\n');
+}
+
+// Works out a timer and prints the step. The result is the state that the timer keeps.
+fn step(kind: u8, s: State, r: Slots) -> State
+    ensures { λ t. ⌜ t ≡ workOut kind duration s r .state ⌝ }
+{
+    let w = cells::work::work(kind, DURATION, s, r);
+    put_step(r, w);
+    w.state
+}
+
+fn put_head(kind: u16) {
+    io::write_all(1, b"type ");
+    put_number(kind);
+    io::write_all(1, b" duration ");
+    put_number(DURATION);
+    put(b'\n');
+}
+
+// A timer's course from nothing kept. The result is what it keeps at the end.
+fn put_course(kind: u8, steps: [u8; 6]) -> State
+    ensures { λ s. ⌜ s ≡ after kind clear steps ⌝ }
+{
+    put_head(kind as u16);
+    let mut s = CLEAR;
+    let mut i: usize = 0;
+    while i < 6 {
+        s = step(kind, s, reading(steps[i]));
+        i += 1;
+    }
+    s
+}
+
+fn main() {
+    put_chart();
+    put_course(9, DELAY);
+    put_course(14, ONE_SHOT);
+}
