@@ -12,10 +12,11 @@ use lib.Dec.{leb, ltb, eqb, lit<}
 use lib.Bits.{bitAnd, bitXor, xor-lt, and-lt, and-le-l}
 use lib.ListN.{getD}
 use lib.Pow.{ones-lt, pow-mono}
-use borrow.Author.Tests.{lt-ltb, le-ltb, le-leb, lt-leb}
+use borrow.Author.Tests.{lt-ltb, le-ltb, le-leb, lt-leb, ltb-true, leb-true}
 use Rattle.words.specs.Bits.{bitAt, wordOf}
 use Rattle.words.proofs.Laws.{bit-zero, bit-above, bit-ones, bit-low, bit-high, bit-and, bit-xor, bit-built, built-same, built-of-bits}
 use Rattle.cells.specs.declared.table.Slots.{Slots}
+use Rattle.cells.proofs.Rows.{and-left, and-right}
 use Rattle.card.specs.Address.{connectorCount, firstConnector, among, levelAt, baseOf, readsLevels, reads, slotsRead, mixed, view}
 
 -- ---- the word of a view
@@ -205,3 +206,11 @@ slots-built f g s = rw (reads-built f g (getD s 0 0), reads-built f g (getD s 1 
 pub read-as : (f g : ℕ → Bool) (a b : ℕ) (s : List ℕ) (r : Slots) → a ≡ wordOf f 64 → b ≡ wordOf g 64 → r ≡ slotsRead (bitAt a) (bitAt b) s
     → r ≡ slotsRead f g s
 read-as f g a b s r ea eb er = er ∙ ap₂ (λ (x y : ℕ). slotsRead (bitAt x) (bitAt y) s) ea eb ∙ slots-built f g s
+
+-- ---- a base among some
+
+pub among-bounds : (first count b : ℕ) → among first count b ≡ true → (first ≤ b) × (b < first + count)
+among-bounds first count b e = (
+  leb-true first b (and-left (leb first b) (ltb b (first + count)) e),
+  ltb-true b (first + count) (and-right (leb first b) (ltb b (first + count)) e),
+)

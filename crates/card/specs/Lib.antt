@@ -3,6 +3,7 @@ pub mod Connectors
 pub mod Fresh
 pub mod Tick
 pub mod Valid
+pub mod Edits
 pub mod Record
 pub mod Settled
 pub mod Examples

@@ -1,13 +1,13 @@
 -- Laws of a list given entry by entry: its entries, and a loop that replaces one entry a turn.
 use Prim.Native.Nat.{ℕ, zero, suc, _+_, _≤_, _<_}
 use mathlib.Core.Path.{_≡_, refl, sym, ap, ap₂, _∙_}
-use mathlib.Core.List.{List, [], _∷_, _++_, append-nil, append-assoc}
+use mathlib.Core.List.{List, [], _∷_, _++_, append-nil, map}
 use mathlib.Core.Logic.{_⊎_, inl, inr}
 use native.Mathlib.Nat.{le-refl, le-of-suc-le-suc, eq-or-lt-of-le, not-suc-le-zero, lt-suc-self}
 use native.Mathlib.Numerals.{add-one}
 use native.Mathlib.Omega.{arith}
-use lib.ListN.{length, getD, set, drop, length-append, List·getD-append, drop-of-length-le}
-use lib.Seq.{drop-cons, set-at, getD-at, append-snoc}
+use lib.ListN.{length, getD, set, drop, length-append, List·getD-append, List·getD-map, drop-of-length-le, length-map}
+use lib.Seq.{drop-cons, set-at, getD-at, append-snoc, ext-getD}
 use Rattle.words.specs.Listed.{listed}
 
 module _ {A : Type 0} where
@@ -42,3 +42,9 @@ module _ {A : Type 0} where
   -- all of them were
   pub listed-done : (f : ℕ → A) (n : ℕ) (l r : List A) → r ≡ listed f n ++ drop n l → length l ≤ n → r ≡ listed f n
   listed-done f n l r e h = e ∙ ap (λ (t : List A). listed f n ++ t) (drop-of-length-le l h) ∙ append-nil (listed f n)
+
+-- a list mapped, entry by entry
+pub listed-map : {A B : Type 0} (g : A → B) (l : List A) (d : A) (n : ℕ) → length l ≡ n → listed (λ i. g (getD l i d)) n ≡ map g l
+listed-map g l d n e =
+    ext-getD (g d) (listed (λ i. g (getD l i d)) n) (map g l) (length-listed (λ i. g (getD l i d)) n ∙ sym e ∙ sym (length-map l g))
+    (λ i h. listed-at (λ i. g (getD l i d)) n i (g d) (rw (length-listed (λ i. g (getD l i d)) n) at h) ∙ sym (List·getD-map g l i d))

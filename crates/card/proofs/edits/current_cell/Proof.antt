@@ -1,0 +1,31 @@
+-- `card::edits::current_cell` meets its contract: the test is whether the pointer stands at one.
+use Rattle.card.proofs.Views.{among-bounds}
+use native.Mathlib.Omega.{arith}
+use Rattle.card.specs.Edits.{currentCell}
+use borrow.Author.Needs.{needs}
+use Rattle.card.proofs.edits.current_cell.Statement.{statement}
+use Rattle.card.proofs.edits.current_cell.Tie as tie
+
+sub-at : tie.Need-sub-at
+sub-at c = among-bounds 1 16 _ (c .if1 .taken) .0
+
+cast-at : tie.Need-cast-at
+cast-at c = search needs
+
+mul-result : tie.Need-mul-result
+mul-result c = search needs
+
+element-copy-out-result : tie.Need-element-copy-out-result
+element-copy-out-result c = omega (arith, among-bounds 1 16 (c .before .args .t1 .pointer) (c .if1 .taken))
+
+returns : tie.Need-returns
+unfolding currentCell
+returns c = rw (c .before .if1 .taken)
+
+returns-2 : tie.Need-returns-2
+unfolding currentCell
+returns-2 c = rw (c .if1 .left)
+
+pub current-cell-spec : {M : Type 1} → statement M
+current-cell-spec =
+    tie.close (tie.spec sub-at cast-at mul-result element-copy-out-result returns returns-2)

@@ -1,0 +1,19 @@
+-- `card::edits::set_connector_type` meets its contract: by those of its two calls.
+use Rattle.card.specs.Edits.{setConnectorType}
+use borrow.Author.Needs.{needs}
+use Rattle.card.proofs.edits.set_connector_type.Statement.{statement}
+use Rattle.card.proofs.edits.set_connector_type.Tie as tie
+
+current-connector-requires : tie.Need-current-connector-requires
+current-connector-requires c κs = search needs
+
+put-connector-requires : tie.Need-put-connector-requires
+put-connector-requires c κs = search needs
+
+returns : tie.Need-returns
+unfolding setConnectorType
+returns c = rw (c .put-connector .ensures, c .before .current-connector .ensures)
+
+pub set-connector-type-spec : {M : Type 1} → statement M
+set-connector-type-spec =
+    tie.close (tie.spec current-connector-requires put-connector-requires returns)

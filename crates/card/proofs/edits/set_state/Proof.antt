@@ -1,0 +1,26 @@
+-- `card::edits::set_state` meets its contract: by those of its calls.
+use Rattle.card.specs.Edits.{stated, setState}
+use borrow.Author.Needs.{needs}
+use Rattle.card.proofs.edits.set_state.Statement.{statement}
+use Rattle.card.proofs.edits.set_state.Tie as tie
+
+current-cell-requires : tie.Need-current-cell-requires
+current-cell-requires c κs = search needs
+
+row-of-requires : tie.Need-row-of-requires
+row-of-requires c κs = search needs
+
+stated-as-requires : tie.Need-stated-as-requires
+stated-as-requires c κs = search needs
+
+put-cell-requires : tie.Need-put-cell-requires
+put-cell-requires c κs = search needs
+
+returns : tie.Need-returns
+unfolding stated setState
+returns c = rw (c .put-cell .ensures, c .before .stated-as .ensures, c .before .before .row-of .ensures, c .before .before .before .current-cell .ensures)
+
+pub set-state-spec : {M : Type 1} → statement M
+set-state-spec =
+    tie.close
+    (tie.spec current-cell-requires row-of-requires stated-as-requires put-cell-requires returns)

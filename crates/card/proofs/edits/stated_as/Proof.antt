@@ -1,0 +1,45 @@
+-- `card::edits::stated_as` meets its contract: each arm is a case of the definition.
+use Rattle.card.specs.Edits.{statedAs}
+use borrow.Author.Needs.{needs}
+use Rattle.card.proofs.edits.stated_as.Statement.{statement}
+use Rattle.card.proofs.edits.stated_as.Tie as tie
+
+enum-told : tie.Need-enum-told
+enum-told c = search needs
+
+enum-told-2 : tie.Need-enum-told-2
+enum-told-2 c = search needs
+
+with-bit-requires : tie.Need-with-bit-requires
+with-bit-requires c κs = search needs
+
+enum-told-3 : tie.Need-enum-told-3
+enum-told-3 c = search needs
+
+with-count-requires : tie.Need-with-count-requires
+with-count-requires c κs = search needs
+
+returns : tie.Need-returns
+unfolding statedAs
+returns c = rw (c .enum-told .given .1)
+
+returns-2 : tie.Need-returns-2
+unfolding statedAs
+returns-2 c = rw (c .before .enum-told2 .given .1, c .with-bit .ensures)
+
+returns-3 : tie.Need-returns-3
+unfolding statedAs
+returns-3 c = rw (c .before .enum-told3 .given .1, c .with-count .ensures)
+
+pub stated-as-spec : {M : Type 1} → statement M
+stated-as-spec =
+    tie.close
+    (tie.spec
+    enum-told
+    enum-told-2
+    with-bit-requires
+    enum-told-3
+    with-count-requires
+    returns
+    returns-2
+    returns-3)

@@ -1,0 +1,196 @@
+-- Document 01, "Lines": what an accepted line does to the card. No line alters an output, a level, the driven word or the memory.
+-- "Edited" is document 01's term for a cell that a write has touched since the last tick that ran.
+use Prim.Native.Nat.{ℕ, _+_, _-_, _^_}
+use mathlib.Core.Bool.{Bool, true, false, not, _&&_, _||_, cond}
+use mathlib.Core.List.{List, [], _∷_, map}
+use lib.Dec.{ltb, eqb}
+use lib.ListN.{getD, set}
+use Rattle.words.specs.Bits.{withBit}
+use Rattle.cells.specs.declared.table.Slots.{Slots}
+use Rattle.cells.specs.declared.table.Kept.{Kept}
+use Rattle.cells.specs.declared.table.Kept.the-variants.{Stateless, Bit, Count}
+use Rattle.cells.specs.declared.cell.Cell.{Cell}
+use Rattle.cells.specs.declared.cell.State.{State}
+use Rattle.cells.specs.declared.cell.Pulses.{Pulses}
+use Rattle.cells.specs.Table.{rowOf}
+use Rattle.cells.specs.Work.{pulses}
+use Rattle.card.specs.declared.card.Card.{Card}
+use Rattle.card.specs.declared.card.Connector.{Connector}
+use Rattle.card.specs.Address.{firstCell, firstConnector, connectorCount, among}
+use Rattle.card.specs.Connectors.{noConnector}
+use Rattle.card.specs.Fresh.{clearState, freshCell}
+use Rattle.card.specs.Tick.{noCell}
+use Rattle.card.specs.Valid.{frontTrigger}
+
+-- ---- parts of the card, replaced
+
+abbrev pub withPointer : Card → ℕ → Card
+withPointer c p =
+    record {
+      pointer = p;
+      trigger = c .trigger;
+      cells = c .cells;
+      connectors = c .connectors;
+      edited = c .edited;
+      driven = c .driven;
+      outputs = c .outputs;
+      outputs2 = c .outputs2;
+      outputs3 = c .outputs3;
+      levels = c .levels;
+      levels2 = c .levels2;
+    }
+
+-- the settings and states, with the cells that are now edited; nothing else of the card
+abbrev pub withSettings : Card → ℕ → List Cell → List Connector → ℕ → Card
+withSettings c trigger cells connectors edited =
+    record {
+      pointer = c .pointer;
+      trigger = trigger;
+      cells = cells;
+      connectors = connectors;
+      edited = edited;
+      driven = c .driven;
+      outputs = c .outputs;
+      outputs2 = c .outputs2;
+      outputs3 = c .outputs3;
+      levels = c .levels;
+      levels2 = c .levels2;
+    }
+
+-- the card with the cell at index i replaced, and edited
+abbrev pub withCell : Card → ℕ → Cell → Card
+withCell c i cell = withSettings c (c .trigger) (set (c .cells) i cell) (c .connectors) (withBit (c .edited) i true)
+
+abbrev pub withConnector : Card → ℕ → Connector → Card
+withConnector c k connector = withSettings c (c .trigger) (c .cells) (set (c .connectors) k connector) (c .edited)
+
+-- ---- the pointer
+
+-- "moves the pointer (1-16, 33-48)": it stands at a cell, or at a connector
+abbrev pub atCell : ℕ → Card → Bool
+atCell n c = among firstCell n (c .pointer)
+
+abbrev pub atConnector : Card → Bool
+atConnector c = among firstConnector connectorCount (c .pointer)
+
+-- the cell or the connector at the pointer; elsewhere one with nothing set
+unfoldable pub currentCell : ℕ → Card → Cell
+currentCell n c = cond (atCell n c) (getD (c .cells) (c .pointer - firstCell) noCell) freshCell
+
+unfoldable pub currentConnector : Card → Connector
+currentConnector c = cond (atConnector c) (getD (c .connectors) (c .pointer - firstConnector) noConnector) noConnector
+
+-- the one at the pointer replaced; elsewhere nothing changes
+unfoldable pub putCell : ℕ → Card → Cell → Card
+putCell n c cell = cond (atCell n c) (withCell c (c .pointer - firstCell) cell) c
+
+unfoldable pub putConnector : Card → Connector → Card
+putConnector c connector = cond (atConnector c) (withConnector c (c .pointer - firstConnector) connector) c
+
+-- ---- the effects
+
+-- "`M E=n` moves the pointer"
+unfoldable pub move : Card → ℕ → Card
+move c p = withPointer c p
+
+-- the type of a connector that is an input
+abbrev pub input : ℕ
+input = 0
+
+-- "`PM E=n` sets the trigger source; 4 also makes BNC1 an input": it keeps its source
+unfoldable pub setTrigger : Card → ℕ → Card
+setTrigger c t =
+    withSettings c t (c .cells)
+    (cond (eqb t frontTrigger) (set (c .connectors) 0 (record { kind = input; source = getD (c .connectors) 0 noConnector .source })) (c .connectors))
+    (c .edited)
+
+-- a cell with another state
+abbrev pub cellWith : Cell → State → Cell
+cellWith cell s = record { kind = cell .kind; config = cell .config; slots = cell .slots; state = s }
+
+-- "`HOME E` or `! E` clears all states"; "by HOME and by a load, all are" edited
+abbrev pub clearedCell : Cell → Cell
+clearedCell cell = cellWith cell clearState
+
+unfoldable pub home : ℕ → Card → Card
+home n c = withSettings c (c .trigger) (map clearedCell (c .cells)) (c .connectors) (2 ^ n - 1)
+
+-- "edge slots become 128"
+abbrev pub edgeAddress : ℕ
+edgeAddress = 128
+
+abbrev pub blankSlot : Bool → ℕ
+blankSlot edge = cond edge edgeAddress 0
+
+abbrev pub blankSlots : Slots → List ℕ
+blankSlots edge = blankSlot (edge .x) ∷ blankSlot (edge .y) ∷ blankSlot (edge .z) ∷ blankSlot (edge .f) ∷ []
+
+-- "Y sets the type (clears configuration, slots, state; edge slots become 128)"
+unfoldable pub typed : ℕ → Cell
+typed kind = record { kind = kind; config = 0; slots = blankSlots (rowOf kind .edge); state = clearState }
+
+unfoldable pub setType : ℕ → Card → ℕ → Card
+setType n c kind = putCell n c (typed kind)
+
+-- "Z the configuration (clears a timer's state)"
+unfoldable pub configuredState : Kept → State → State
+configuredState Stateless s = s
+configuredState Bit s = s
+configuredState Count s = clearState
+
+unfoldable pub configured : Cell → ℕ → Cell
+configured cell config =
+    record { kind = cell .kind; config = config; slots = cell .slots; state = configuredState (rowOf (cell .kind) .kept) (cell .state) }
+
+unfoldable pub setConfig : ℕ → Card → ℕ → Card
+setConfig n c config = putCell n c (configured (currentCell n c) config)
+
+-- "F the state: 0 or 1 for flip-flops, the count for timers, ending a pulse"; a type that keeps no state has none to set
+abbrev pub bitState : State → Bool → State
+bitState s bit = record { bit = bit; count = s .count; pulse = s .pulse }
+
+abbrev pub countState : State → Pulses → State
+countState s count = record { bit = s .bit; count = count; pulse = false }
+
+unfoldable pub statedAs : Kept → State → ℕ → State
+statedAs Stateless s v = s
+statedAs Bit s v = bitState s (not (eqb v 0))
+statedAs Count s v = countState s (pulses v)
+
+unfoldable pub stated : Cell → ℕ → Cell
+stated cell v = cellWith cell (statedAs (rowOf (cell .kind) .kept) (cell .state) v)
+
+unfoldable pub setState : ℕ → Card → ℕ → Card
+setState n c v = putCell n c (stated (currentCell n c) v)
+
+-- "an edge-sensitive slot given 0-127 stores that plus 128"
+abbrev pub stored : Bool → ℕ → ℕ
+stored edge v = cond (edge && ltb v edgeAddress) (v + edgeAddress) v
+
+-- "`36CCB` with one to four different `p=n`": the slots given take the values, the others stay
+abbrev pub wiredSlot : Bool → Bool → ℕ → ℕ → ℕ
+wiredSlot given edge v old = cond given (stored edge v) old
+
+unfoldable pub wired : Cell → Slots → List ℕ → Cell
+wired cell given v =
+    record {
+      kind = cell .kind;
+      config = cell .config;
+      slots =
+          wiredSlot (given .x) (rowOf (cell .kind) .edge .x) (getD v 0 0) (getD (cell .slots) 0 0)
+          ∷ wiredSlot (given .y) (rowOf (cell .kind) .edge .y) (getD v 1 0) (getD (cell .slots) 1 0)
+          ∷ wiredSlot (given .z) (rowOf (cell .kind) .edge .z) (getD v 2 0) (getD (cell .slots) 2 0)
+          ∷ wiredSlot (given .f) (rowOf (cell .kind) .edge .f) (getD v 3 0) (getD (cell .slots) 3 0)
+          ∷ [];
+      state = cell .state;
+    }
+
+unfoldable pub setSlots : ℕ → Card → Slots → List ℕ → Card
+setSlots n c given v = putCell n c (wired (currentCell n c) given v)
+
+-- "At a connector Y is 0 input, 1 open-drain, 2 push-pull, and Z the source"
+unfoldable pub setConnectorType : Card → ℕ → Card
+setConnectorType c kind = putConnector c (record { kind = kind; source = currentConnector c .source })
+
+unfoldable pub setSource : Card → ℕ → Card
+setSource c source = putConnector c (record { kind = currentConnector c .kind; source = source })

@@ -1,0 +1,285 @@
+// What an accepted line does to the card: one function for each effect.
+ghost use mathlib.Core.List.{map};
+ghost use mathlib.Core.Path.{_≡_};
+ghost use Prim.Native.Nat.{_<_};
+ghost use Rattle.card.specs.Address.{cellCount};
+ghost use Rattle.card.specs.Edits;
+ghost use Rattle.card.specs.Edits.{currentCell, currentConnector, putCell, putConnector, setTrigger, configuredState, statedAs, wiredSlot, bitState, countState, clearedCell};
+ghost use Rattle.card.specs.Edits.{setType, setConfig, setState, setSlots, setConnectorType, setSource, blankSlot};
+use crate::card::Card;
+use crate::card::Connector;
+use cells::cell::Cell;
+use cells::cell::Pulses;
+use cells::cell::State;
+use cells::table::Kept;
+use cells::table::Slots;
+use cells::table::row_of;
+
+const CLEAR: State = State {
+    bit: false,
+    count: Pulses(0),
+    pulse: false,
+};
+
+// The cell at the pointer.
+pub fn current_cell(card: Card) -> Cell
+    ensures { λ r. ⌜ r ≡ currentCell cellCount card ⌝ }
+{
+    let p = card.pointer;
+    if (1 <= p) & (p < 17) {
+        let at = (p - 1) as usize;
+        card.cells[at]
+    } else {
+        Cell {
+            kind: 0,
+            config: 0,
+            slots: [0, 0, 0, 0],
+            state: CLEAR,
+        }
+    }
+}
+
+// The connector at the pointer.
+pub fn current_connector(card: Card) -> Connector
+    ensures { λ r. ⌜ r ≡ currentConnector card ⌝ }
+{
+    let p = card.pointer;
+    if (33 <= p) & (p < 49) {
+        let at = (p - 33) as usize;
+        card.connectors[at]
+    } else {
+        Connector { kind: 0, source: 0 }
+    }
+}
+
+// The cell at the pointer replaced, and edited.
+fn put_cell(card: Card, cell: Cell) -> Card
+    ensures { λ r. ⌜ r ≡ putCell cellCount card cell ⌝ }
+{
+    let p = card.pointer;
+    if (1 <= p) & (p < 17) {
+        let i = (p - 1) as u32;
+        let at = i as usize;
+        let mut next = card;
+        next.cells[at] = cell;
+        next.edited = words::with_set16(card.edited, i);
+        next
+    } else {
+        card
+    }
+}
+
+// The connector at the pointer replaced.
+fn put_connector(card: Card, connector: Connector) -> Card
+    ensures { λ r. ⌜ r ≡ putConnector card connector ⌝ }
+{
+    let p = card.pointer;
+    if (33 <= p) & (p < 49) {
+        let at = (p - 33) as usize;
+        let mut next = card;
+        next.connectors[at] = connector;
+        next
+    } else {
+        card
+    }
+}
+
+pub fn move_to(card: Card, p: u8) -> Card
+    ensures { λ r. ⌜ r ≡ Edits.move card p ⌝ }
+{
+    let mut next = card;
+    next.pointer = p;
+    next
+}
+
+// Under clock 4 the front connector BNC1 brings the trigger, so it becomes an input.
+pub fn set_trigger(card: Card, t: u8) -> Card
+    ensures { λ r. ⌜ r ≡ setTrigger card t ⌝ }
+{
+    let mut next = card;
+    next.trigger = t;
+    if t == 4 {
+        let old = card.connectors[0];
+        next.connectors[0] = Connector {
+            kind: 0,
+            source: old.source,
+        };
+    }
+    next
+}
+
+// Every cell with its state cleared.
+fn cleared(cells: [Cell; 16]) -> [Cell; 16]
+    ensures { λ r. ⌜ r ≡ map clearedCell cells ⌝ }
+{
+    let clear = CLEAR;
+    let mut next = cells;
+    for i in 0..16usize {
+        let mut cell = cells[i];
+        cell.state = clear;
+        next[i] = cell;
+    }
+    next
+}
+
+pub fn home(card: Card) -> Card
+    ensures { λ r. ⌜ r ≡ Edits.home cellCount card ⌝ }
+{
+    let cells = card.cells;
+    let after = cleared(cells);
+    let mut next = card;
+    next.cells = after;
+    next.edited = 65535;
+    next
+}
+
+// The slots of a cell that has just been given its type.
+fn blank_slot(edge: bool) -> u8
+    ensures { λ r. ⌜ r ≡ blankSlot edge ⌝ }
+{
+    if edge { 128 } else { 0 }
+}
+
+fn typed(kind: u8) -> Cell
+    ensures { λ r. ⌜ r ≡ Edits.typed kind ⌝ }
+{
+    let row = row_of(kind);
+    let edge = row.edge;
+    let slots = [
+        blank_slot(edge.x),
+        blank_slot(edge.y),
+        blank_slot(edge.z),
+        blank_slot(edge.f),
+    ];
+    Cell {
+        kind: kind,
+        config: 0,
+        slots: slots,
+        state: CLEAR,
+    }
+}
+
+pub fn set_type(card: Card, kind: u8) -> Card
+    ensures { λ r. ⌜ r ≡ setType cellCount card kind ⌝ }
+{
+    put_cell(card, typed(kind))
+}
+
+// A timer starts anew under another duration.
+fn configured_state(kept: Kept, s: State) -> State
+    ensures { λ r. ⌜ r ≡ configuredState kept s ⌝ }
+{
+    match kept {
+        Kept::Stateless => s,
+        Kept::Bit => s,
+        Kept::Count => CLEAR,
+    }
+}
+
+pub fn set_config(card: Card, config: u16) -> Card
+    ensures { λ r. ⌜ r ≡ setConfig cellCount card config ⌝ }
+{
+    let cell = current_cell(card);
+    let row = row_of(cell.kind);
+    let kept = row.kept;
+    let mut next = cell;
+    next.config = config;
+    let s = configured_state(kept, cell.state);
+    next.state = s;
+    put_cell(card, next)
+}
+
+fn with_bit(s: State, bit: bool) -> State
+    ensures { λ r. ⌜ r ≡ bitState s bit ⌝ }
+{
+    let mut next = s;
+    next.bit = bit;
+    next
+}
+
+// Another count ends a pulse.
+fn with_count(s: State, count: Pulses) -> State
+    ensures { λ r. ⌜ r ≡ countState s count ⌝ }
+{
+    let mut next = s;
+    next.count = count;
+    next.pulse = false;
+    next
+}
+
+fn stated_as(kept: Kept, s: State, v: u16) -> State
+    ensures { λ r. ⌜ r ≡ statedAs kept s v ⌝ }
+{
+    match kept {
+        Kept::Stateless => s,
+        Kept::Bit => with_bit(s, v != 0),
+        Kept::Count => with_count(s, Pulses(v)),
+    }
+}
+
+pub fn set_state(card: Card, v: u16) -> Card
+    ensures { λ r. ⌜ r ≡ setState cellCount card v ⌝ }
+{
+    let cell = current_cell(card);
+    let row = row_of(cell.kind);
+    let kept = row.kept;
+    let mut next = cell;
+    let s = stated_as(kept, cell.state, v);
+    next.state = s;
+    put_cell(card, next)
+}
+
+// What a slot holds after a write: an edge slot stores the address of an edge.
+fn wired_slot(given: bool, edge: bool, v: u8, old: u8) -> u8
+    ensures { λ r. ⌜ r ≡ wiredSlot given edge v old ⌝ }
+{
+    if given {
+        if edge & (v < 128) { v + 128 } else { v }
+    } else {
+        old
+    }
+}
+
+pub fn set_slots(card: Card, given: Slots, v: [u8; 4]) -> Card
+    ensures { λ r. ⌜ r ≡ setSlots cellCount card given v ⌝ }
+{
+    let cell = current_cell(card);
+    let row = row_of(cell.kind);
+    let edge = row.edge;
+    let old = cell.slots;
+    let slots = [
+        wired_slot(given.x, edge.x, v[0], old[0]),
+        wired_slot(given.y, edge.y, v[1], old[1]),
+        wired_slot(given.z, edge.z, v[2], old[2]),
+        wired_slot(given.f, edge.f, v[3], old[3]),
+    ];
+    let mut next = cell;
+    next.slots = slots;
+    put_cell(card, next)
+}
+
+pub fn set_connector_type(card: Card, kind: u8) -> Card
+    ensures { λ r. ⌜ r ≡ setConnectorType card kind ⌝ }
+{
+    let old = current_connector(card);
+    put_connector(
+        card,
+        Connector {
+            kind: kind,
+            source: old.source,
+        },
+    )
+}
+
+pub fn set_source(card: Card, source: u8) -> Card
+    ensures { λ r. ⌜ r ≡ setSource card source ⌝ }
+{
+    let old = current_connector(card);
+    put_connector(
+        card,
+        Connector {
+            kind: old.kind,
+            source: source,
+        },
+    )
+}

@@ -1,0 +1,4 @@
+-- The proofs: the laws that the functions and their callers cite.
+pub mod DigitLaws
+pub mod DecimalLaws
+pub mod HexLaws

@@ -1,0 +1,4 @@
+-- The definitions that the contracts cite.
+pub mod Digits
+pub mod Decimal
+pub mod Hex
