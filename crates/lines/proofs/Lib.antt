@@ -1,0 +1,2 @@
+-- The proofs of the line reader.
+pub mod Words

@@ -1,0 +1,47 @@
+-- `lines::grammar::all_pairs` meets its contract: four steps, and the end of the line.
+use mathlib.Core.Path.{ap, _∙_}
+use Rattle.lines.specs.Grammar.{stepped, pairsOf}
+use borrow.Author.Needs.{needs}
+use Rattle.lines.proofs.grammar.all_pairs.Statement.{statement}
+use Rattle.lines.proofs.grammar.all_pairs.Tie as tie
+
+step-requires : tie.Need-step-requires
+step-requires c κs = search needs
+
+step-requires-2 : tie.Need-step-requires-2
+step-requires-2 c κs = search needs
+
+step-requires-3 : tie.Need-step-requires-3
+step-requires-3 c κs = search needs
+
+step-requires-4 : tie.Need-step-requires-4
+step-requires-4 c κs = search needs
+
+any-requires : tie.Need-any-requires
+any-requires c κs = search needs
+
+returns : tie.Need-returns
+unfolding pairsOf
+returns c =
+    let t = c .before .before .before .before .before .before .before .before .before .args .text .now in
+    let e = c .before .before .before .before .step4 .ensures .0 ∙ ap (stepped t) (c .before .before .before .before .before .step3 .ensures .0 ∙ ap (stepped t) (c .before .before .before .before .before .before .step2 .ensures .0 ∙ ap (stepped t) (c .before .before .before .before .before .before .before .step .ensures .0))) in
+    rw (← e, ← c .before .any .ensures, c .if1 .taken)
+
+returns-2 : tie.Need-returns-2
+unfolding pairsOf
+returns-2 c =
+    let t = c .before .before .before .before .before .before .before .before .before .args .text .now in
+    let e = c .before .before .before .before .step4 .ensures .0 ∙ ap (stepped t) (c .before .before .before .before .before .step3 .ensures .0 ∙ ap (stepped t) (c .before .before .before .before .before .before .step2 .ensures .0 ∙ ap (stepped t) (c .before .before .before .before .before .before .before .step .ensures .0))) in
+    rw (← e, ← c .before .any .ensures, c .if1 .left)
+
+pub all-pairs-spec : {M : Type 1} → statement M
+all-pairs-spec =
+    tie.close
+    (tie.spec
+    step-requires
+    step-requires-2
+    step-requires-3
+    step-requires-4
+    any-requires
+    returns
+    returns-2)

@@ -1,0 +1,50 @@
+-- `lines::grammar::cca_form` meets its contract: each way is a case of the definition.
+use borrow.Author.Tests.{eq-eqb, ne-eqb}
+use Rattle.lines.specs.Grammar.{ccaForm}
+use borrow.Author.Needs.{needs}
+use Rattle.lines.proofs.grammar.cca_form.Statement.{statement}
+use Rattle.lines.proofs.grammar.cca_form.Tie as tie
+
+byte-at-requires : tie.Need-byte-at-requires
+byte-at-requires c κs = search needs
+
+slot-of-requires : tie.Need-slot-of-requires
+slot-of-requires c κs = search needs
+
+byte-at-requires-2 : tie.Need-byte-at-requires-2
+byte-at-requires-2 c κs = search needs
+
+to-end-requires : tie.Need-to-end-requires
+to-end-requires c κs = search needs
+
+cca-write-requires : tie.Need-cca-write-requires
+cca-write-requires c κs = search needs
+
+returns : tie.Need-returns
+unfolding ccaForm
+returns c = rw (c .cca-write .ensures, c .before .to-end .ensures, c .before .before .before .before .slot-of .ensures, c .before .before .before .before .before .byte-at .ensures, ← c .before .before .before .byte-at2 .ensures, eq-eqb _ _ (c .before .before .if1 .taken))
+
+cca-read-requires : tie.Need-cca-read-requires
+cca-read-requires c κs = search needs
+
+returns-2 : tie.Need-returns-2
+unfolding ccaForm
+returns-2 c = rw (c .cca-read .ensures, c .before .before .before .before .slot-of .ensures, c .before .before .before .before .before .byte-at .ensures, ← c .before .before .before .byte-at2 .ensures, ne-eqb _ _ (c .before .before .if1 .left), c .before .if2 .taken)
+
+returns-3 : tie.Need-returns-3
+unfolding ccaForm
+returns-3 c = rw (← c .before .before .byte-at2 .ensures, ne-eqb _ _ (c .before .if1 .left), c .if2 .left)
+
+pub cca-form-spec : {M : Type 1} → statement M
+cca-form-spec =
+    tie.close
+    (tie.spec
+    byte-at-requires
+    slot-of-requires
+    byte-at-requires-2
+    to-end-requires
+    cca-write-requires
+    returns
+    cca-read-requires
+    returns-2
+    returns-3)

@@ -1,0 +1,44 @@
+-- `lines::grammar::ccb_form` meets its contract: each way is a case of the definition.
+use Rattle.lines.specs.Grammar.{ccbForm}
+use borrow.Author.Needs.{needs}
+use Rattle.lines.proofs.grammar.ccb_form.Statement.{statement}
+use Rattle.lines.proofs.grammar.ccb_form.Tie as tie
+
+byte-at-requires : tie.Need-byte-at-requires
+byte-at-requires c κs = search needs
+
+byte-at-requires-2 : tie.Need-byte-at-requires-2
+byte-at-requires-2 c κs = search needs
+
+byte-at-requires-3 : tie.Need-byte-at-requires-3
+byte-at-requires-3 c κs = search needs
+
+slot-of-requires : tie.Need-slot-of-requires
+slot-of-requires c κs = search needs
+
+slot-form-requires : tie.Need-slot-form-requires
+slot-form-requires c κs = search needs
+
+all-pairs-requires : tie.Need-all-pairs-requires
+all-pairs-requires c κs = search needs
+
+returns : tie.Need-returns
+unfolding ccbForm
+returns c = rw (c .slot-form .ensures, c .before .slot-of .ensures, c .before .before .byte-at3 .ensures, ← c .before .before .before .before .before .byte-at .ensures, ← c .before .before .before .before .byte-at2 .ensures, c .before .before .before .if1 .taken)
+
+returns-2 : tie.Need-returns-2
+unfolding ccbForm
+returns-2 c = rw (c .all-pairs .ensures, ← c .before .before .before .byte-at .ensures, ← c .before .before .byte-at2 .ensures, c .before .if1 .left)
+
+pub ccb-form-spec : {M : Type 1} → statement M
+ccb-form-spec =
+    tie.close
+    (tie.spec
+    byte-at-requires
+    byte-at-requires-2
+    byte-at-requires-3
+    slot-of-requires
+    slot-form-requires
+    all-pairs-requires
+    returns
+    returns-2)

@@ -1,0 +1,60 @@
+-- `lines::grammar::parse_line` meets its contract: each way is a case of the definition.
+use mathlib.Core.Path.{ap, _∙_}
+use borrow.Author.Tests.{le-leb, lt-leb}
+use Rattle.lines.specs.Grammar.{longestLine, addressed, parse}
+use borrow.Author.Needs.{needs}
+use Rattle.lines.proofs.grammar.parse_line.Statement.{statement}
+use Rattle.lines.proofs.grammar.parse_line.Tie as tie
+
+returns : tie.Need-returns
+unfolding parse
+returns c = rw (lt-leb 1 _ (c .if1 .taken))
+
+returns-2 : tie.Need-returns-2
+unfolding parse
+returns-2 c = rw (le-leb 1 _ (c .before .if1 .left), lt-leb _ longestLine (c .if2 .taken))
+
+byte-at-requires : tie.Need-byte-at-requires
+byte-at-requires c κs = search needs
+
+byte-at-requires-2 : tie.Need-byte-at-requires-2
+byte-at-requires-2 c κs = search needs
+
+digit-requires : tie.Need-digit-requires
+digit-requires c κs = search needs
+
+digit-requires-2 : tie.Need-digit-requires-2
+digit-requires-2 c κs = search needs
+
+card-form-requires : tie.Need-card-form-requires
+card-form-requires c κs = search needs
+
+addressed-requires : tie.Need-addressed-requires
+addressed-requires c κs = search needs
+
+plain-form-requires : tie.Need-plain-form-requires
+plain-form-requires c κs = search needs
+
+returns-3 : tie.Need-returns-3
+unfolding parse
+returns-3 c = rw (le-leb 1 _ (c .before .before .before .before .before .before .before .before .if1 .left), le-leb _ longestLine (c .before .before .before .before .before .before .before .if2 .left), ← c .before .before .before .before .before .before .byte-at .ensures, ← c .before .before .before .before .before .byte-at2 .ensures, ← c .before .before .before .before .digit .ensures, ← c .before .before .before .digit2 .ensures, c .before .before .if3 .taken) (c .addressed .ensures ∙ ap (addressed _) (c .before .card-form .ensures))
+
+returns-4 : tie.Need-returns-4
+unfolding parse
+returns-4 c = rw (le-leb 1 _ (c .before .before .before .before .before .before .before .if1 .left), le-leb _ longestLine (c .before .before .before .before .before .before .if2 .left), ← c .before .before .before .before .before .byte-at .ensures, ← c .before .before .before .before .byte-at2 .ensures, ← c .before .before .before .digit .ensures, ← c .before .before .digit2 .ensures, c .before .if3 .left) (c .plain-form .ensures)
+
+pub parse-line-spec : {M : Type 1} → statement M
+parse-line-spec =
+    tie.close
+    (tie.spec
+    returns
+    returns-2
+    byte-at-requires
+    byte-at-requires-2
+    digit-requires
+    digit-requires-2
+    card-form-requires
+    addressed-requires
+    plain-form-requires
+    returns-3
+    returns-4)

@@ -1,0 +1,36 @@
+-- `lines::grammar::read_form` meets its contract: each arm is a case of the definition.
+use Rattle.lines.specs.Grammar.{readForm}
+use borrow.Author.Needs.{needs}
+use Rattle.lines.proofs.grammar.read_form.Statement.{statement}
+use Rattle.lines.proofs.grammar.read_form.Tie as tie
+
+byte-at-requires : tie.Need-byte-at-requires
+byte-at-requires c κs = search needs
+
+byte-at-requires-2 : tie.Need-byte-at-requires-2
+byte-at-requires-2 c κs = search needs
+
+slot-of-requires : tie.Need-slot-of-requires
+slot-of-requires c κs = search needs
+
+read-of-requires : tie.Need-read-of-requires
+read-of-requires c κs = search needs
+
+returns : tie.Need-returns
+unfolding readForm
+returns c = rw (c .read-of .ensures, c .before .slot-of .ensures, c .before .before .byte-at2 .ensures, ← c .before .before .before .before .byte-at .ensures, c .before .before .before .if1 .taken)
+
+returns-2 : tie.Need-returns-2
+unfolding readForm
+returns-2 c = rw (← c .before .byte-at .ensures, c .if1 .left)
+
+pub read-form-spec : {M : Type 1} → statement M
+read-form-spec =
+    tie.close
+    (tie.spec
+    byte-at-requires
+    byte-at-requires-2
+    slot-of-requires
+    read-of-requires
+    returns
+    returns-2)

@@ -1,0 +1,2 @@
+// The line reader: grammar, refusals, replies, and what a line does to the card.
+pub mod grammar;
