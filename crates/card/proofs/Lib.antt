@@ -1,3 +1,7 @@
+-- The proofs of the card: laws that several functions or the layer above cite.
+pub mod Fields
+pub mod Records
+pub mod Settings
 pub mod Sleep
 pub mod Ticks
 pub mod Views

@@ -1,9 +1,11 @@
+-- The definitions that the contracts cite, in the order of document 01.
 pub mod Address
 pub mod Connectors
 pub mod Fresh
 pub mod Tick
 pub mod Valid
 pub mod Edits
+pub mod Presets
 pub mod Record
 pub mod Settled
 pub mod Examples

@@ -132,6 +132,10 @@ poweredUp n trigger cells connectors =
       levels2 = 0;
     }
 
+-- "Pointer and states aren't saved": what a record keeps of a cell
+abbrev pub cleared : Cell → Cell
+cleared cell = record { kind = cell .kind; config = cell .config; slots = cell .slots; state = clearState }
+
 -- the card after a load: a refused one changes nothing
 unfoldable pub loaded : ℕ → ℕ → Card → List ℕ → Card
 loaded n width c bytes =

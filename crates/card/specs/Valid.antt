@@ -6,6 +6,8 @@ use lib.Dec.{leb, ltb, eqb}
 use lib.ListN.{length, getD}
 use Rattle.cells.specs.declared.table.Slots.{Slots}
 use Rattle.cells.specs.declared.table.Row.{Row}
+use Rattle.cells.specs.declared.table.Kept.{Kept}
+use Rattle.cells.specs.declared.table.Kept.the-variants.{Stateless, Bit, Count}
 use Rattle.cells.specs.declared.cell.Cell.{Cell}
 use Rattle.cells.specs.Table.{rowOf, typeCount}
 use Rattle.card.specs.declared.card.Card.{Card}
@@ -69,14 +71,17 @@ frontDriven trigger kind = eqb trigger frontTrigger && isOutput kind
 unfoldable pub validSlot : ℕ → Bool → Bool → ℕ → Bool
 validSlot n used edge a = cond used (not (badAddress n a) && (not edge || leb 128 a)) (eqb a 0)
 
+-- the four slots of a cell
+unfoldable pub validSlots : ℕ → Row → List ℕ → Bool
+validSlots n row s =
+    eqb (length s) 4
+    && ((validSlot n (row .used .x) (row .edge .x) (getD s 0 0) && validSlot n (row .used .y) (row .edge .y) (getD s 1 0))
+    && (validSlot n (row .used .z) (row .edge .z) (getD s 2 0) && validSlot n (row .used .f) (row .edge .f) (getD s 3 0)))
+
 -- the largest configuration of a type without one is 0
 unfoldable pub validCell : ℕ → Cell → Bool
 validCell n cell =
-    ((not (badCellType (cell .kind)) && leb (cell .config) (rowOf (cell .kind) .largest)) && eqb (length (cell .slots)) 4)
-    && ((validSlot n (rowOf (cell .kind) .used .x) (rowOf (cell .kind) .edge .x) (getD (cell .slots) 0 0)
-    && validSlot n (rowOf (cell .kind) .used .y) (rowOf (cell .kind) .edge .y) (getD (cell .slots) 1 0))
-    && (validSlot n (rowOf (cell .kind) .used .z) (rowOf (cell .kind) .edge .z) (getD (cell .slots) 2 0)
-    && validSlot n (rowOf (cell .kind) .used .f) (rowOf (cell .kind) .edge .f) (getD (cell .slots) 3 0)))
+    (not (badCellType (cell .kind)) && leb (cell .config) (rowOf (cell .kind) .largest)) && validSlots n (rowOf (cell .kind)) (cell .slots)
 
 unfoldable pub validConnector : ℕ → Connector → Bool
 validConnector n k = not (badConnectorType (k .kind)) && not (badAddress n (k .source))
@@ -94,3 +99,22 @@ valid n trigger cells connectors =
 
 unfoldable pub validCard : ℕ → Card → Bool
 validCard n c = valid n (c .trigger) (c .cells) (c .connectors)
+
+-- ---- what a type keeps
+
+-- 9, of a read: "a type that has none"
+unfoldable pub noConfig : ℕ → Bool
+noConfig kind = not (rowOf kind .configured)
+
+-- 12: "no state, or over 1 in a flip-flop"
+unfoldable pub badStateAs : Kept → ℕ → Bool
+badStateAs Stateless v = true
+badStateAs Bit v = ltb 1 v
+badStateAs Count v = false
+
+unfoldable pub badState : ℕ → ℕ → Bool
+badState kind v = badStateAs (rowOf kind .kept) v
+
+-- 12, of a read: "no state"
+unfoldable pub noState : ℕ → Bool
+noState kind = badState kind 0

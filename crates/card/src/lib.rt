@@ -1,6 +1,8 @@
-// The card: what it holds, what a reader sees at an address, and its ticks.
+// The card: what it holds, what a reader sees at an address, its ticks, the edits of its settings, and its saved record.
 pub mod card;
 pub mod connectors;
 pub mod edits;
+pub mod record;
 pub mod tick;
+pub mod valid;
 pub mod view;

@@ -1,0 +1,51 @@
+-- `card::record::encoded` meets its contract: the fields are stored in three goes, over the whole array.
+use Prim.Native.Nat.{ℕ}
+use mathlib.Core.List.{List}
+use mathlib.Core.Path.{refl, ap, _∙_}
+use native.Mathlib.Omega.{arith}
+use lib.Seq.{sets}
+use lib.ListN.{replicate}
+use borrow.Author.Needs.{needs}
+use Rattle.card.specs.Record.{encode, triggerField, cellField, connectorField, fieldsFrom, configWidth}
+use Rattle.card.proofs.Fields.{sets-three}
+use Rattle.card.proofs.record.encoded.Statement.{statement}
+use Rattle.card.proofs.record.encoded.Tie as tie
+
+slice-aggregate-put : tie.Need-slice-aggregate-put
+slice-aggregate-put c = search needs
+
+slice-aggregate-put-2 : tie.Need-slice-aggregate-put-2
+slice-aggregate-put-2 c = search needs
+
+put-requires : tie.Need-put-requires
+put-requires c κs = search needs
+
+with-cells-requires : tie.Need-with-cells-requires
+with-cells-requires c κs = search needs
+
+with-connectors-requires : tie.Need-with-connectors-requires
+with-connectors-requires c κs = search needs
+
+returns : tie.Need-returns
+unfolding encode
+returns c =
+    let a = c .before .before .before .before .before .before .args in
+    let first = triggerField (a .trigger) in
+    let cells = fieldsFrom (cellField configWidth) 0 (a .cells) in
+    let connectors = fieldsFrom connectorField 0 (a .connectors) in
+    let put = c .before .before .before .put in
+    let inner = c .before .with-cells .ensures .0 ∙ ap (λ (r : List ℕ). sets r 4 cells) (put .ensures) in
+    c .with-connectors .ensures .0
+    ∙ ap (λ (r : List ℕ). sets r 180 connectors) inner
+    ∙ sets-three (replicate 276 0) first cells connectors 4 180 refl (omega (arith, c .before .with-cells .ensures .1)) (omega (arith, c .with-connectors .ensures .1))
+
+pub encoded-spec : {M : Type 1} → statement M
+encoded-spec =
+    tie.close
+    (tie.spec
+    slice-aggregate-put
+    slice-aggregate-put-2
+    put-requires
+    with-cells-requires
+    with-connectors-requires
+    returns)

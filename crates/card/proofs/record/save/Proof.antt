@@ -1,0 +1,35 @@
+-- `card::record::save` meets its contract: a store with room gets the record at its front.
+use borrow.Author.Tests.{lt-ltb, le-ltb}
+use borrow.Author.Needs.{needs}
+use Rattle.card.specs.Record.{savedTo, recordOf}
+use Rattle.card.proofs.record.save.Statement.{statement}
+use Rattle.card.proofs.record.save.Tie as tie
+
+returns : tie.Need-returns
+unfolding savedTo
+returns c =
+    let short = lt-ltb _ _ (c .if1 .taken) in
+    (rw short, rw short)
+
+encoded-requires : tie.Need-encoded-requires
+encoded-requires c κs = search needs
+
+slice-aggregate-put : tie.Need-slice-aggregate-put
+slice-aggregate-put c = search needs
+
+put-requires : tie.Need-put-requires
+put-requires c κs = search needs
+
+same-length : tie.Need-same-length
+same-length c = search needs
+
+returns-2 : tie.Need-returns-2
+unfolding savedTo recordOf
+returns-2 c =
+    let room = le-ltb _ _ (c .before .before .before .before .before .before .before .before .if1 .left) in
+    (rw (c .before .before .put .ensures, c .before .before .before .before .before .encoded .ensures, room), rw room)
+
+pub save-spec : {M : Type 1} → statement M
+save-spec =
+    tie.close
+    (tie.spec returns encoded-requires slice-aggregate-put put-requires same-length returns-2)

@@ -1,0 +1,12 @@
+-- `card::valid::front_driven` meets its contract: the code is the definition written out.
+use mathlib.Core.Path.{refl}
+use Rattle.card.specs.Valid.{frontDriven}
+use Rattle.card.proofs.valid.front_driven.Statement.{statement}
+use Rattle.card.proofs.valid.front_driven.Tie as tie
+
+returns : tie.Need-returns
+unfolding frontDriven
+returns c = refl
+
+pub front-driven-spec : {M : Type 1} → statement M
+front-driven-spec = tie.close (tie.spec returns)

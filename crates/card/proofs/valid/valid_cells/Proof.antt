@@ -1,0 +1,66 @@
+-- `card::valid::valid_cells` meets its contract: after i turns the first i entries are tested.
+use Prim.Native.Nat.{_-_, _≤_, zero-le}
+use mathlib.Core.Bool.{Bool, _&&_}
+use mathlib.Core.Path.{_≡_, refl, _∙_, ap₂, sym, ap}
+use native.Mathlib.Omega.{arith}
+use lib.ListN.{take}
+use lib.Seq.{take-all}
+use borrow.Author.Needs.{needs}
+use Rattle.card.specs.Address.{cellCount}
+use Rattle.card.specs.Valid.{validCell, every}
+use Rattle.card.specs.Tick.{noCell}
+use Rattle.card.proofs.Settings.{every-next}
+use Rattle.card.proofs.valid.valid_cells.Statement.{statement}
+use Rattle.card.proofs.valid.valid_cells.Tie as tie
+
+abbrev Inv-loop : tie.InvT-loop
+Inv-loop cells ok₀ i₀ ok i = (i ≤ cellCount) × (ok ≡ every (validCell cellCount) (take i cells))
+
+abbrev μ-loop : tie.MeasureT-loop
+μ-loop cells ok₀ i₀ ok i = cellCount - i
+
+loop-holds : tie.Need-loop-holds Inv-loop μ-loop
+unfolding every
+loop-holds c = (zero-le, refl)
+
+mul-valid-cell : tie.Need-mul-valid-cell Inv-loop μ-loop
+mul-valid-cell c = search needs
+
+array-copy-out-valid-cell : tie.Need-array-copy-out-valid-cell Inv-loop μ-loop
+array-copy-out-valid-cell c = search needs
+
+valid-cell-requires : tie.Need-valid-cell-requires Inv-loop μ-loop
+valid-cell-requires c κs = search needs
+
+add-i : tie.Need-add-i Inv-loop μ-loop
+add-i c = search needs
+
+loop-less : tie.Need-loop-less Inv-loop μ-loop
+loop-less c = search needs
+
+loop-again : tie.Need-loop-again Inv-loop μ-loop
+loop-again c =
+    let a = c .before .before .before .before .args in
+    let l = c .before .before .before .loop in
+    (omega arith, ap₂ (λ (x y : Bool). x && y) (l .inv .1) (c .valid-cell .ensures) ∙ sym (every-next (validCell cellCount) (l .i) (a .t1) noCell (search needs)))
+
+returns : tie.Need-returns Inv-loop μ-loop
+returns c =
+    let l = c .before .loop in
+    let end : l .i ≡ cellCount = omega arith in
+    l .inv .1 ∙ ap (every (validCell cellCount)) (take-all (l .i) (c .before .before .args .t1) (search needs))
+
+pub valid-cells-spec : {M : Type 1} → statement M
+valid-cells-spec =
+    tie.close
+    (tie.spec
+    Inv-loop
+    μ-loop
+    loop-holds
+    mul-valid-cell
+    array-copy-out-valid-cell
+    valid-cell-requires
+    add-i
+    loop-less
+    loop-again
+    returns)

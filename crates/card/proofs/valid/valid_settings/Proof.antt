@@ -1,0 +1,43 @@
+-- `card::valid::valid_settings` meets its contract: arrays of sixteen have sixteen entries, and each part is tested by its own function.
+use mathlib.Core.Path.{_≡_}
+use mathlib.Core.Bool.{and-true}
+use lib.ListN.{length}
+use borrow.Author.Needs.{needs}
+use Rattle.card.specs.Address.{cellCount, connectorCount}
+use Rattle.card.specs.Valid.{valid}
+use Rattle.card.proofs.valid.valid_settings.Statement.{statement}
+use Rattle.card.proofs.valid.valid_settings.Tie as tie
+
+array-copy-out-front : tie.Need-array-copy-out-front
+array-copy-out-front c = search needs
+
+bad-clock-requires : tie.Need-bad-clock-requires
+bad-clock-requires c κs = search needs
+
+front-driven-requires : tie.Need-front-driven-requires
+front-driven-requires c κs = search needs
+
+valid-cells-requires : tie.Need-valid-cells-requires
+valid-cells-requires c κs = search needs
+
+valid-connectors-requires : tie.Need-valid-connectors-requires
+valid-connectors-requires c κs = search needs
+
+returns : tie.Need-returns
+unfolding valid
+returns c =
+    let a = c .before .before .before .before .before .args in
+    let sixteen : length (a .cells) ≡ cellCount = search needs in
+    let others : length (a .t3) ≡ connectorCount = search needs in
+    rw (c .before .before .before .bad-clock .ensures, c .before .before .front-driven .ensures, c .before .valid-cells .ensures, c .valid-connectors .ensures, sixteen, others, and-true)
+
+pub valid-settings-spec : {M : Type 1} → statement M
+valid-settings-spec =
+    tie.close
+    (tie.spec
+    array-copy-out-front
+    bad-clock-requires
+    front-driven-requires
+    valid-cells-requires
+    valid-connectors-requires
+    returns)

@@ -1,0 +1,174 @@
+// Rows 5 to 13 of "When the card says no" as tests of single values, and the settings that a record may hold.
+ghost use mathlib.Core.Path.{_≡_};
+ghost use Rattle.card.specs.Address.{cellCount};
+ghost use Rattle.card.specs.Valid.{badPlace, badCellType, badConnectorType, badClock, badConfig, unusedSlot, badAddress, frontDriven};
+ghost use Rattle.card.specs.Valid.{validSlot, validSlots, validCell, validConnector, every, valid, noConfig, badStateAs, badState, noState};
+use crate::card::Connector;
+use cells::cell::Cell;
+use cells::table::Kept;
+use cells::table::Row;
+use cells::table::Slots;
+use cells::table::row_of;
+
+// 5: no place of a cell or a connector.
+pub fn bad_place(v: u32) -> bool
+    ensures { λ r. ⌜ r ≡ badPlace cellCount v ⌝ }
+{
+    !(((1 <= v) & (v < 17)) | ((33 <= v) & (v < 49)))
+}
+
+// 7: a type or a clock code that there is not.
+pub fn bad_cell_type(v: u32) -> bool
+    ensures { λ r. ⌜ r ≡ badCellType v ⌝ }
+{
+    19 <= v
+}
+
+pub fn bad_connector_type(v: u32) -> bool
+    ensures { λ r. ⌜ r ≡ badConnectorType v ⌝ }
+{
+    2 < v
+}
+
+pub fn bad_clock(v: u32) -> bool
+    ensures { λ r. ⌜ r ≡ badClock v ⌝ }
+{
+    4 < v
+}
+
+// 9: a configuration that a cell of this type cannot have.
+pub fn bad_config(kind: u8, v: u32) -> bool
+    ensures { λ r. ⌜ r ≡ badConfig kind v ⌝ }
+{
+    let row = row_of(kind);
+    !row.configured | ((row.largest as u32) < v)
+}
+
+// 10: one of the given slots is not used.
+pub fn unused_slot(kind: u8, given: Slots) -> bool
+    ensures { λ r. ⌜ r ≡ unusedSlot kind given ⌝ }
+{
+    let row = row_of(kind);
+    let used = row.used;
+    ((given.x & !used.x) | (given.y & !used.y)) | ((given.z & !used.z) | (given.f & !used.f))
+}
+
+// 11: an address that is none, or reserved.
+pub fn bad_address(a: u32) -> bool
+    ensures { λ r. ⌜ r ≡ badAddress cellCount a ⌝ }
+{
+    let b = a % 64;
+    (255 < a) | !((b == 0) | (((1 <= b) & (b < 17)) | ((33 <= b) & (b < 49))))
+}
+
+// 13: the type of BNC1 makes it an output while the trigger comes in by it.
+pub fn front_driven(trigger: u8, kind: u8) -> bool
+    ensures { λ r. ⌜ r ≡ frontDriven trigger kind ⌝ }
+{
+    (trigger == 4) & ((kind == 1) | (kind == 2))
+}
+
+// What a slot may hold.
+fn valid_slot(used: bool, edge: bool, a: u8) -> bool
+    ensures { λ r. ⌜ r ≡ validSlot cellCount used edge a ⌝ }
+{
+    if used {
+        !bad_address(a as u32) & (!edge | (128 <= a))
+    } else {
+        a == 0
+    }
+}
+
+// What the four slots of a type may hold. There are four, since the array has that length.
+fn valid_slots(row: Row, s: [u8; 4]) -> bool
+    ensures { λ r. ⌜ r ≡ validSlots cellCount row s ⌝ }
+{
+    let used = row.used;
+    let edge = row.edge;
+    let x = valid_slot(used.x, edge.x, s[0]);
+    let y = valid_slot(used.y, edge.y, s[1]);
+    let z = valid_slot(used.z, edge.z, s[2]);
+    let f = valid_slot(used.f, edge.f, s[3]);
+    (x & y) & (z & f)
+}
+
+// The settings that a cell may have.
+fn valid_cell(cell: Cell) -> bool
+    ensures { λ r. ⌜ r ≡ validCell cellCount cell ⌝ }
+{
+    let row = row_of(cell.kind);
+    let slots = cell.slots;
+    let kind = cell.kind as u32;
+    (!bad_cell_type(kind) & (cell.config <= row.largest)) & valid_slots(row, slots)
+}
+
+// The settings that a connector may have.
+fn valid_connector(c: Connector) -> bool
+    ensures { λ r. ⌜ r ≡ validConnector cellCount c ⌝ }
+{
+    !bad_connector_type(c.kind as u32) & !bad_address(c.source as u32)
+}
+
+// Every cell may have its settings.
+fn valid_cells(cells: [Cell; 16]) -> bool
+    ensures { λ r. ⌜ r ≡ every (validCell cellCount) cells ⌝ }
+{
+    let mut ok = true;
+    for i in 0..16usize {
+        let v = valid_cell(cells[i]);
+        ok = ok & v;
+    }
+    ok
+}
+
+// So may every connector.
+fn valid_connectors(connectors: [Connector; 16]) -> bool
+    ensures { λ r. ⌜ r ≡ every (validConnector cellCount) connectors ⌝ }
+{
+    let mut ok = true;
+    for k in 0..16usize {
+        let v = valid_connector(connectors[k]);
+        ok = ok & v;
+    }
+    ok
+}
+
+// The settings that lines can set.
+pub fn valid_settings(trigger: u8, cells: [Cell; 16], connectors: [Connector; 16]) -> bool
+    ensures { λ r. ⌜ r ≡ valid cellCount trigger cells connectors ⌝ }
+{
+    let front = connectors[0];
+    let clock = !bad_clock(trigger as u32) & !front_driven(trigger, front.kind);
+    clock & (valid_cells(cells) & valid_connectors(connectors))
+}
+
+pub fn no_config(kind: u8) -> bool
+    ensures { λ q. ⌜ q ≡ noConfig kind ⌝ }
+{
+    let row = row_of(kind);
+    !row.configured
+}
+
+fn bad_state_as(kept: Kept, v: u32) -> bool
+    ensures { λ q. ⌜ q ≡ badStateAs kept v ⌝ }
+{
+    match kept {
+        Kept::Stateless => true,
+        Kept::Bit => 1 < v,
+        Kept::Count => false,
+    }
+}
+
+pub fn bad_state(kind: u8, v: u32) -> bool
+    ensures { λ q. ⌜ q ≡ badState kind v ⌝ }
+{
+    let row = row_of(kind);
+    let kept = row.kept;
+    bad_state_as(kept, v)
+}
+
+pub fn no_state(kind: u8) -> bool
+    ensures { λ q. ⌜ q ≡ noState kind ⌝ }
+{
+    bad_state(kind, 0)
+}
