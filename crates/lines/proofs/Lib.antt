@@ -1,2 +1,3 @@
 -- The proofs of the line reader.
+pub mod Outcomes
 pub mod Words

@@ -1,2 +1,4 @@
--- The definitions that the contracts cite.
+-- The definitions that the contracts cite, in the order of document 01.
 pub mod Grammar
+pub mod Refusal
+pub mod Line

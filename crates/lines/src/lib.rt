@@ -1,2 +1,3 @@
 // The line reader: grammar, refusals, replies, and what a line does to the card.
 pub mod grammar;
+pub mod outcome;

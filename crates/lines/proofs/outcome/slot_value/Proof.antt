@@ -1,0 +1,87 @@
+-- `lines::outcome::slot_value` meets its contract: each arm is a case of the definition.
+use Rattle.lines.specs.Line.{slotValue}
+use borrow.Author.Needs.{needs}
+use Rattle.lines.proofs.outcome.slot_value.Statement.{statement}
+use Rattle.lines.proofs.outcome.slot_value.Tie as tie
+
+enum-told : tie.Need-enum-told
+enum-told c = search needs
+
+array-read-result : tie.Need-array-read-result
+array-read-result c = search needs
+
+cast-result : tie.Need-cast-result
+cast-result c = search needs
+
+enum-told-2 : tie.Need-enum-told-2
+enum-told-2 c = search needs
+
+array-read-result-2 : tie.Need-array-read-result-2
+array-read-result-2 c = search needs
+
+cast-result-2 : tie.Need-cast-result-2
+cast-result-2 c = search needs
+
+enum-told-3 : tie.Need-enum-told-3
+enum-told-3 c = search needs
+
+array-read-result-3 : tie.Need-array-read-result-3
+array-read-result-3 c = search needs
+
+cast-result-3 : tie.Need-cast-result-3
+cast-result-3 c = search needs
+
+enum-told-4 : tie.Need-enum-told-4
+enum-told-4 c = search needs
+
+array-read-result-4 : tie.Need-array-read-result-4
+array-read-result-4 c = search needs
+
+cast-result-4 : tie.Need-cast-result-4
+cast-result-4 c = search needs
+
+enum-told-5 : tie.Need-enum-told-5
+enum-told-5 c = search needs
+
+returns : tie.Need-returns
+unfolding slotValue
+returns c = rw (c .enum-told .given .1)
+
+returns-2 : tie.Need-returns-2
+unfolding slotValue
+returns-2 c = rw (c .enum-told2 .given .1)
+
+returns-3 : tie.Need-returns-3
+unfolding slotValue
+returns-3 c = rw (c .enum-told3 .given .1)
+
+returns-4 : tie.Need-returns-4
+unfolding slotValue
+returns-4 c = rw (c .enum-told4 .given .1)
+
+returns-5 : tie.Need-returns-5
+unfolding slotValue
+returns-5 c = rw (c .enum-told5 .given .1)
+
+pub slot-value-spec : {M : Type 1} → statement M
+slot-value-spec =
+    tie.close
+    (tie.spec
+    enum-told
+    array-read-result
+    cast-result
+    enum-told-2
+    array-read-result-2
+    cast-result-2
+    enum-told-3
+    array-read-result-3
+    cast-result-3
+    enum-told-4
+    array-read-result-4
+    cast-result-4
+    enum-told-5
+    returns
+    returns-2
+    returns-3
+    returns-4
+    returns-5)
