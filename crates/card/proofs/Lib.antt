@@ -1,5 +1,6 @@
 -- The proofs of the card: laws that several functions or the layer above cite.
 pub mod Fields
+pub mod PresetRows
 pub mod Records
 pub mod Settings
 pub mod Sleep

@@ -6,6 +6,7 @@ pub mod Tick
 pub mod Valid
 pub mod Edits
 pub mod Presets
+pub mod PresetRows
 pub mod Record
 pub mod Settled
 pub mod Examples

@@ -2,6 +2,7 @@
 pub mod card;
 pub mod connectors;
 pub mod edits;
+pub mod presets;
 pub mod record;
 pub mod tick;
 pub mod valid;

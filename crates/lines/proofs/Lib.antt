@@ -1,3 +1,4 @@
 -- The proofs of the line reader.
 pub mod Outcomes
+pub mod Replies
 pub mod Words

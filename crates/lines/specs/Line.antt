@@ -132,12 +132,12 @@ acceptance g = 58 ∷ 65 ∷ cond (g .number) (32 ∷ decimal (g .value)) [] ++ 
 abbrev pub refusalText : ℕ → List ℕ
 refusalText k = 58 ∷ 78 ∷ 45 ∷ decimal k ++ ending
 
-unfoldable pub replyText : Outcome → List ℕ
-replyText o = cond (eqb (o .k) 0) (acceptance (o .gives)) (refusalText (o .k))
+unfoldable pub replyOf : ℕ → Gives → List ℕ
+replyOf k g = cond (eqb k 0) (acceptance g) (refusalText k)
 
 -- a reply buffer under 16 bytes gets no reply
 unfoldable pub lineReply : ℕ → Card → List ℕ → ℕ → ℕ → List ℕ
-lineReply n c text reply store = cond (ltb reply shortestReply) [] (replyText (lineOutcome n c text reply store))
+lineReply n c text reply store = cond (ltb reply shortestReply) [] (replyOf (lineOutcome n c text reply store .k) (lineOutcome n c text reply store .gives))
 
 -- "at the front of the reply buffer": beyond the reply the buffer is as it was
 unfoldable pub replyAfter : ℕ → Card → List ℕ → List ℕ → ℕ → List ℕ

@@ -1,3 +1,4 @@
 // The line reader: grammar, refusals, replies, and what a line does to the card.
 pub mod grammar;
+pub mod line;
 pub mod outcome;

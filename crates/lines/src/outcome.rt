@@ -7,9 +7,10 @@ ghost use Rattle.card.specs.Edits.{atCell};
 ghost use Rattle.lines.specs.Refusal;
 ghost use Rattle.lines.specs.Refusal.{orElse, tooLarge, anyGiven, anyTooLarge, anyBadAddress, drivesFront};
 ghost use Rattle.lines.specs.Line;
-ghost use Rattle.lines.specs.Line.{nothing, gives, stateValue, slotValue, outcome};
+ghost use Rattle.lines.specs.Line.{nothing, gives, stateValue, slotValue, outcome, outcomeFor};
 use crate::grammar::Command;
 use crate::grammar::Pairs;
+use crate::grammar::Parsed;
 use crate::grammar::Slot;
 use card::card::Card;
 use card::card::Connector;
@@ -23,7 +24,7 @@ use cells::table::row_of;
 // What a command gives: nothing, a number, or the record that it saves.
 pub struct Gives {
     pub number: bool,
-    pub value: u32,
+    pub value: u16,
     pub saves: bool,
 }
 
@@ -84,7 +85,7 @@ fn wrote(k: u8, card: Card) -> Outcome
 }
 
 // An outcome of a read.
-fn read(k: u8, card: Card, v: u32) -> Outcome
+fn read(k: u8, card: Card, v: u16) -> Outcome
     ensures { λ o. ⌜ o ≡ record { k = k; card = card; gives = gives v } ⌝ }
 {
     Outcome {
@@ -240,9 +241,9 @@ fn do_get_kind(card: Card) -> Outcome
     let cell = edits::current_cell(card);
     let connector = edits::current_connector(card);
     if at_cell(card) {
-        read(0, card, cell.kind as u32)
+        read(0, card, cell.kind as u16)
     } else {
-        read(0, card, connector.kind as u32)
+        read(0, card, connector.kind as u16)
     }
 }
 
@@ -255,21 +256,21 @@ fn do_get_config(card: Card) -> Outcome
         read(
             when(card::valid::no_config(cell.kind), 9),
             card,
-            cell.config as u32,
+            cell.config,
         )
     } else {
-        read(0, card, connector.source as u32)
+        read(0, card, connector.source as u16)
     }
 }
 
-fn state_value(kept: Kept, s: State) -> u32
+fn state_value(kept: Kept, s: State) -> u16
     ensures { λ v. ⌜ v ≡ stateValue kept s ⌝ }
 {
     let count = s.count;
     match kept {
         Kept::Stateless => 0,
         Kept::Bit => if s.bit { 1 } else { 0 },
-        Kept::Count => count.0 as u32,
+        Kept::Count => count.0,
     }
 }
 
@@ -378,14 +379,14 @@ fn alone(s: Slot) -> Slots
     }
 }
 
-fn slot_value(s: Slot, slots: [u8; 4]) -> u32
+fn slot_value(s: Slot, slots: [u8; 4]) -> u16
     ensures { λ v. ⌜ v ≡ slotValue s slots ⌝ }
 {
     match s {
-        Slot::X => slots[0] as u32,
-        Slot::Y => slots[1] as u32,
-        Slot::Z => slots[2] as u32,
-        Slot::F => slots[3] as u32,
+        Slot::X => slots[0] as u16,
+        Slot::Y => slots[1] as u16,
+        Slot::Z => slots[2] as u16,
+        Slot::F => slots[3] as u16,
         Slot::NoSlot => 0,
     }
 }
@@ -402,6 +403,19 @@ fn do_get_slot(card: Card, s: Slot) -> Outcome
     read(k, card, slot_value(s, slots))
 }
 
+fn do_preset(card: Card, v: u32) -> Outcome
+    ensures { λ o. ⌜ o ≡ outcome cellCount card 0 (Command.Preset v) ⌝ }
+{
+    let front = card::presets::sets_front(v) & (card.trigger == 4);
+    let bad = or_else(when(card::presets::bad_preset(v), 8), when(front, 13));
+    let k = or_else(when(too_large(v), 4), bad);
+    if k == 0 {
+        wrote(k, card::presets::apply_preset(card, v))
+    } else {
+        wrote(k, card)
+    }
+}
+
 fn do_save(card: Card, store: usize) -> Outcome
     ensures { λ o. ⌜ o ≡ outcome cellCount card store Command.Save ⌝ }
 {
@@ -414,5 +428,41 @@ fn do_save(card: Card, store: usize) -> Outcome
             value: 0,
             saves: true,
         },
+    }
+}
+
+// What a command comes to.
+fn obey(card: Card, store: usize, command: Command) -> Outcome
+    ensures { λ o. ⌜ o ≡ outcome cellCount card store command ⌝ }
+{
+    match command {
+        Command::Move(v) => do_move(card, v),
+        Command::Where => read(0, card, card.pointer as u16),
+        Command::Trigger(v) => do_trigger(card, v),
+        Command::Home => do_home(card),
+        Command::Preset(v) => do_preset(card, v),
+        Command::SetKind(v) => do_set_kind(card, v),
+        Command::SetConfig(v) => do_set_config(card, v),
+        Command::SetState(v) => do_set_state(card, v),
+        Command::GetKind => do_get_kind(card),
+        Command::GetConfig => do_get_config(card),
+        Command::GetState => do_get_state(card),
+        Command::SetSlots(p) => do_set_slots(card, p),
+        Command::GetSlot(s) => do_get_slot(card, s),
+        Command::Front => read(0, card, card.levels % 256),
+        Command::Back => read(0, card, card.levels / 256),
+        Command::Cells => read(0, card, card.outputs),
+        Command::Save => do_save(card, store),
+    }
+}
+
+// What a parsed line comes to.
+pub fn outcome_for(card: Card, store: usize, p: Parsed) -> Outcome
+    ensures { λ o. ⌜ o ≡ outcomeFor cellCount card store p ⌝ }
+{
+    match p {
+        Parsed::Malformed => wrote(2, card),
+        Parsed::Elsewhere => wrote(3, card),
+        Parsed::Here(command) => obey(card, store, command),
     }
 }

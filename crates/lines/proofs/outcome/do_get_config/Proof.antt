@@ -24,21 +24,18 @@ no-config-requires c κs = search needs
 when-requires : tie.Need-when-requires
 when-requires c κs = search needs
 
-cast-read : tie.Need-cast-read
-cast-read c = search needs
-
 read-requires : tie.Need-read-requires
 read-requires c κs = search needs
 
-cast-read-2 : tie.Need-cast-read-2
-cast-read-2 c = search needs
+cast-read : tie.Need-cast-read
+cast-read c = search needs
 
 read-requires-2 : tie.Need-read-requires-2
 read-requires-2 c κs = search needs
 
 returns : tie.Need-returns
 unfolding refusal obeyed given
-returns c = c .read .ensures ∙ unchanged cellCount (c .before .before .before .before .before .before .before .before .args .card) 0 GetConfig _ _ (rw (c .before .before .when .ensures, c .before .before .before .no-config .ensures, c .before .before .before .before .before .before .before .current-cell .ensures, ← c .before .before .before .before .before .at-cell .ensures, c .before .before .before .before .if1 .taken)) refl (rw (c .before .before .before .before .before .before .before .current-cell .ensures, ← c .before .before .before .before .before .at-cell .ensures, c .before .before .before .before .if1 .taken))
+returns c = c .read .ensures ∙ unchanged cellCount (c .before .before .before .before .before .before .before .args .card) 0 GetConfig _ _ (rw (c .before .when .ensures, c .before .before .no-config .ensures, c .before .before .before .before .before .before .current-cell .ensures, ← c .before .before .before .before .at-cell .ensures, c .before .before .before .if1 .taken)) refl (rw (c .before .before .before .before .before .before .current-cell .ensures, ← c .before .before .before .before .at-cell .ensures, c .before .before .before .if1 .taken))
 
 returns-2 : tie.Need-returns-2
 unfolding refusal obeyed given
@@ -53,9 +50,8 @@ do-get-config-spec =
     at-cell-requires
     no-config-requires
     when-requires
-    cast-read
     read-requires
-    cast-read-2
+    cast-read
     read-requires-2
     returns
     returns-2)

@@ -13,9 +13,6 @@ enum-told-2 c = search needs
 enum-told-3 : tie.Need-enum-told-3
 enum-told-3 c = search needs
 
-cast-result : tie.Need-cast-result
-cast-result c = search needs
-
 returns : tie.Need-returns
 unfolding stateValue
 returns c = rw (c .enum-told .given .1)
@@ -30,9 +27,8 @@ returns-3 c = rw (c .before .enum-told2 .given .1, c .if1 .left)
 
 returns-4 : tie.Need-returns-4
 unfolding stateValue
-returns-4 c = rw (c .before .enum-told3 .given .1)
+returns-4 c = rw (c .enum-told3 .given .1)
 
 pub state-value-spec : {M : Type 1} → statement M
 state-value-spec =
-    tie.close
-    (tie.spec enum-told enum-told-2 enum-told-3 cast-result returns returns-2 returns-3 returns-4)
+    tie.close (tie.spec enum-told enum-told-2 enum-told-3 returns returns-2 returns-3 returns-4)

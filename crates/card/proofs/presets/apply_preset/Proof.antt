@@ -1,0 +1,63 @@
+-- `card::presets::apply_preset` meets its contract: the rows say of each cell and connector what the definition says.
+use mathlib.Core.Path.{_≡_, sym, _∙_, ap}
+use mathlib.Core.Bool.{Bool, _||_}
+use mathlib.Core.Option.{Option, Option·getD}
+use Prim.Native.Nat.{ℕ}
+use lib.ListN.{getD}
+use borrow.Author.Needs.{needs}
+use Rattle.words.specs.Bits.{bitAt}
+use Rattle.words.proofs.Laws.{built-same}
+use Rattle.words.proofs.Listed.{listed-same}
+use Rattle.cells.specs.declared.cell.Cell.{Cell}
+use Rattle.card.specs.Address.{cellCount, connectorCount}
+use Rattle.card.specs.Connectors.{noConnector}
+use Rattle.card.specs.Edits.{withSettings}
+use Rattle.card.specs.Tick.{noCell}
+use Rattle.card.specs.Presets.{has, sourced, cellAfter, connectorAfter, editedAfter, preset}
+use Rattle.card.specs.PresetRows.{sourceIn, covers, cellIn}
+use Rattle.card.proofs.PresetRows.{has-cell}
+use Rattle.card.proofs.presets.apply_preset.Statement.{statement}
+use Rattle.card.proofs.presets.apply_preset.Tie as tie
+
+cell-row-requires : tie.Need-cell-row-requires
+cell-row-requires c κs = search needs
+
+cells-under-requires : tie.Need-cells-under-requires
+cells-under-requires c κs = search needs
+
+source-row-requires : tie.Need-source-row-requires
+source-row-requires c κs = search needs
+
+connectors-under-requires : tie.Need-connectors-under-requires
+connectors-under-requires c κs = search needs
+
+edited-under-requires : tie.Need-edited-under-requires
+edited-under-requires c κs = search needs
+
+returns : tie.Need-returns
+unfolding preset
+returns c =
+    let a = c .before .before .before .before .before .before .before .args in
+    let row = c .before .before .before .before .before .before .cell-row .result in
+    let says = c .before .before .before .before .before .before .cell-row .ensures in
+    let cells = c .before .before .before .cells-under .ensures
+    ∙ listed-same (λ i. Option·getD (cellIn (row .0) (row .1) i) (getD (a .card .cells) i noCell)) (cellAfter (a .card) (a .v)) cellCount
+    (λ i h. ap (λ (o : Option Cell). Option·getD o (getD (a .card .cells) i noCell)) (says i h)) in
+    let connectors = c .before .connectors-under .ensures
+    ∙ listed-same (λ k. sourced (sourceIn (c .before .before .source-row .result) k) (getD (a .card .connectors) k noConnector)) (connectorAfter (a .card) (a .v)) connectorCount
+    (λ k h. ap (λ (o : Option ℕ). sourced o (getD (a .card .connectors) k noConnector)) (c .before .before .source-row .ensures k h)) in
+    let edited = c .edited-under .ensures
+    ∙ built-same (λ i. bitAt (a .card .edited) i || covers (row .0) i) (editedAfter (a .card) (a .v)) cellCount
+    (λ i h. ap (λ (b : Bool). bitAt (a .card .edited) i || b) (sym (has-cell (row .0) (row .1) i) ∙ ap (λ (o : Option Cell). has o) (says i h))) in
+    λ k. withSettings (a .card) (a .card .trigger) (cells k) (connectors k) (edited k)
+
+pub apply-preset-spec : {M : Type 1} → statement M
+apply-preset-spec =
+    tie.close
+    (tie.spec
+    cell-row-requires
+    cells-under-requires
+    source-row-requires
+    connectors-under-requires
+    edited-under-requires
+    returns)

@@ -1,0 +1,59 @@
+-- `card::presets::cell_row` meets its contract: two rows of the table, by the test over the whole of it, or rows of zeros.
+use mathlib.Core.Path.{_≡_, sym, _∙_}
+use Prim.Native.Nat.{_+_, _*_}
+use lib.ListN.{getD}
+use borrow.Author.Needs.{needs}
+use Rattle.card.specs.Address.{cellCount}
+use Rattle.card.specs.Presets.{presetCell}
+use Rattle.card.specs.PresetRows.{cellRows, cellIn, CellRows}
+use Rattle.card.proofs.PresetRows.{row-at, past-cell, zero-row}
+use Rattle.card.proofs.presets.cell_row.Statement.{statement}
+use Rattle.card.proofs.presets.cell_row.Tie as tie
+
+cell-rows-requires : tie.Need-cell-rows-requires
+cell-rows-requires c κs = search needs
+
+mul-t7 : tie.Need-mul-t7
+mul-t7 c = search needs
+
+mul-t8 : tie.Need-mul-t8
+mul-t8 c = search needs
+
+array-read-t11 : tie.Need-array-read-t11
+array-read-t11 c = search needs
+
+mul-t12 : tie.Need-mul-t12
+mul-t12 c = search needs
+
+add-t13 : tie.Need-add-t13
+add-t13 c = search needs
+
+mul-t14 : tie.Need-mul-t14
+mul-t14 c = search needs
+
+array-read-t17 : tie.Need-array-read-t17
+array-read-t17 c = search needs
+
+returns : tie.Need-returns
+unfolding CellRows
+returns c =
+    let rows = c .before .cell-rows .result in
+    row-at (λ v. cellIn (getD rows (2 * v) 0) (getD rows (2 * v + 1) 0)) presetCell cellRows cellCount (c .before .cell-rows .ensures) (c .before .before .args .v) (search needs)
+
+returns-2 : tie.Need-returns-2
+returns-2 c i h = zero-row i ∙ sym (past-cell (c .before .before .args .v) i (search needs))
+
+pub cell-row-spec : {M : Type 1} → statement M
+cell-row-spec =
+    tie.close
+    (tie.spec
+    cell-rows-requires
+    mul-t7
+    mul-t8
+    array-read-t11
+    mul-t12
+    add-t13
+    mul-t14
+    array-read-t17
+    returns
+    returns-2)

@@ -1,0 +1,82 @@
+-- `card::presets::cells_under` meets its contract: after i turns the first i cells are those under the row.
+use Prim.Native.Nat.{_-_, _≤_, zero-le}
+use mathlib.Core.Path.{_≡_, refl}
+use mathlib.Core.List.{_++_}
+use mathlib.Core.Option.{Option·getD}
+use native.Mathlib.Omega.{arith}
+use lib.ListN.{drop, getD}
+use borrow.Author.Needs.{needs}
+use Rattle.words.specs.Listed.{listed}
+use Rattle.words.proofs.Listed.{listed-next, listed-done}
+use Rattle.card.specs.Address.{cellCount}
+use Rattle.card.specs.Tick.{noCell}
+use Rattle.card.specs.PresetRows.{cellIn}
+use Rattle.card.proofs.presets.cells_under.Statement.{statement}
+use Rattle.card.proofs.presets.cells_under.Tie as tie
+
+abbrev Inv-loop : tie.InvT-loop
+Inv-loop row cells next₀ i₀ next i = (i ≤ cellCount) × (next ≡ listed (λ j. Option·getD (cellIn (row .0) (row .1) j) (getD cells j noCell)) i ++ drop i cells)
+
+abbrev μ-loop : tie.MeasureT-loop
+μ-loop row cells next₀ i₀ next i = cellCount - i
+
+loop-holds : tie.Need-loop-holds Inv-loop μ-loop
+unfolding listed
+loop-holds c = (zero-le, refl)
+
+cast-at : tie.Need-cast-at Inv-loop μ-loop
+cast-at c = search needs
+
+mul-cell-under : tie.Need-mul-cell-under Inv-loop μ-loop
+mul-cell-under c = search needs
+
+array-copy-out-cell-under : tie.Need-array-copy-out-cell-under Inv-loop μ-loop
+array-copy-out-cell-under c = search needs
+
+cell-under-requires : tie.Need-cell-under-requires Inv-loop μ-loop
+cell-under-requires c κs = search needs
+
+mul-next : tie.Need-mul-next Inv-loop μ-loop
+mul-next c = search needs
+
+array-set-from-next : tie.Need-array-set-from-next Inv-loop μ-loop
+array-set-from-next c = search needs
+
+add-i : tie.Need-add-i Inv-loop μ-loop
+add-i c = search needs
+
+loop-less : tie.Need-loop-less Inv-loop μ-loop
+loop-less c = search needs
+
+loop-again : tie.Need-loop-again Inv-loop μ-loop
+loop-again c =
+    let a = c .before .before .before .before .args in
+    let l = c .before .before .before .loop in (
+      omega arith,
+      listed-next (λ j. Option·getD (cellIn (a .row .0) (a .row .1) j) (getD (a .t2) j noCell)) (l .i) (a .t2) (l .next) _ noCell (l .inv .1) (c .cell-under .ensures) (search needs),
+    )
+
+returns : tie.Need-returns Inv-loop μ-loop
+returns c =
+    let a = c .before .before .args in
+    let l = c .before .loop in
+    let end : l .i ≡ cellCount = omega arith in
+    listed-done (λ j. Option·getD (cellIn (a .row .0) (a .row .1) j) (getD (a .t2) j noCell)) cellCount (a .t2) (l .next) (rw end at (l .inv .1)) (search needs)
+
+pub cells-under-spec : {M : Type 1} → statement M
+cells-under-spec =
+    tie.close
+    (tie.spec
+    Inv-loop
+    μ-loop
+    loop-holds
+    cast-at
+    mul-cell-under
+    array-copy-out-cell-under
+    cell-under-requires
+    mul-next
+    array-set-from-next
+    add-i
+    loop-less
+    loop-again
+    returns)

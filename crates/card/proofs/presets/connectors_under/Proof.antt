@@ -1,0 +1,82 @@
+-- `card::presets::connectors_under` meets its contract: after k turns the first k connectors are those under the row.
+use Prim.Native.Nat.{_-_, _≤_, zero-le}
+use mathlib.Core.Path.{_≡_, refl}
+use mathlib.Core.List.{_++_}
+use native.Mathlib.Omega.{arith}
+use lib.ListN.{drop, getD}
+use borrow.Author.Needs.{needs}
+use Rattle.words.specs.Listed.{listed}
+use Rattle.words.proofs.Listed.{listed-next, listed-done}
+use Rattle.card.specs.Address.{connectorCount}
+use Rattle.card.specs.Connectors.{noConnector}
+use Rattle.card.specs.Presets.{sourced}
+use Rattle.card.specs.PresetRows.{sourceIn}
+use Rattle.card.proofs.presets.connectors_under.Statement.{statement}
+use Rattle.card.proofs.presets.connectors_under.Tie as tie
+
+abbrev Inv-loop : tie.InvT-loop
+Inv-loop row connectors next₀ k₀ next k = (k ≤ connectorCount) × (next ≡ listed (λ j. sourced (sourceIn row j) (getD connectors j noConnector)) k ++ drop k connectors)
+
+abbrev μ-loop : tie.MeasureT-loop
+μ-loop row connectors next₀ k₀ next k = connectorCount - k
+
+loop-holds : tie.Need-loop-holds Inv-loop μ-loop
+unfolding listed
+loop-holds c = (zero-le, refl)
+
+cast-at : tie.Need-cast-at Inv-loop μ-loop
+cast-at c = search needs
+
+mul-connector-under : tie.Need-mul-connector-under Inv-loop μ-loop
+mul-connector-under c = search needs
+
+array-copy-out-connector-under : tie.Need-array-copy-out-connector-under Inv-loop μ-loop
+array-copy-out-connector-under c = search needs
+
+connector-under-requires : tie.Need-connector-under-requires Inv-loop μ-loop
+connector-under-requires c κs = search needs
+
+mul-next : tie.Need-mul-next Inv-loop μ-loop
+mul-next c = search needs
+
+array-set-from-next : tie.Need-array-set-from-next Inv-loop μ-loop
+array-set-from-next c = search needs
+
+add-k : tie.Need-add-k Inv-loop μ-loop
+add-k c = search needs
+
+loop-less : tie.Need-loop-less Inv-loop μ-loop
+loop-less c = search needs
+
+loop-again : tie.Need-loop-again Inv-loop μ-loop
+loop-again c =
+    let a = c .before .before .before .before .args in
+    let l = c .before .before .before .loop in (
+      omega arith,
+      listed-next (λ j. sourced (sourceIn (a .row) j) (getD (a .t2) j noConnector)) (l .k) (a .t2) (l .next) _ noConnector (l .inv .1) (c .connector-under .ensures) (search needs),
+    )
+
+returns : tie.Need-returns Inv-loop μ-loop
+returns c =
+    let a = c .before .before .args in
+    let l = c .before .loop in
+    let end : l .k ≡ connectorCount = omega arith in
+    listed-done (λ j. sourced (sourceIn (a .row) j) (getD (a .t2) j noConnector)) connectorCount (a .t2) (l .next) (rw end at (l .inv .1)) (search needs)
+
+pub connectors-under-spec : {M : Type 1} → statement M
+connectors-under-spec =
+    tie.close
+    (tie.spec
+    Inv-loop
+    μ-loop
+    loop-holds
+    cast-at
+    mul-connector-under
+    array-copy-out-connector-under
+    connector-under-requires
+    mul-next
+    array-set-from-next
+    add-k
+    loop-less
+    loop-again
+    returns)

@@ -1,0 +1,22 @@
+-- `card::presets::sets_front` meets its contract: the bit of BNC1 says whether the row sources it.
+use mathlib.Core.Path.{_≡_, sym, _∙_, ap}
+use mathlib.Core.Option.{Option}
+use Prim.Native.Nat.{ℕ}
+use borrow.Author.Needs.{needs}
+use Rattle.card.specs.Presets.{has, setsFront}
+use Rattle.card.proofs.PresetRows.{has-source}
+use Rattle.card.proofs.presets.sets_front.Statement.{statement}
+use Rattle.card.proofs.presets.sets_front.Tie as tie
+
+source-row-requires : tie.Need-source-row-requires
+source-row-requires c κs = search needs
+
+bit-requires : tie.Need-bit-requires
+bit-requires c κs = search needs
+
+returns : tie.Need-returns
+unfolding setsFront
+returns c = c .bit .ensures ∙ sym (has-source (c .before .source-row .result) 0) ∙ ap (λ (o : Option ℕ). has o) (c .before .source-row .ensures 0 (search needs))
+
+pub sets-front-spec : {M : Type 1} → statement M
+sets-front-spec = tie.close (tie.spec source-row-requires bit-requires returns)

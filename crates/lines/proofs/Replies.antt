@@ -1,0 +1,28 @@
+-- Laws of replies: runs of stores that make one text, and the reply to a line that has room for one.
+use Prim.Native.Nat.{ℕ, _+_, _≤_}
+use mathlib.Core.Path.{_≡_, refl, sym, ap, _∙_}
+use mathlib.Core.List.{List, _++_}
+use native.Mathlib.Nat.{zero-add}
+use native.Mathlib.Omega.{arith}
+use lib.ListN.{length, length-append}
+use lib.Seq.{sets}
+use borrow.Author.Tests.{le-ltb}
+use Rattle.text.proofs.DigitLaws.{sets-append}
+use Rattle.card.specs.declared.card.Card.{Card}
+use Rattle.lines.specs.declared.outcome.Outcome.{Outcome}
+use Rattle.lines.specs.Line.{shortestReply, replyOf, lineOutcome, lineReply}
+
+-- a word, a number and an ending, stored one behind the other
+pub stored : (l a b r w d e : List ℕ) (at end : ℕ) → a ≡ sets l 0 w → at ≡ 0 + length w → b ≡ sets a at d → end ≡ at + length d
+    → r ≡ sets b end e → r ≡ sets l 0 (w ++ (d ++ e))
+stored l a b r w d e at end ea eat eb eend er =
+    er ∙ (λ i. sets (eb i) (eend i) e) ∙ sets-append a at d e ∙ (λ i. sets (ea i) (eat i) (d ++ e)) ∙ sets-append l 0 w (d ++ e)
+
+pub stored-length : (w d e : List ℕ) (at end r : ℕ) → at ≡ 0 + length w → end ≡ at + length d → r ≡ end + length e → r ≡ length (w ++ (d ++ e))
+stored-length w d e at end r ea ee er = simp (length-append, length-append) (omega arith)
+
+-- a reply buffer that has room gets the reply to the outcome
+pub reply-is : (n : ℕ) (c : Card) (text : List ℕ) (reply store : ℕ) (o : Outcome) → shortestReply ≤ reply → o ≡ lineOutcome n c text reply store
+    → replyOf (o .k) (o .gives) ≡ lineReply n c text reply store
+unfolding lineReply
+reply-is n c text reply store o h e = rw (le-ltb reply shortestReply h) (ap (λ (x : Outcome). replyOf (x .k) (x .gives)) e)
