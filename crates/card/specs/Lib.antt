@@ -9,4 +9,5 @@ pub mod Presets
 pub mod PresetRows
 pub mod Record
 pub mod Settled
+pub mod Exempt
 pub mod Examples

@@ -2,3 +2,5 @@
 pub mod Grammar
 pub mod Refusal
 pub mod Line
+pub mod Calls
+pub mod Demand3

@@ -1,0 +1,151 @@
+-- Demand 3 over every list of calls, lifted from one call to whole lists by one induction: every call keeps a card settled, and on a settled
+-- card quick and full ticks do the same.
+use Prim.Native.Nat.{ℕ}
+use mathlib.Core.Path.{_≡_, refl, sym, ap, _∙_, subst}
+use mathlib.Core.Bool.{Bool, true, false, cond}
+use mathlib.Core.List.{List, [], _∷_}
+use lib.Dec.{eqb, ltb}
+use lib.ListN.{length}
+use Rattle.card.specs.declared.card.Card.{Card}
+use Rattle.card.specs.declared.tick.Answer.{Answer}
+use Rattle.card.specs.Address.{cellCount}
+use Rattle.card.specs.Edits.{atCell}
+use Rattle.card.specs.Fresh.{fresh}
+use Rattle.card.specs.Record.{configWidth, loaded, loadNumber}
+use Rattle.card.specs.Tick
+use Rattle.card.specs.Settled.{Settled, AlikeTicks}
+use Rattle.card.specs.Exempt.{Edit}
+use Rattle.card.proofs.Sleep.{fresh-settled, tick-settled, same-ticks}
+use Rattle.card.proofs.EditLaws.{edit-settled, no-edit, move-edit, trigger-edit, home-edit, type-edit, config-edit, state-edit, slots-edit, connector-type-edit, source-edit, preset-edit, powered-settled}
+use Rattle.lines.specs.declared.grammar.Command.{Command}
+use Rattle.lines.specs.declared.grammar.Command.the-variants.{Move, Where, Trigger, Home, Preset, SetKind, SetConfig, SetState, GetKind, GetConfig, GetState, SetSlots, GetSlot, Front, Back, Cells, Save}
+use Rattle.lines.specs.declared.grammar.Parsed.{Parsed}
+use Rattle.lines.specs.declared.grammar.Parsed.the-variants.{Malformed, Elsewhere, Here}
+use Rattle.lines.specs.Grammar.{parse}
+use Rattle.lines.specs.Refusal.{refusal}
+use Rattle.lines.specs.Line.{obeyed, outcome, outcomeFor, shortestReply, lineOutcome}
+use Rattle.lines.specs.Calls.{Call, Reply, savedBytes, after, answer, end, answers}
+use Rattle.lines.specs.Calls.Call.{line, load, tick}
+use Rattle.lines.specs.Calls.Reply.{lineReply, loadReply, tickReply}
+use Rattle.lines.specs.Demand3.{SameCall, SameCalls, AlikeReply, AlikeReplies, Demand3}
+use Rattle.lines.specs.Demand3.SameCall.{same-line, same-load, same-tick}
+use Rattle.lines.specs.Demand3.SameCalls.{no-calls, more-calls}
+use Rattle.lines.specs.Demand3.AlikeReply.{alike-line, alike-load, alike-tick}
+use Rattle.lines.specs.Demand3.AlikeReplies.{no-replies, more-replies}
+
+-- ---- one line
+
+pick-edit : (n : ℕ) (c d e : Card) (b : Bool) → Edit n c d → Edit n c e → Edit n c (cond b d e)
+pick-edit n c d e true p q = p
+pick-edit n c d e false p q = q
+
+-- every command is an edit of the card
+obeyed-edit : (n : ℕ) (c : Card) (command : Command) → Edit n c (obeyed n c command)
+unfolding obeyed
+obeyed-edit n c (Move v) = move-edit n c v
+obeyed-edit n c Where = no-edit n c
+obeyed-edit n c (Trigger v) = trigger-edit n c v
+obeyed-edit n c Home = home-edit n c
+obeyed-edit n c (Preset v) = preset-edit n c v
+obeyed-edit n c (SetKind v) = pick-edit n c _ _ (atCell n c) (type-edit n c v) (connector-type-edit n c v)
+obeyed-edit n c (SetConfig v) = pick-edit n c _ _ (atCell n c) (config-edit n c v) (source-edit n c v)
+obeyed-edit n c (SetState v) = state-edit n c v
+obeyed-edit n c GetKind = no-edit n c
+obeyed-edit n c GetConfig = no-edit n c
+obeyed-edit n c GetState = no-edit n c
+obeyed-edit n c (SetSlots p) = slots-edit n c (p .given) _
+obeyed-edit n c (GetSlot s) = no-edit n c
+obeyed-edit n c Front = no-edit n c
+obeyed-edit n c Back = no-edit n c
+obeyed-edit n c Cells = no-edit n c
+obeyed-edit n c Save = no-edit n c
+
+for-edit : (n : ℕ) (c : Card) (store : ℕ) (p : Parsed) → Edit n c (outcomeFor n c store p .card)
+unfolding outcomeFor outcome
+for-edit n c store Malformed = no-edit n c
+for-edit n c store Elsewhere = no-edit n c
+for-edit n c store (Here command) = pick-edit n c _ _ (eqb (refusal n c store command) 0) (obeyed-edit n c command) (no-edit n c)
+
+short-edit : (n : ℕ) (c : Card) (b : Bool) (k store : ℕ) (p : Parsed) → Edit n c (cond b (Rattle.lines.specs.Line.refused c k) (outcomeFor n c store p) .card)
+short-edit n c true k store p = no-edit n c
+short-edit n c false k store p = for-edit n c store p
+
+-- accepted or refused, a line is an edit
+pub line-edit : (n : ℕ) (c : Card) (text : List ℕ) (reply store : ℕ) → Edit n c (lineOutcome n c text reply store .card)
+unfolding lineOutcome
+line-edit n c text reply store = short-edit n c (ltb reply shortestReply) 1 store (parse text)
+
+-- a refused line gives back the same card
+short-kept : (n : ℕ) (c : Card) (b : Bool) (store : ℕ) (p : Parsed) → let o = cond b (Rattle.lines.specs.Line.refused c 1) (outcomeFor n c store p) in
+    eqb (o .k) 0 ≡ false → o .card ≡ c
+unfolding outcomeFor outcome
+short-kept n c true store p e = refl
+short-kept n c false store Malformed e = refl
+short-kept n c false store Elsewhere e = refl
+short-kept n c false store (Here command) e = rw e
+
+pub refused-kept : (n : ℕ) (c : Card) (text : List ℕ) (reply store : ℕ) → eqb (lineOutcome n c text reply store .k) 0 ≡ false
+    → lineOutcome n c text reply store .card ≡ c
+unfolding lineOutcome
+refused-kept n c text reply store e = short-kept n c (ltb reply shortestReply) store (parse text) e
+
+-- ---- one call
+
+load-settled : (c : Card) (b : Bool) (d : Card) → Settled cellCount d → Settled cellCount c → Settled cellCount (cond b d c)
+load-settled c true d p q = p
+load-settled c false d p q = q
+
+-- every call keeps a card settled
+pub call-settled : (c : Card) (call : Call) → Settled cellCount c → Settled cellCount (after c call)
+unfolding after loaded
+call-settled c (line text reply store) s = edit-settled cellCount c _ (line-edit cellCount c text (length reply) (length store)) s
+call-settled c (load bytes) s = load-settled c (eqb (loadNumber cellCount configWidth bytes) 0) _ (powered-settled cellCount _ _ _) s
+call-settled c (tick full code sample) s = tick-settled cellCount full c code sample s
+
+-- two ticks of any kinds do the same on a settled card
+ticks-alike : (c : Card) (full quick : Bool) (code sample : ℕ) → Settled cellCount c
+    → AlikeTicks (Tick.tick cellCount full c code sample) (Tick.tick cellCount quick c code sample)
+ticks-alike c true true code sample s = record { card = refl; ran = refl; driven = refl; cells = refl }
+ticks-alike c false false code sample s = record { card = refl; ran = refl; driven = refl; cells = refl }
+ticks-alike c false true code sample s = same-ticks cellCount c code sample s
+ticks-alike c true false code sample s =
+    let a = same-ticks cellCount c code sample s in
+    record { card = sym (a .card); ran = sym (a .ran); driven = sym (a .driven); cells = sym (a .cells) }
+
+same-after : (c : Card) {a b : Call} → SameCall a b → Settled cellCount c → after c a ≡ after c b
+unfolding after
+same-after c (same-line text reply other store another p q) s = λ i. lineOutcome cellCount c text (p i) (q i) .card
+same-after c (same-load bytes) s = refl
+same-after c (same-tick full quick code sample) s = ticks-alike c full quick code sample s .card
+
+same-answer : (c : Card) {a b : Call} → SameCall a b → Settled cellCount c → AlikeReply (answer c a) (answer c b)
+unfolding answer
+same-answer c (same-line text reply other store another p q) s = rw (p, q) (alike-line _ _ _)
+same-answer c (same-load bytes) s = alike-load _
+same-answer c (same-tick full quick code sample) s =
+    let a = ticks-alike c full quick code sample s in
+    alike-tick (a .ran) (a .driven) (a .cells)
+
+-- ---- lists
+
+-- from one settled card on
+pub same-lists : (c : Card) {calls others : List Call} → SameCalls calls others → Settled cellCount c
+    → (end c calls ≡ end c others) × AlikeReplies (answers c calls) (answers c others)
+unfolding end answers
+same-lists c no-calls s = (refl, no-replies)
+same-lists c (more-calls {a = a} {b = b} {s = before} {t = t} p ps) s =
+    let e = same-after c p s in
+    let rest = same-lists (after c a) ps (call-settled c a s) in (
+      rest .0 ∙ ap (λ (d : Card). end d t) e,
+      more-replies (same-answer c p s) (subst (λ (d : Card). AlikeReplies (answers (after c a) before) (answers d t)) e (rest .1)),
+    )
+
+pub demand3 : Demand3
+unfolding Demand3
+demand3 calls others same = same-lists fresh same fresh-settled
+
+-- every card that a list reaches is settled
+pub reached-settled : (c : Card) (calls : List Call) → Settled cellCount c → Settled cellCount (end c calls)
+unfolding end
+reached-settled c [] s = s
+reached-settled c (call ∷ calls) s = reached-settled (after c call) calls (call-settled c call s)

@@ -1,0 +1,55 @@
+-- Document 01, "Lists of calls": calls of any kind in any order, each on the card that the one before it returned. Built from the definitions
+-- that the contracts of `line`, `load`, `full_tick` and `quick_tick` cite.
+use Prim.Native.Nat.{ℕ, _<_}
+use mathlib.Core.Path.{_≡_}
+use mathlib.Core.Bool.{Bool, _&&_, cond}
+use mathlib.Core.List.{List, [], _∷_}
+use lib.Dec.{eqb}
+use lib.ListN.{length}
+use Rattle.card.specs.declared.card.Card.{Card}
+use Rattle.card.specs.declared.tick.Answer.{Answer}
+use Rattle.card.specs.Address.{cellCount}
+use Rattle.card.specs.Record.{configWidth, recordOf, loadNumber, loaded}
+use Rattle.card.specs.Tick
+use Rattle.lines.specs.Line
+use Rattle.lines.specs.Line.{lineOutcome}
+
+-- a line with its text and the two buffers as lent, a load of any bytes, a tick of either kind with its clock code and sample
+pub data Call : Type 0 where
+  line : (text reply store : List ℕ) → Call
+  load : (bytes : List ℕ) → Call
+  tick : (full : Bool) (code sample : ℕ) → Call
+
+-- what each call answers: of a line its number, the reply (with its length) and the bytes that it saved; of a load its number; of a tick its
+-- answer
+pub data Reply : Type 0 where
+  lineReply : (k : ℕ) (reply saved : List ℕ) → Reply
+  loadReply : (k : ℕ) → Reply
+  tickReply : (answer : Answer) → Reply
+
+-- "the bytes that `36SS Z` wrote"
+unfoldable pub savedBytes : Card → (text : List ℕ) → (reply store : ℕ) → List ℕ
+savedBytes c text reply store =
+    cond (eqb (lineOutcome cellCount c text reply store .k) 0 && lineOutcome cellCount c text reply store .gives .saves) (recordOf configWidth c) []
+
+-- the card after a call, and the call's answer
+unfoldable pub after : Card → Call → Card
+after c (line text reply store) = lineOutcome cellCount c text (length reply) (length store) .card
+after c (load bytes) = loaded cellCount configWidth c bytes
+after c (tick full code sample) = Tick.tick cellCount full c code sample .card
+
+unfoldable pub answer : Card → Call → Reply
+answer c (line text reply store) =
+    lineReply (lineOutcome cellCount c text (length reply) (length store) .k) (Line.lineReply cellCount c text (length reply) (length store))
+    (savedBytes c text (length reply) (length store))
+answer c (load bytes) = loadReply (loadNumber cellCount configWidth bytes)
+answer c (tick full code sample) = tickReply (Tick.tick cellCount full c code sample .answer)
+
+-- a list of calls: the card at its end, and the answers
+unfoldable pub end : Card → List Call → Card
+end c [] = c
+end c (call ∷ calls) = end (after c call) calls
+
+unfoldable pub answers : Card → List Call → List Reply
+answers c [] = []
+answers c (call ∷ calls) = answer c call ∷ answers (after c call) calls
