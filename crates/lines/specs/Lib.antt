@@ -4,3 +4,4 @@ pub mod Refusal
 pub mod Line
 pub mod Calls
 pub mod Demand3
+pub mod Examples
