@@ -1,4 +1,5 @@
 -- The proofs of the line reader.
+pub mod Honest
 pub mod Lists
 pub mod Outcomes
 pub mod Replies

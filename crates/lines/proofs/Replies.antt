@@ -1,16 +1,21 @@
 -- Laws of replies: runs of stores that make one text, and the reply to a line that has room for one.
-use Prim.Native.Nat.{ℕ, _+_, _≤_}
+use Prim.Native.Nat.{ℕ, _+_, _^_, _≤_, _<_}
+use mathlib.Core.Bool.{Bool, true, false, cond}
 use mathlib.Core.Path.{_≡_, refl, sym, ap, _∙_}
-use mathlib.Core.List.{List, _++_}
+use mathlib.Core.List.{List, [], _∷_, _++_}
 use native.Mathlib.Nat.{zero-add}
 use native.Mathlib.Omega.{arith}
 use lib.ListN.{length, length-append}
 use lib.Seq.{sets}
+use lib.Dec.{eqb, lit≤}
 use borrow.Author.Tests.{le-ltb}
+use Rattle.text.specs.Decimal.{decimal, maxDigits}
+use Rattle.text.proofs.DecimalLaws.{decimal-length}
 use Rattle.text.proofs.DigitLaws.{sets-append}
 use Rattle.card.specs.declared.card.Card.{Card}
 use Rattle.lines.specs.declared.outcome.Outcome.{Outcome}
-use Rattle.lines.specs.Line.{shortestReply, replyOf, lineOutcome, lineReply}
+use Rattle.lines.specs.Line.{shortestReply, ending, refusalText, replyOf, lineOutcome, lineReply}
+use Rattle.lines.specs.declared.outcome.Gives.{Gives}
 
 -- a word, a number and an ending, stored one behind the other
 pub stored : (l a b r w d e : List ℕ) (at end : ℕ) → a ≡ sets l 0 w → at ≡ 0 + length w → b ≡ sets a at d → end ≡ at + length d
@@ -26,3 +31,18 @@ pub reply-is : (n : ℕ) (c : Card) (text : List ℕ) (reply store : ℕ) (o : O
     → replyOf (o .k) (o .gives) ≡ lineReply n c text reply store
 unfolding lineReply
 reply-is n c text reply store o h e = rw (le-ltb reply shortestReply h) (ap (λ (x : Outcome). replyOf (x .k) (x .gives)) e)
+
+-- a reply with a number below 100000 has at most ten bytes, so 16 are room enough
+number-short : (n : ℕ) → n < 10 ^ maxDigits → length (decimal n ++ ending) ≤ 7
+number-short n h =
+    let d = decimal-length n maxDigits (lit≤ tt) h in
+    simp length-append (omega arith)
+
+pub reply-short : (k : ℕ) (g : Gives) → k < 10 ^ maxDigits → g .value < 10 ^ maxDigits → length (replyOf k g) ≤ shortestReply
+unfolding replyOf
+reply-short k g hk hg = go (eqb k 0) (g .number)
+  where
+    go : (a b : Bool) → length (cond a (58 ∷ 65 ∷ cond b (32 ∷ decimal (g .value)) [] ++ ending) (refusalText k)) ≤ shortestReply
+    go true true = let d = number-short (g .value) hg in omega arith
+    go true false = lit≤ tt
+    go false b = let d = number-short k hk in omega arith

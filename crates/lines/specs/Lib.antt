@@ -5,3 +5,4 @@ pub mod Line
 pub mod Calls
 pub mod Demand3
 pub mod Examples
+pub mod History

@@ -1,0 +1,101 @@
+-- Document 01, "Lists of calls": ""Who wakes" goes by the calls made since the last tick that ran, or since the start, and by what that tick
+-- read." What a list of calls has edited, and what its last ticks were, said of the calls and not of the card's own fields.
+use Prim.Native.Nat.{ℕ, _-_}
+use mathlib.Core.Bool.{Bool, true, false, _&&_, _||_, cond}
+use mathlib.Core.List.{List, [], _∷_}
+use lib.Dec.{eqb}
+use lib.ListN.{length}
+use Rattle.card.specs.declared.card.Card.{Card}
+use Rattle.card.specs.Address.{cellCount, firstCell}
+use Rattle.card.specs.Edits.{atCell}
+use Rattle.card.specs.Presets.{has, presetCell}
+use Rattle.card.specs.Record.{configWidth, loadNumber}
+use Rattle.card.specs.Tick
+use Rattle.lines.specs.declared.grammar.Command.{Command}
+use Rattle.lines.specs.declared.grammar.Command.the-variants.{Move, Where, Trigger, Home, Preset, SetKind, SetConfig, SetState, GetKind, GetConfig, GetState, SetSlots, GetSlot, Front, Back, Cells, Save}
+use Rattle.lines.specs.declared.grammar.Parsed.{Parsed}
+use Rattle.lines.specs.declared.grammar.Parsed.the-variants.{Malformed, Elsewhere, Here}
+use Rattle.lines.specs.Grammar.{parse}
+use Rattle.lines.specs.Line.{lineOutcome}
+use Rattle.lines.specs.Calls.{Call, after}
+use Rattle.lines.specs.Calls.Call.{line, load, tick}
+
+-- ---- which cells are edited
+
+-- cell i, counted from 0, is the one at the pointer
+abbrev pub pointed : Card → ℕ → Bool
+pointed c i = atCell cellCount c && eqb i (c .pointer - firstCell)
+
+-- "A cell is edited by an accepted CCA or CCB write to it or a preset that sets it; by HOME ... all are"
+unfoldable pub editsCell : Card → Command → ℕ → Bool
+editsCell c (Move v) i = false
+editsCell c Where i = false
+editsCell c (Trigger v) i = false
+editsCell c Home i = true
+editsCell c (Preset v) i = has (presetCell v i)
+editsCell c (SetKind v) i = pointed c i
+editsCell c (SetConfig v) i = pointed c i
+editsCell c (SetState v) i = pointed c i
+editsCell c GetKind i = false
+editsCell c GetConfig i = false
+editsCell c GetState i = false
+editsCell c (SetSlots p) i = pointed c i
+editsCell c (GetSlot s) i = false
+editsCell c Front i = false
+editsCell c Back i = false
+editsCell c Cells i = false
+editsCell c Save i = false
+
+unfoldable pub parsedEdits : Card → Parsed → ℕ → Bool
+parsedEdits c Malformed i = false
+parsedEdits c Elsewhere i = false
+parsedEdits c (Here command) i = editsCell c command i
+
+-- whether cell i is edited after a call, given whether it was before: a tick that ran clears the edits, an accepted load sets them all
+unfoldable pub editedNext : Card → Call → ℕ → Bool → Bool
+editedNext c (line text reply store) i was =
+    was || (eqb (lineOutcome cellCount c text (length reply) (length store) .k) 0 && parsedEdits c (parse text) i)
+editedNext c (load bytes) i was = cond (eqb (loadNumber cellCount configWidth bytes) 0) true was
+editedNext c (tick full code sample) i was = cond (Tick.tick cellCount full c code sample .answer .ran) false was
+
+-- whether cell i was edited since the last tick that ran, or since the start of the list
+unfoldable pub editedSince : Card → List Call → ℕ → Bool → Bool
+editedSince c [] i was = was
+editedSince c (call ∷ calls) i was = editedSince (after c call) calls i (editedNext c call i was)
+
+-- ---- what the last ticks were
+
+-- the cell words of the last three ticks that ran, and the levels of the last two
+pub record Last : Type 0 where
+  pub outputs : ℕ
+  pub outputs2 : ℕ
+  pub outputs3 : ℕ
+  pub levels : ℕ
+  pub levels2 : ℕ
+
+-- "Everything before the first tick counts as low"
+abbrev pub low : Last
+low = record { outputs = 0; outputs2 = 0; outputs3 = 0; levels = 0; levels2 = 0 }
+
+-- a tick that ran comes before the earlier ones; an accepted load starts anew; nothing else counts
+unfoldable pub lastNext : Card → Call → Last → Last
+lastNext c (line text reply store) was = was
+lastNext c (load bytes) was = cond (eqb (loadNumber cellCount configWidth bytes) 0) low was
+lastNext c (tick full code sample) was =
+    cond (Tick.tick cellCount full c code sample .answer .ran)
+    (record {
+      outputs = Tick.tick cellCount full c code sample .answer .cells;
+      outputs2 = was .outputs;
+      outputs3 = was .outputs2;
+      levels = Tick.lines cellCount c sample .levels;
+      levels2 = was .levels;
+    })
+    was
+
+unfoldable pub lastSince : Card → List Call → Last → Last
+lastSince c [] was = was
+lastSince c (call ∷ calls) was = lastSince (after c call) calls (lastNext c call was)
+
+-- what the card itself holds of them
+abbrev pub memoryOf : Card → Last
+memoryOf c = record { outputs = c .outputs; outputs2 = c .outputs2; outputs3 = c .outputs3; levels = c .levels; levels2 = c .levels2 }
