@@ -19,7 +19,7 @@ use Rattle.card.specs.Record.{cellField, fieldsFrom, bigEndian, bigValue
 
 module _ {A : Type 0} where
   -- stores in two goes
-  pub sets-append : (l a b : List A) (i : ℕ) → sets l i (a ++ b) ≡ sets (sets l i a) (i + length a) b
+  sets-append : (l a b : List A) (i : ℕ) → sets l i (a ++ b) ≡ sets (sets l i a) (i + length a) b
   sets-append l [] b i = ap (λ (k : ℕ). sets l k b) (sym (add-zero i))
   sets-append l (x ∷ a) b i =
       let e : suc i + length a ≡ i + suc (length a) = omega arith in
@@ -122,6 +122,7 @@ module _ {A : Type 0} (f : ℕ → A → List ℕ) where
 
 -- ---- numbers
 
+-- a number takes the bytes that it is given
 pub length-big : (w v : ℕ) → length (bigEndian w v) ≡ w
 unfolding bigEndian
 length-big zero v = refl
@@ -131,6 +132,7 @@ byte-pos : (w : ℕ) → 0 < 256 ^ w
 byte-pos zero = omega arith
 byte-pos (suc w) = omega (arith, byte-pos w, pow-suc 256 w)
 
+-- and their value is the number, as far as it fits
 big-value : (w acc v : ℕ) → bigValue acc (bigEndian w v) ≡ acc * 256 ^ w + v % 256 ^ w
 unfolding bigEndian bigValue
 big-value zero acc v = omega (arith, mod-one v)
@@ -154,7 +156,7 @@ four (a ∷ b ∷ c ∷ d ∷ []) e = refl
 four (a ∷ b ∷ c ∷ d ∷ x ∷ xs) e = absurd (omega arith)
 
 -- two bytes in a row
-pub two : (l : List ℕ) (k : ℕ) → k + 1 < length l → take 2 (drop k l) ≡ getD l k 0 ∷ getD l (k + 1) 0 ∷ []
+two : (l : List ℕ) (k : ℕ) → k + 1 < length l → take 2 (drop k l) ≡ getD l k 0 ∷ getD l (k + 1) 0 ∷ []
 two l k h =
     rw (drop-cons l k 0 (omega arith), drop-cons l (suc k) 0 (omega arith), add-one k)
 
@@ -191,6 +193,7 @@ config-read l k h = ap (bigValue 0) (two l k h) ∙ omega arith
 
 -- ---- equal bytes
 
+-- the test holds of equal bytes, and of no others
 pub same-refl : (a : List ℕ) → sameBytes a a ≡ true
 unfolding sameBytes
 same-refl [] = refl

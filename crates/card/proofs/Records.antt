@@ -6,10 +6,10 @@ use mathlib.Core.Bool.{Bool, true, false, not, _&&_, cond, false≢true}
 use mathlib.Core.List.{List, [], _∷_, _++_, map, append-assoc}
 use native.Mathlib.Nat.{zero-add, le-of-lt, lt-of-le-of-lt, le-trans, mul-le-mul-right}
 use native.Mathlib.Omega.{arith}
-use lib.Dec.{leb, eqb}
+use lib.Dec.{leb, eqb, lit<}
 use lib.ListN.{length, getD, take, drop, length-append, length-map, List·getD-append, List·getD-map}
 use lib.Seq.{take-at, drop-at, drop-drop, drop-append-le, getD-drop, getD-append-add, ext-getD}
-use borrow.Author.Tests.{leb-true, eqb-true}
+use borrow.Author.Tests.{le-ltb, leb-true, eqb-true}
 use Rattle.words.proofs.Listed.{length-listed, listed-at}
 use Rattle.cells.specs.declared.table.Row.{Row}
 use Rattle.cells.specs.declared.cell.Cell.{Cell}
@@ -22,9 +22,9 @@ use Rattle.card.specs.Connectors.{noConnector}
 use Rattle.card.specs.Fresh.{fresh, clearState}
 use Rattle.card.specs.Tick.{noCell}
 use Rattle.card.specs.Valid.{permittedBase, badClock, frontDriven, badCellType, badConnectorType, badAddress, validSlot, validSlots, validCell, validConnector, every, valid, validCard}
-use Rattle.card.specs.Record.{bigEndian, bigValue, triggerField, cellField, connectorField, fieldsFrom, encode, triggerLength, cellLength, connectorLength, recordLength, triggerIn, cellIn, connectorIn, cellsIn, connectorsIn, recordOf, sameBytes, loadNumber, poweredUp, cleared, loaded}
+use Rattle.card.specs.Record.{bigEndian, bigValue, triggerField, cellField, connectorField, fieldsFrom, encode, configWidth, triggerLength, cellLength, connectorLength, recordLength, triggerIn, cellIn, connectorIn, cellsIn, connectorsIn, recordOf, sameBytes, loadNumber, poweredUp, cleared, loaded, savedTo}
 use Rattle.card.proofs.Settings.{every-at, every-map}
-use Rattle.card.proofs.Fields.{fields-length, field-at, fields-map, length-big, big-read, four, same-refl, same-sound, same-not}
+use Rattle.card.proofs.Fields.{fields-length, field-at, fields-map, length-big, big-read, sets-all, four, same-refl, same-sound, same-not}
 
 -- ---- the fields of a record
 
@@ -32,6 +32,7 @@ use Rattle.card.proofs.Fields.{fields-length, field-at, fields-map, len
 abbrev pub FourSlots : List Cell → Type 0
 FourSlots cells = (i : ℕ) → i < length cells → length (getD cells i noCell .slots) ≡ 4
 
+-- the lengths of the two kinds of field
 cell-length : (width k : ℕ) (cell : Cell) → length (cell .slots) ≡ 4 → length (cellField width k cell) ≡ cellLength width
 unfolding cellField
 cell-length width k cell n =
@@ -151,6 +152,10 @@ connector-there n width k c bytes rest there =
 pub largest-fits : (kind : ℕ) → rowOf kind .largest ≤ largestConfig
 largest-fits kind =
     leb-true (rowOf kind .largest) largestConfig (every-row (λ (r : Row). leb (r .largest) largestConfig) refl kind)
+
+-- two bytes are enough
+pub config-fits : largestConfig < 256 ^ configWidth
+config-fits = lit< tt
 
 -- the cells and the connectors that stand in the bytes of a record
 module _ (width : ℕ) (trigger : ℕ) (cells : List Cell) (connectors : List Connector) (slots : FourSlots cells) (fit : (i : ℕ) → i < length cells → getD cells i noCell .config < 256 ^ width) where
@@ -292,11 +297,25 @@ module _ (n width : ℕ) (d : Card) (bytes : List ℕ) (ok : loadNumber n width 
 
 -- ---- saves
 
+-- the length of a record, of a card with cells of four slots and of a valid one
 pub record-length : (n width : ℕ) (c : Card) → length (c .cells) ≡ n → FourSlots (c .cells) → length (c .connectors) ≡ connectorCount
     → length (recordOf width c) ≡ recordLength n width
 unfolding recordOf
 record-length n width c count slots others =
     rw (count, others) at (encode-length width (c .trigger) (c .cells) (c .connectors) slots)
+
+pub valid-length : (n width : ℕ) (c : Card) → validCard n c ≡ true → length (recordOf width c) ≡ recordLength n width
+unfolding validCard
+valid-length n width c ok =
+    record-length n width c (cell-count n (c .trigger) (c .cells) (c .connectors) ok) (four-slots n (c .trigger) (c .cells) (c .connectors) ok)
+    (connector-count n (c .trigger) (c .cells) (c .connectors) ok)
+
+-- a store of the record's length holds the record after a save, and nothing else
+pub saved-whole : (n width : ℕ) (c : Card) (store : List ℕ) → validCard n c ≡ true → length store ≡ recordLength n width
+    → savedTo n width c store ≡ recordOf width c
+unfolding savedTo
+saved-whole n width c store ok e =
+    rw (le-ltb (length store) (recordLength n width) (omega arith)) (sets-all store (recordOf width c) (valid-length n width c ok ∙ sym e))
 
 -- the record of a valid card is accepted, and gives its settings
 module _ (n width : ℕ) (wide : largestConfig < 256 ^ width) (c : Card) (ok : validCard n c ≡ true) where

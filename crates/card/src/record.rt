@@ -214,10 +214,10 @@ pub fn load(card: Card, bytes: &[u8]) -> Loaded
     if !same(&again, bytes) {
         return Loaded { card: card, k: 14 };
     }
+    let next = powered_up(trigger, cells, connectors);
     if !valid_settings(trigger, cells, connectors) {
         return Loaded { card: card, k: 15 };
     }
-    let next = powered_up(trigger, cells, connectors);
     Loaded { card: next, k: 0 }
 }
 

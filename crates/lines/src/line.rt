@@ -26,6 +26,7 @@ fn put_number(reply: &mut [u8], word: &[u8], v: u32) -> usize
     requires { ⌜ v < 10 ^ maxDigits ⌝ }
     ensures { λ r. ⌜ now (reply .exit) ≡ sets (now (reply .entry)) 0 (now (word .entry) ++ (decimal v ++ ending)) ⌝ }
     ensures { λ r. ⌜ r ≡ length (now (word .entry) ++ (decimal v ++ ending)) ⌝ }
+    ensures { λ r. ⌜ r ≤ 16 ⌝ }
 {
     let at = text::copy(reply, 0, word);
     let end = text::put_decimal(reply, at, v);
@@ -37,6 +38,7 @@ fn put_reply(reply: &mut [u8], k: u8, g: Gives) -> usize
     requires { ⌜ 16 ≤ length (now reply) ⌝ }
     ensures { λ r. ⌜ now (reply .exit) ≡ sets (now (reply .entry)) 0 (replyOf k g) ⌝ }
     ensures { λ r. ⌜ r ≡ length (replyOf k g) ⌝ }
+    ensures { λ r. ⌜ r ≤ 16 ⌝ }
 {
     if k == 0 {
         if g.number {
@@ -53,6 +55,7 @@ pub fn line(card: Card, text: &[u8], reply: &mut [u8], store: &mut [u8]) -> Answ
     ensures { λ r. ⌜ r .len ≡ length (lineReply cellCount card (now (text .entry)) (length (now (reply .entry))) (length (now (store .entry)))) ⌝ }
     ensures { λ r. ⌜ now (reply .exit) ≡ replyAfter cellCount card (now (text .entry)) (now (reply .entry)) (length (now (store .entry))) ⌝ }
     ensures { λ r. ⌜ now (store .exit) ≡ storeAfter cellCount card (now (text .entry)) (length (now (reply .entry))) (now (store .entry)) ⌝ }
+    ensures { λ r. ⌜ r .len ≤ 16 ⌝ }
 {
     if reply.len() < 16 {
         return Answered {

@@ -54,27 +54,27 @@ returns-2 c =
     let n : loadNumber cellCount configWidth (a .bytes .now) ≡ 14 = number (c .before .before .before) ∙ rw (← c .before .same .ensures, differ) in
     (sym (load-refused cellCount configWidth (a .card) (a .bytes .now) (ap (λ (k : ℕ). eqb k 0) n)), sym n)
 
+powered-up-requires : tie.Need-powered-up-requires
+powered-up-requires c κs = search needs
+
 valid-settings-requires : tie.Need-valid-settings-requires
 valid-settings-requires c κs = search needs
 
 returns-3 : tie.Need-returns-3
 returns-3 c =
-    let a = c .before .before .before .before .before .before .before .before .before .before .before .args in
-    let alike : c .before .before .before .same .result ≡ true = not-false _ (c .before .before .if2 .left) in
+    let a = c .before .before .before .before .before .before .before .before .before .before .before .before .args in
+    let alike : c .before .before .before .before .same .result ≡ true = not-false _ (c .before .before .before .if2 .left) in
     let bad : c .before .valid-settings .result ≡ false = not-true _ (c .if3 .taken) in
-    let n : loadNumber cellCount configWidth (a .bytes .now) ≡ 15 = number (c .before .before .before .before .before) ∙ rw (← c .before .before .before .same .ensures, alike, ← c .before .valid-settings .ensures, bad) in
+    let n : loadNumber cellCount configWidth (a .bytes .now) ≡ 15 = number (c .before .before .before .before .before .before) ∙ rw (← c .before .before .before .before .same .ensures, alike, ← c .before .valid-settings .ensures, bad) in
     (sym (load-refused cellCount configWidth (a .card) (a .bytes .now) (ap (λ (k : ℕ). eqb k 0) n)), sym n)
-
-powered-up-requires : tie.Need-powered-up-requires
-powered-up-requires c κs = search needs
 
 returns-4 : tie.Need-returns-4
 returns-4 c =
     let a = c .before .before .before .before .before .before .before .before .before .before .before .before .args in
     let alike : c .before .before .before .before .same .result ≡ true = not-false _ (c .before .before .before .if2 .left) in
-    let good : c .before .before .valid-settings .result ≡ true = not-false _ (c .before .if3 .left) in
-    let n : loadNumber cellCount configWidth (a .bytes .now) ≡ 0 = number (c .before .before .before .before .before .before) ∙ rw (← c .before .before .before .before .same .ensures, alike, ← c .before .before .valid-settings .ensures, good) in
-    (c .powered-up .ensures ∙ sym (loaded-from cellCount configWidth (a .bytes .now) (triggerIn (a .bytes .now)) _ _ refl (sym (c .before .before .before .before .before .before .before .before .cells-in .ensures)) (sym (c .before .before .before .before .before .before .before .connectors-in .ensures)) (a .card) n), sym n)
+    let good : c .before .valid-settings .result ≡ true = not-false _ (c .if3 .left) in
+    let n : loadNumber cellCount configWidth (a .bytes .now) ≡ 0 = number (c .before .before .before .before .before .before) ∙ rw (← c .before .before .before .before .same .ensures, alike, ← c .before .valid-settings .ensures, good) in
+    (c .before .before .powered-up .ensures ∙ sym (loaded-from cellCount configWidth (a .bytes .now) (triggerIn (a .bytes .now)) _ _ refl (sym (c .before .before .before .before .before .before .before .before .cells-in .ensures)) (sym (c .before .before .before .before .before .before .before .connectors-in .ensures)) (a .card) n), sym n)
 
 pub load-spec : {M : Type 1} → statement M
 load-spec =
@@ -88,7 +88,7 @@ load-spec =
     slice-aggregate-same
     same-requires
     returns-2
+    powered-up-requires
     valid-settings-requires
     returns-3
-    powered-up-requires
     returns-4)

@@ -1,3 +1,4 @@
+use Prim.Native.Nat.{zero-le}
 -- `lines::line::line` meets its contract: the outcome by `outcome_for`, the reply by `put_reply`, the store by `save`.
 use mathlib.Core.Path.{_≡_, refl, ap, _∙_}
 use lib.ListN.{length}
@@ -13,7 +14,7 @@ use Rattle.lines.proofs.line.line.Tie as tie
 
 returns : tie.Need-returns
 unfolding lineOutcome lineReply replyAfter storeAfter
-returns c = rw (lt-ltb _ shortestReply (c .if1 .taken)) (refl, (refl, (refl, (refl, refl))))
+returns c = rw (lt-ltb _ shortestReply (c .if1 .taken)) (refl, (refl, (refl, (refl, (refl, zero-le)))))
 
 parse-line-requires : tie.Need-parse-line-requires
 parse-line-requires c κs = search needs
@@ -45,10 +46,13 @@ returns-2 c =
       (
         ap (λ (o : Outcome). o .k) e,
         (
-          c .before .before .before .before .before .before .before .before .put-reply .ensures .1 ∙ ap length reply,
+          c .before .before .before .before .before .before .before .before .put-reply .ensures .1 .0 ∙ ap length reply,
           (
             c .before .before .before .before .before .before .before .before .put-reply .ensures .0 ∙ ap (sets (a .reply .now) 0) reply,
-            rw (← e, c .before .before .before .before .if2 .taken) (c .before .before .save .ensures .0),
+            (
+              rw (← e, c .before .before .before .before .if2 .taken) (c .before .before .save .ensures .0),
+              c .before .before .before .before .before .before .before .before .put-reply .ensures .1 .1,
+            ),
           ),
         ),
       ),
@@ -69,10 +73,13 @@ returns-3 c =
       (
         ap (λ (o : Outcome). o .k) e,
         (
-          c .before .before .before .before .put-reply .ensures .1 ∙ ap length reply,
+          c .before .before .before .before .put-reply .ensures .1 .0 ∙ ap length reply,
           (
             c .before .before .before .before .put-reply .ensures .0 ∙ ap (sets (a .reply .now) 0) reply,
-            rw (← e, c .if2 .left),
+            (
+              rw (← e, c .if2 .left),
+              c .before .before .before .before .put-reply .ensures .1 .1,
+            ),
           ),
         ),
       ),

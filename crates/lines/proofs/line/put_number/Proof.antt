@@ -30,7 +30,10 @@ returns c =
     let w = a .word .now in
     let d = decimal (a .v) in (
       stored (a .reply .now) _ _ _ w d ending _ _ (c .before .before .before .before .before .before .before .before .before .before .before .copy .ensures .0) (c .before .before .before .before .before .before .before .before .before .before .before .copy .ensures .1) (c .before .before .before .before .before .before .before .put-decimal .ensures .0) (c .before .before .before .before .before .before .before .put-decimal .ensures .1) (c .before .before .copy2 .ensures .0),
-      stored-length w d ending _ _ _ (c .before .before .before .before .before .before .before .before .before .before .before .copy .ensures .1) (c .before .before .before .before .before .before .before .put-decimal .ensures .1) (c .before .before .copy2 .ensures .1),
+      (
+        stored-length w d ending _ _ _ (c .before .before .before .before .before .before .before .before .before .before .before .copy .ensures .1) (c .before .before .before .before .before .before .before .put-decimal .ensures .1) (c .before .before .copy2 .ensures .1),
+        omega (arith, decimal-length (a .v) maxDigits (lit≤ tt) (search needs), c .before .before .before .before .before .before .before .put-decimal .ensures .1, c .before .before .before .before .before .before .before .before .before .before .before .copy .ensures .1, c .before .before .copy2 .ensures .1, c .before .before .before .before .before .before .before .before .before .before .before .before .before .before .before .pre),
+      ),
     )
 
 pub put-number-spec : {M : Type 1} → statement M

@@ -1,4 +1,5 @@
 -- `lines::line::put_reply` meets its contract: each way is a case of the definition.
+use native.Mathlib.Omega.{arith}
 use borrow.Author.Tests.{eq-eqb, ne-eqb}
 use Rattle.lines.specs.Line.{replyOf}
 use borrow.Author.Needs.{needs}
@@ -32,7 +33,7 @@ same-length-2 c = search needs
 
 returns-2 : tie.Need-returns-2
 unfolding replyOf
-returns-2 c = rw (eq-eqb _ _ (c .before .before .before .before .before .before .if1 .taken), c .before .before .before .before .before .if2 .left) (c .before .before .copy .ensures)
+returns-2 c = rw (eq-eqb _ _ (c .before .before .before .before .before .before .if1 .taken), c .before .before .before .before .before .if2 .left) (c .before .before .copy .ensures .0, (c .before .before .copy .ensures .1, omega (arith, c .before .before .copy .ensures .1)))
 
 slice-aggregate-put-number-2 : tie.Need-slice-aggregate-put-number-2
 slice-aggregate-put-number-2 c = search needs
