@@ -6,4 +6,5 @@ pub mod Records
 pub mod Settings
 pub mod Sleep
 pub mod Ticks
+pub mod ValidLaws
 pub mod Views

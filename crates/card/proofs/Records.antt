@@ -2,7 +2,7 @@
 -- a load, that a record holds one card's settings, and that a load gives a valid card.
 use Prim.Native.Nat.{ℕ, suc, _+_, _*_, _^_, _≤_, _<_}
 use mathlib.Core.Path.{_≡_, refl, sym, ap, _∙_}
-use mathlib.Core.Bool.{Bool, true, false, not, _&&_, cond, false≢true}
+use mathlib.Core.Bool.{Bool, true, false, not, _&&_, cond}
 use mathlib.Core.List.{List, [], _∷_, _++_, map, append-assoc}
 use native.Mathlib.Nat.{zero-add, le-of-lt, lt-of-le-of-lt, le-trans, mul-le-mul-right}
 use native.Mathlib.Omega.{arith}
@@ -23,7 +23,7 @@ use Rattle.card.specs.Fresh.{fresh, clearState}
 use Rattle.card.specs.Tick.{noCell}
 use Rattle.card.specs.Valid.{permittedBase, badClock, frontDriven, badCellType, badConnectorType, badAddress, validSlot, validSlots, validCell, validConnector, every, valid, validCard}
 use Rattle.card.specs.Record.{bigEndian, bigValue, triggerField, cellField, connectorField, fieldsFrom, encode, configWidth, triggerLength, cellLength, connectorLength, recordLength, triggerIn, cellIn, connectorIn, cellsIn, connectorsIn, recordOf, sameBytes, loadNumber, poweredUp, cleared, loaded, savedTo}
-use Rattle.card.proofs.Settings.{every-at, every-map}
+use Rattle.card.proofs.Settings.{every-at, every-map, Sound, split}
 use Rattle.card.proofs.Fields.{fields-length, field-at, fields-map, length-big, big-read, sets-all, four, same-refl, same-sound, same-not}
 
 -- ---- the fields of a record
@@ -180,16 +180,6 @@ module _ (width : ℕ) (trigger : ℕ) (cells : List Cell) (connectors : List Co
 
 -- ---- what valid settings have
 
--- the last four of six tests that all hold
-last-four : (a b c d e f : Bool) → (((a && b) && (c && d)) && (e && f)) ≡ true → (c ≡ true) × (d ≡ true) × (e ≡ true) × (f ≡ true)
-last-four false b c d e f h = absurd (false≢true h)
-last-four true false c d e f h = absurd (false≢true h)
-last-four true true false d e f h = absurd (false≢true h)
-last-four true true true false e f h = absurd (false≢true h)
-last-four true true true true false f h = absurd (false≢true h)
-last-four true true true true true false h = absurd (false≢true h)
-last-four true true true true true true h = (refl, refl, refl, refl)
-
 module _ (n : ℕ) (cell : Cell) (ok : validCell n cell ≡ true) where
   cell-slots : length (cell .slots) ≡ 4
   unfolding validCell validSlots
@@ -208,24 +198,20 @@ module _ (n : ℕ) (cell : Cell) (ok : validCell n cell ≡ true) where
       le-trans most (largest-fits (cell .kind))
 
 module _ (n trigger : ℕ) (cells : List Cell) (connectors : List Connector) (ok : valid n trigger cells connectors ≡ true) where
-  parts : (eqb (length cells) n ≡ true) × (eqb (length connectors) connectorCount ≡ true) × (every (validCell n) cells ≡ true)
-      × (every (validConnector n) connectors ≡ true)
-  unfolding valid
-  parts =
-      last-four (not (badClock trigger)) (not (frontDriven trigger (getD connectors 0 noConnector .kind))) (eqb (length cells) n)
-      (eqb (length connectors) connectorCount) (every (validCell n) cells) (every (validConnector n) connectors) ok
+  parts : Sound n trigger cells connectors
+  parts = split n trigger cells connectors ok
 
   pub cell-count : length cells ≡ n
-  cell-count = eqb-true (length cells) n (parts .0)
+  cell-count = parts .cell-count
 
   pub connector-count : length connectors ≡ connectorCount
-  connector-count = eqb-true (length connectors) connectorCount (parts .1)
+  connector-count = parts .connector-count
 
   pub four-slots : FourSlots cells
-  four-slots i h = cell-slots n (getD cells i noCell) (every-at (validCell n) cells i noCell (parts .2) h)
+  four-slots i h = cell-slots n (getD cells i noCell) (every-at (validCell n) cells i noCell (parts .cells-pass) h)
 
   configs-fit : (width : ℕ) → largestConfig < 256 ^ width → (i : ℕ) → i < length cells → getD cells i noCell .config < 256 ^ width
-  configs-fit width wide i h = lt-of-le-of-lt (cell-config n (getD cells i noCell) (every-at (validCell n) cells i noCell (parts .2) h)) wide
+  configs-fit width wide i h = lt-of-le-of-lt (cell-config n (getD cells i noCell) (every-at (validCell n) cells i noCell (parts .cells-pass) h)) wide
 
 -- a record says nothing of states, and neither does validity
 encode-cleared : (width trigger : ℕ) (cells : List Cell) (connectors : List Connector)

@@ -1,14 +1,22 @@
--- Laws of settings: a test of every entry of a list, as a loop makes it and at one entry.
+-- Laws of settings: a test of every entry of a list, as a loop makes it, at one entry, and after a change; and what valid settings are.
 use Prim.Native.Nat.{ℕ, zero, suc, _+_, _<_}
 use mathlib.Core.Path.{_≡_, refl, sym, ap, _∙_}
-use mathlib.Core.Bool.{Bool, true, _&&_, and-true, and-assoc}
+use mathlib.Core.Bool.{Bool, true, false, not, _&&_, and-true, and-assoc}
 use mathlib.Core.List.{List, [], _∷_, _++_, map}
-use native.Mathlib.Nat.{not-suc-le-zero, le-of-suc-le-suc}
+use native.Mathlib.Nat.{not-suc-le-zero, le-of-suc-le-suc, lt-suc-self}
 use native.Mathlib.Numerals.{add-one}
-use lib.ListN.{length, getD, take}
+use native.Mathlib.Omega.{arith}
+use lib.Dec.{eqb}
+use lib.ListN.{length, getD, set, take}
 use lib.Seq.{take-suc}
+use borrow.Author.Tests.{eqb-true, not-true, eq-eqb}
+use Rattle.words.specs.Listed.{listed}
+use Rattle.cells.specs.declared.cell.Cell.{Cell}
 use Rattle.cells.proofs.Rows.{and-left, and-right}
-use Rattle.card.specs.Valid.{every}
+use Rattle.card.specs.declared.card.Connector.{Connector}
+use Rattle.card.specs.Address.{connectorCount}
+use Rattle.card.specs.Connectors.{noConnector}
+use Rattle.card.specs.Valid.{badClock, frontDriven, validCell, validConnector, every, valid}
 
 module _ {A : Type 0} (f : A → Bool) where
   every-snoc : (l : List A) (x : A) → every f (l ++ (x ∷ [])) ≡ (every f l && f x)
@@ -32,3 +40,63 @@ module _ {A : Type 0} (f : A → Bool) where
   unfolding every
   every-map g same [] = refl
   every-map g same (x ∷ xs) = rw (same x, every-map g same xs)
+
+  -- one entry replaced by another that passes
+  pub every-set : (l : List A) (i : ℕ) (x : A) → every f l ≡ true → f x ≡ true → every f (set l i x) ≡ true
+  unfolding every
+  every-set [] i x e h = refl
+  every-set (y ∷ ys) zero x e h = rw h (and-right (f y) (every f ys) e)
+  every-set (y ∷ ys) (suc i) x e h = rw (and-left (f y) (every f ys) e) (every-set ys i x (and-right (f y) (every f ys) e) h)
+
+  -- a list given entry by entry
+  pub every-listed : (g : ℕ → A) (n : ℕ) → ((i : ℕ) → i < n → f (g i) ≡ true) → every f (listed g n) ≡ true
+  unfolding every listed
+  every-listed g zero h = refl
+  every-listed g (suc n) h =
+      every-snoc (listed g n) (g n) ∙ rw (every-listed g n (λ i k. h i (omega arith)), h n (lt-suc-self n))
+
+-- ---- what valid settings are
+
+-- the six tests of `valid`, by name
+pub record Sound (n trigger : ℕ) (cells : List Cell) (connectors : List Connector) : Type 0 where
+  pub clock : badClock trigger ≡ false
+  pub front : frontDriven trigger (getD connectors 0 noConnector .kind) ≡ false
+  pub cell-count : length cells ≡ n
+  pub connector-count : length connectors ≡ connectorCount
+  pub cells-pass : every (validCell n) cells ≡ true
+  pub connectors-pass : every (validConnector n) connectors ≡ true
+
+module _ (n trigger : ℕ) (cells : List Cell) (connectors : List Connector) where
+  pub split : valid n trigger cells connectors ≡ true → Sound n trigger cells connectors
+  unfolding valid
+  split ok =
+      let clock = not (badClock trigger) in
+      let front = not (frontDriven trigger (getD connectors 0 noConnector .kind)) in
+      let count = eqb (length cells) n in
+      let others = eqb (length connectors) connectorCount in
+      let pass = every (validCell n) cells in
+      let too = every (validConnector n) connectors in
+      let first = and-left ((clock && front) && (count && others)) (pass && too) ok in
+      let last = and-right ((clock && front) && (count && others)) (pass && too) ok in
+      let numbers = and-left (clock && front) (count && others) first in
+      let counts = and-right (clock && front) (count && others) first in
+      record {
+        clock = not-true _ (and-left clock front numbers);
+        front = not-true _ (and-right clock front numbers);
+        cell-count = eqb-true (length cells) n (and-left count others counts);
+        connector-count = eqb-true (length connectors) connectorCount (and-right count others counts);
+        cells-pass = and-left pass too last;
+        connectors-pass = and-right pass too last;
+      }
+
+  pub join : Sound n trigger cells connectors → valid n trigger cells connectors ≡ true
+  unfolding valid
+  join s =
+      rw (
+        s .clock,
+        s .front,
+        eq-eqb (length cells) n (s .cell-count),
+        eq-eqb (length connectors) connectorCount (s .connector-count),
+        s .cells-pass,
+        s .connectors-pass,
+      )

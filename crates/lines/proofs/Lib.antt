@@ -2,5 +2,6 @@
 pub mod Honest
 pub mod Lists
 pub mod Outcomes
+pub mod Reached
 pub mod Replies
 pub mod Words

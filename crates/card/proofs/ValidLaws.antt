@@ -1,0 +1,443 @@
+-- Every accepted edit, and every tick, keeps a card valid: one law for each.
+use Prim.Native.Nat.{ℕ, _+_, _-_, _%_, _≤_, _<_, zero-le}
+use mathlib.Core.Path.{_≡_, refl, sym, _∙_}
+use mathlib.Core.Bool.{Bool, true, false, not, _&&_, _||_, cond, true≢false, and-false}
+use mathlib.Core.List.{List, [], _∷_, map}
+use mathlib.Core.Option.{Option, none, some, Option·getD}
+use native.Mathlib.Decide.{ℕ-discrete}
+use native.Mathlib.Omega.{arith}
+use lib.Dec.{leb, ltb, eqb}
+use lib.ListN.{length, getD, set, length-map, length-set}
+use lib.Seq.{getD-set-same, getD-set-other}
+use borrow.Author.Tests.{ltb-true, ltb-false, not-true, le-leb, le-ltb, eq-eqb, ne-eqb}
+use Rattle.words.specs.Listed.{listed}
+use Rattle.words.proofs.Listed.{length-listed, listed-at}
+use Rattle.cells.specs.declared.table.Slots.{Slots}
+use Rattle.cells.specs.declared.table.Row.{Row}
+use Rattle.cells.specs.declared.cell.Cell.{Cell}
+use Rattle.cells.specs.Table.{rowOf}
+use Rattle.cells.proofs.Laws.{or-left, or-right}
+use Rattle.cells.proofs.Rows.{and-left, and-right, every-row}
+use Rattle.card.specs.declared.card.Card.{Card}
+use Rattle.card.specs.declared.card.Connector.{Connector}
+use Rattle.card.specs.Address.{cellCount, connectorCount, firstCell, firstConnector}
+use Rattle.card.specs.Connectors.{noConnector}
+use Rattle.card.specs.Fresh.{freshCell}
+use Rattle.card.specs.Tick.{noCell, workedTurn, sleptTurn, named, turnAt, outputsBelow, turned, wiresOf, lines, ticked, idle, tick}
+use Rattle.card.specs.Tick
+use Rattle.card.specs.Valid.{frontTrigger, permittedBase, badClock, badCellType, badConnectorType, badConfig, unusedSlot, badAddress, frontDriven, validSlot, validSlots, validCell, validConnector, every, valid, validCard}
+use Rattle.card.specs.Edits.{atCell, atConnector, withCell, withConnector, clearedCell, blankSlots, input, stored, wiredSlot, currentCell, currentConnector, putCell, putConnector, move, setTrigger, home, typed, setType, configured, setConfig, stated, setState, wired, setSlots, setConnectorType, setSource}
+use Rattle.card.specs.Presets.{Setting, Entry, table, find, has, cellsOf, sourcesOf, settingOf, presetCell, presetSource, setsFront, sourced, cellAfter, connectorAfter, preset}
+use Rattle.card.proofs.Settings.{every-at, every-map, every-set, every-listed, Sound, split, join}
+use Rattle.card.proofs.Views.{among-bounds}
+
+-- ---- a cell by itself
+
+-- a cell with nothing set is valid
+fresh-cell : (n : ℕ) → validCell n freshCell ≡ true
+unfolding validCell validSlots validSlot badCellType rowOf
+fresh-cell n = refl
+
+-- so is the blank cell of each type, by a test over the whole table
+blank-slots : (n kind : ℕ) → validSlots n (rowOf kind) (blankSlots (rowOf kind .edge)) ≡ true
+unfolding validSlots validSlot badAddress permittedBase
+blank-slots n kind = every-row (λ (r : Row). validSlots n r (blankSlots (r .edge))) refl kind
+
+typed-valid : (n kind : ℕ) → badCellType kind ≡ false → validCell n (typed kind) ≡ true
+unfolding validCell typed
+typed-valid n kind known = rw (known, le-leb 0 (rowOf kind .largest) zero-le) (blank-slots n kind)
+
+module _ (n : ℕ) (cell : Cell) (ok : validCell n cell ≡ true) where
+  -- its slots pass
+  slots-pass : validSlots n (rowOf (cell .kind)) (cell .slots) ≡ true
+  unfolding validCell
+  slots-pass = and-right (not (badCellType (cell .kind)) && leb (cell .config) (rowOf (cell .kind) .largest)) _ ok
+
+  kind-known : badCellType (cell .kind) ≡ false
+  unfolding validCell
+  kind-known = not-true _ (and-left _ (leb (cell .config) (rowOf (cell .kind) .largest)) (and-left _ (validSlots n (rowOf (cell .kind)) (cell .slots)) ok))
+
+  -- a permitted configuration
+  configured-valid : (v : ℕ) → badConfig (cell .kind) v ≡ false → validCell n (configured cell v) ≡ true
+  unfolding validCell badConfig configured
+  configured-valid v fits =
+      let largest = rowOf (cell .kind) .largest in
+      let most : v ≤ largest = ltb-false largest v (or-right (not (rowOf (cell .kind) .configured)) _ fits) in
+      rw (kind-known, le-leb v largest most) slots-pass
+
+-- ---- a slot
+
+-- an edge slot given below 128 stores an address of the same base
+stored-address : (n v : ℕ) → v < 128 → badAddress n v ≡ false → badAddress n (v + 128) ≡ false
+unfolding badAddress
+stored-address n v h good =
+    let fits : v + 128 ≤ 255 = omega arith in
+    let base : (v + 128) % 64 ≡ v % 64 = omega arith in
+    rw (le-ltb 255 (v + 128) fits, base) (or-right (ltb 255 v) _ good)
+
+module _ (n v : ℕ) (good : badAddress n v ≡ false) where
+  edge-slot : (b : Bool) → ltb v 128 ≡ b → (not (badAddress n (cond b (v + 128) v)) && leb 128 (cond b (v + 128) v)) ≡ true
+  edge-slot true e =
+      let low : 128 ≤ v + 128 = omega arith in
+      rw (stored-address n v (ltb-true v 128 e) good, le-leb 128 (v + 128) low)
+  edge-slot false e = rw (good, le-leb 128 v (ltb-false v 128 e))
+
+  -- a used slot takes any permitted address
+  stored-valid : (edge : Bool) → validSlot n true edge (stored edge v) ≡ true
+  unfolding validSlot
+  stored-valid true = edge-slot (ltb v 128) refl
+  stored-valid false = rw good
+
+wired-slot : (n : ℕ) (given used edge : Bool) (v old : ℕ) → validSlot n used edge old ≡ true → (given && not used) ≡ false
+    → (given && badAddress n v) ≡ false → validSlot n used edge (wiredSlot given edge v old) ≡ true
+wired-slot n true true edge v old was u good = stored-valid n v good edge
+wired-slot n true false edge v old was u good = absurd (true≢false u)
+wired-slot n false used edge v old was u good = was
+
+-- four tests that all hold, and four of which none does
+all-four : (a b c d : Bool) → ((a && b) && (c && d)) ≡ true → (a ≡ true) × (b ≡ true) × (c ≡ true) × (d ≡ true)
+all-four a b c d h =
+    let ab = and-left (a && b) (c && d) h in
+    let cd = and-right (a && b) (c && d) h in
+    (and-left a b ab, and-right a b ab, and-left c d cd, and-right c d cd)
+
+none-four : (a b c d : Bool) → ((a || b) || (c || d)) ≡ false → (a ≡ false) × (b ≡ false) × (c ≡ false) × (d ≡ false)
+none-four a b c d h =
+    let ab = or-left (a || b) (c || d) h in
+    let cd = or-right (a || b) (c || d) h in
+    (or-left a b ab, or-right a b ab, or-left c d cd, or-right c d cd)
+
+-- an address that is given is bad
+abbrev pub badGiven : ℕ → Slots → (x y z f : ℕ) → Bool
+badGiven n given x y z f =
+    ((given .x && badAddress n x) || (given .y && badAddress n y)) || ((given .z && badAddress n z) || (given .f && badAddress n f))
+
+-- the four slots of a valid cell, wired
+wired-valid : (n : ℕ) (cell : Cell) (given : Slots) (x y z f : ℕ) → validCell n cell ≡ true → unusedSlot (cell .kind) given ≡ false
+    → badGiven n given x y z f ≡ false → validCell n (wired cell given (x ∷ y ∷ z ∷ f ∷ [])) ≡ true
+unfolding validCell validSlots unusedSlot wired
+wired-valid n cell given x y z f ok unused good =
+    let row = rowOf (cell .kind) in
+    let s = cell .slots in
+    let head = and-left (not (badCellType (cell .kind)) && leb (cell .config) (row .largest)) (validSlots n row s) ok in
+    let was = all-four _ _ _ _ (and-right (eqb (length s) 4) _ (slots-pass n cell ok)) in
+    let u = none-four _ _ _ _ unused in
+    let g = none-four _ _ _ _ good in
+    rw (
+      head,
+      wired-slot n (given .x) (row .used .x) (row .edge .x) x (getD s 0 0) (was .0) (u .0) (g .0),
+      wired-slot n (given .y) (row .used .y) (row .edge .y) y (getD s 1 0) (was .1) (u .1) (g .1),
+      wired-slot n (given .z) (row .used .z) (row .edge .z) z (getD s 2 0) (was .2) (u .2) (g .2),
+      wired-slot n (given .f) (row .used .f) (row .edge .f) f (getD s 3 0) (was .3) (u .3) (g .3),
+    )
+
+-- ---- a connector by itself
+
+no-connector : (n : ℕ) → validConnector n noConnector ≡ true
+unfolding validConnector badConnectorType badAddress permittedBase
+no-connector n = refl
+
+module _ (n : ℕ) where
+  -- a permitted type and a permitted source
+  connector-valid : (kind source : ℕ) → badConnectorType kind ≡ false → badAddress n source ≡ false
+      → validConnector n (record { kind = kind; source = source }) ≡ true
+  unfolding validConnector
+  connector-valid kind source known good = rw (known, good)
+
+  source-good : (connector : Connector) → validConnector n connector ≡ true → badAddress n (connector .source) ≡ false
+  unfolding validConnector
+  source-good connector pass = not-true _ (and-right (not (badConnectorType (connector .kind))) _ pass)
+
+  kind-good : (connector : Connector) → validConnector n connector ≡ true → badConnectorType (connector .kind) ≡ false
+  unfolding validConnector
+  kind-good connector pass = not-true _ (and-left _ (not (badAddress n (connector .source))) pass)
+
+-- a turn leaves all that validity looks at
+turn-valid : (n : ℕ) (b : Bool) (cell : Cell) (now : Slots) (out : Bool)
+    → validCell n (cond b (workedTurn cell now) (sleptTurn cell out) .cell) ≡ validCell n cell
+unfolding validCell
+turn-valid n true cell now out = refl
+turn-valid n false cell now out = refl
+
+-- ---- the edits
+
+module _ (n : ℕ) (c : Card) (ok : validCard n c ≡ true) where
+  sound : Sound n (c .trigger) (c .cells) (c .connectors)
+  unfolding validCard
+  sound = split n (c .trigger) (c .cells) (c .connectors) ok
+
+  -- with other cells
+  other-cells : (cells : List Cell) → length cells ≡ n → every (validCell n) cells ≡ true → valid n (c .trigger) cells (c .connectors) ≡ true
+  other-cells cells count pass =
+      join n (c .trigger) cells (c .connectors)
+      (record {
+        clock = sound .clock;
+        front = sound .front;
+        cell-count = count;
+        connector-count = sound .connector-count;
+        cells-pass = pass;
+        connectors-pass = sound .connectors-pass;
+      })
+
+  -- with another trigger, and the connector at k replaced
+  other-connector : (trigger k : ℕ) (connector : Connector) → badClock trigger ≡ false → validConnector n connector ≡ true
+      → frontDriven trigger (getD (set (c .connectors) k connector) 0 noConnector .kind) ≡ false
+      → valid n trigger (c .cells) (set (c .connectors) k connector) ≡ true
+  other-connector trigger k connector clock pass front =
+      join n trigger (c .cells) (set (c .connectors) k connector)
+      (record {
+        clock = clock;
+        front = front;
+        cell-count = sound .cell-count;
+        connector-count = length-set (c .connectors) k connector ∙ sound .connector-count;
+        cells-pass = sound .cells-pass;
+        connectors-pass = every-set (validConnector n) (c .connectors) k connector (sound .connectors-pass) pass;
+      })
+
+  -- at each place
+  cell-at : (i : ℕ) → i < n → validCell n (getD (c .cells) i noCell) ≡ true
+  cell-at i h =
+      let count = sound .cell-count in
+      every-at (validCell n) (c .cells) i noCell (sound .cells-pass) (omega arith)
+
+  connector-at : (k : ℕ) → k < connectorCount → validConnector n (getD (c .connectors) k noConnector) ≡ true
+  connector-at k h =
+      let count = sound .connector-count in
+      every-at (validConnector n) (c .connectors) k noConnector (sound .connectors-pass) (omega arith)
+
+  -- the cell at the pointer
+  current-valid : validCell n (currentCell n c) ≡ true
+  unfolding currentCell
+  current-valid = go (atCell n c) refl
+    where
+      go : (b : Bool) → atCell n c ≡ b → validCell n (cond b (getD (c .cells) (c .pointer - firstCell) noCell) freshCell) ≡ true
+      go true e =
+          let h = among-bounds firstCell n (c .pointer) e in
+          cell-at (c .pointer - firstCell) (omega arith)
+      go false e = fresh-cell n
+
+  put-valid : (cell : Cell) → validCell n cell ≡ true → validCard n (putCell n c cell) ≡ true
+  unfolding putCell validCard
+  put-valid cell pass = go (atCell n c)
+    where
+      go : (b : Bool) → validCard n (cond b (withCell c (c .pointer - firstCell) cell) c) ≡ true
+      go true =
+          let i = c .pointer - firstCell in
+          other-cells (set (c .cells) i cell) (length-set (c .cells) i cell ∙ sound .cell-count)
+          (every-set (validCell n) (c .cells) i cell (sound .cells-pass) pass)
+      go false = ok
+
+  pub valid-move : (p : ℕ) → validCard n (move c p) ≡ true
+  unfolding move validCard
+  valid-move p = ok
+
+  pub valid-trigger : (t : ℕ) → badClock t ≡ false → validCard n (setTrigger c t) ≡ true
+  unfolding setTrigger validCard frontDriven badConnectorType
+  valid-trigger t clock = go (eqb t frontTrigger) refl
+    where
+      quiet : Connector
+      quiet = record { kind = input; source = getD (c .connectors) 0 noConnector .source }
+
+      go : (b : Bool) → eqb t frontTrigger ≡ b → valid n t (c .cells) (cond b (set (c .connectors) 0 quiet) (c .connectors)) ≡ true
+      go true e =
+          let count = sound .connector-count in
+          other-connector t 0 quiet clock
+          (connector-valid n input _ refl (source-good n (getD (c .connectors) 0 noConnector) (connector-at 0 (omega arith))))
+          (rw (getD-set-same (c .connectors) 0 quiet noConnector (omega arith)) (and-false (eqb t frontTrigger)))
+      go false e =
+          join n t (c .cells) (c .connectors)
+          (record {
+            clock = clock;
+            front = rw e;
+            cell-count = sound .cell-count;
+            connector-count = sound .connector-count;
+            cells-pass = sound .cells-pass;
+            connectors-pass = sound .connectors-pass;
+          })
+
+  pub valid-home : validCard n (home n c) ≡ true
+  unfolding home validCard validCell
+  valid-home =
+      other-cells (map clearedCell (c .cells)) (length-map (c .cells) clearedCell ∙ sound .cell-count)
+      (every-map (validCell n) clearedCell (λ x. refl) (c .cells) ∙ sound .cells-pass)
+
+  pub valid-type : (v : ℕ) → badCellType v ≡ false → validCard n (setType n c v) ≡ true
+  unfolding setType
+  valid-type v known = put-valid (typed v) (typed-valid n v known)
+
+  pub valid-config : (v : ℕ) → badConfig (currentCell n c .kind) v ≡ false → validCard n (setConfig n c v) ≡ true
+  unfolding setConfig
+  valid-config v fits = put-valid (configured (currentCell n c) v) (configured-valid n (currentCell n c) current-valid v fits)
+
+  pub valid-state : (v : ℕ) → validCard n (setState n c v) ≡ true
+  unfolding setState stated validCell
+  valid-state v = put-valid (stated (currentCell n c) v) current-valid
+
+  pub valid-slots : (given : Slots) (x y z f : ℕ) → unusedSlot (currentCell n c .kind) given ≡ false → badGiven n given x y z f ≡ false
+      → validCard n (setSlots n c given (x ∷ y ∷ z ∷ f ∷ [])) ≡ true
+  unfolding setSlots
+  valid-slots given x y z f unused good =
+      put-valid (wired (currentCell n c) given (x ∷ y ∷ z ∷ f ∷ [])) (wired-valid n (currentCell n c) given x y z f current-valid unused good)
+
+  -- the connector at the pointer
+  current-connector : validConnector n (currentConnector c) ≡ true
+  unfolding currentConnector
+  current-connector = go (atConnector c) refl
+    where
+      go : (b : Bool) → atConnector c ≡ b
+          → validConnector n (cond b (getD (c .connectors) (c .pointer - firstConnector) noConnector) noConnector) ≡ true
+      go true e =
+          let h = among-bounds firstConnector connectorCount (c .pointer) e in
+          connector-at (c .pointer - firstConnector) (omega arith)
+      go false e = no-connector n
+
+  -- BNC1 after it, or another, was replaced
+  front-after : (k : ℕ) (connector : Connector) → Dec (k ≡ 0) → (k ≡ 0 → frontDriven (c .trigger) (connector .kind) ≡ false)
+      → frontDriven (c .trigger) (getD (set (c .connectors) k connector) 0 noConnector .kind) ≡ false
+  front-after k connector (yes e) free =
+      let count = sound .connector-count in
+      rw (e, getD-set-same (c .connectors) 0 connector noConnector (omega arith)) (free e)
+  front-after k connector (no e) free = rw (getD-set-other (c .connectors) k 0 connector noConnector (λ q. e (sym q))) (sound .front)
+
+  put-connector-valid : (connector : Connector) → validConnector n connector ≡ true
+      → (eqb (c .pointer) firstConnector && frontDriven (c .trigger) (connector .kind)) ≡ false → validCard n (putConnector c connector) ≡ true
+  unfolding putConnector validCard
+  put-connector-valid connector pass free = go (atConnector c) refl
+    where
+      go : (b : Bool) → atConnector c ≡ b → validCard n (cond b (withConnector c (c .pointer - firstConnector) connector) c) ≡ true
+      go true e =
+          let h = among-bounds firstConnector connectorCount (c .pointer) e in
+          let k = c .pointer - firstConnector in
+          other-connector (c .trigger) k connector (sound .clock) pass
+          (front-after k connector (ℕ-discrete k 0)
+          (λ q. let p : c .pointer ≡ firstConnector = omega arith in rw (eq-eqb (c .pointer) firstConnector p) at free))
+      go false e = ok
+
+  pub valid-connector-type : (v : ℕ) → badConnectorType v ≡ false → (eqb (c .pointer) firstConnector && frontDriven (c .trigger) v) ≡ false
+      → validCard n (setConnectorType c v) ≡ true
+  unfolding setConnectorType
+  valid-connector-type v known free =
+      put-connector-valid _ (connector-valid n v _ known (source-good n (currentConnector c) current-connector)) free
+
+  -- the type that the connector at the pointer has drives no trigger
+  current-free : (eqb (c .pointer) firstConnector && frontDriven (c .trigger) (currentConnector c .kind)) ≡ false
+  unfolding currentConnector
+  current-free = go (ℕ-discrete (c .pointer) firstConnector)
+    where
+      go : Dec (c .pointer ≡ firstConnector) → (eqb (c .pointer) firstConnector && frontDriven (c .trigger) (currentConnector c .kind)) ≡ false
+      go (yes e) = rw e (sound .front)
+      go (no e) = rw (ne-eqb (c .pointer) firstConnector e)
+
+  pub valid-source : (v : ℕ) → badAddress n v ≡ false → validCard n (setSource c v) ≡ true
+  unfolding setSource
+  valid-source v good =
+      put-connector-valid _ (connector-valid n _ v (kind-good n (currentConnector c) current-connector) good) current-free
+
+  -- ---- a tick
+
+  ran-valid : (full : Bool) (sample : ℕ) → validCard n (ticked n full c sample .card) ≡ true
+  unfolding validCard turned turnAt
+  ran-valid full sample =
+      let w = wiresOf c (lines n c sample .levels) in
+      let next = Tick.cellAfter n full (c .cells) (c .edited) w in
+      other-cells (listed next n) (length-listed next n)
+      (every-listed (validCell n) next n
+      (λ i h. let old = getD (c .cells) i noCell in
+      turn-valid n (full || named n old i (c .edited) w (outputsBelow n full (c .cells) (c .edited) w i)) old _ _ ∙ cell-at i h))
+
+  pub valid-tick : (full : Bool) (code sample : ℕ) → validCard n (tick n full c code sample .card) ≡ true
+  unfolding tick
+  valid-tick full code sample = go (eqb code (c .trigger))
+    where
+      go : (b : Bool) → validCard n (cond b (ticked n full c sample) (idle c) .card) ≡ true
+      go true = ran-valid full sample
+      go false = ok
+
+-- ---- a preset
+
+-- a test of what stands at a number, if anything does
+passes : {A : Type 0} → (A → Bool) → Option A → Bool
+passes f none = true
+passes f (some a) = f a
+
+-- what every entry passes, what is found passes
+found-passes : {A : Type 0} (f : A → Bool) (l : List (ℕ × A)) → every (λ (e : ℕ × A). f (e .1)) l ≡ true → (k : ℕ) → passes f (find k l) ≡ true
+unfolding every passes
+found-passes f [] t k = refl
+found-passes f (e ∷ es) t k = go (eqb k (e .0)) (found-passes f es (and-right (f (e .1)) _ t) k)
+  where
+    go : (b : Bool) → passes f (find k es) ≡ true → passes f (cond b (some (e .1)) (find k es)) ≡ true
+    go true later = and-left (f (e .1)) _ t
+    go false later = later
+
+-- the cells that a preset sets are valid, and its sources permitted
+abbrev goodSource : ℕ → Bool
+goodSource a = not (badAddress cellCount a)
+
+goodSetting : Setting → Bool
+goodSetting s = every (λ (e : ℕ × Cell). validCell cellCount (e .1)) (s .cells) && every (λ (e : ℕ × ℕ). goodSource (e .1)) (s .sources)
+
+-- a test over the whole table
+all-good : every (λ (e : Entry). goodSetting (e .1)) table ≡ true
+unfolding every goodSetting table listed validCell validSlots validSlot badCellType badAddress permittedBase rowOf
+all-good = refl
+
+good-cells : (o : Option Setting) → passes goodSetting o ≡ true → every (λ (e : ℕ × Cell). validCell cellCount (e .1)) (cellsOf o) ≡ true
+unfolding every passes goodSetting
+good-cells none t = refl
+good-cells (some s) t = and-left _ (every (λ (e : ℕ × ℕ). goodSource (e .1)) (s .sources)) t
+
+good-sources : (o : Option Setting) → passes goodSetting o ≡ true → every (λ (e : ℕ × ℕ). goodSource (e .1)) (sourcesOf o) ≡ true
+unfolding every passes goodSetting
+good-sources none t = refl
+good-sources (some s) t = and-right (every (λ (e : ℕ × Cell). validCell cellCount (e .1)) (s .cells)) _ t
+
+preset-cell : (v i : ℕ) → passes (validCell cellCount) (presetCell v i) ≡ true
+unfolding presetCell settingOf
+preset-cell v i =
+    found-passes (validCell cellCount) (cellsOf (settingOf v)) (good-cells (settingOf v) (found-passes goodSetting table all-good v)) (firstCell + i)
+
+preset-source : (v k : ℕ) → passes goodSource (presetSource v k) ≡ true
+unfolding presetSource settingOf
+preset-source v k =
+    found-passes goodSource (sourcesOf (settingOf v)) (good-sources (settingOf v) (found-passes goodSetting table all-good v)) (1 + k)
+
+either-cell : (o : Option Cell) (old : Cell) → passes (validCell cellCount) o ≡ true → validCell cellCount old ≡ true
+    → validCell cellCount (Option·getD o old) ≡ true
+unfolding passes
+either-cell none old p q = q
+either-cell (some cell) old p q = p
+
+either-connector : (o : Option ℕ) (old : Connector) → passes goodSource o ≡ true → validConnector cellCount old ≡ true
+    → validConnector cellCount (sourced o old) ≡ true
+unfolding passes validConnector badConnectorType
+either-connector none old p q = q
+either-connector (some a) old p q = p
+
+either-front : (trigger : ℕ) (o : Option ℕ) (old : Connector) → (has o && eqb trigger frontTrigger) ≡ false → frontDriven trigger (old .kind) ≡ false
+    → frontDriven trigger (sourced o old .kind) ≡ false
+unfolding frontDriven
+either-front trigger none old p q = q
+either-front trigger (some a) old p q = rw p
+
+pub valid-preset : (c : Card) → validCard cellCount c ≡ true → (v : ℕ) → (setsFront v && eqb (c .trigger) frontTrigger) ≡ false
+    → validCard cellCount (preset cellCount c v) ≡ true
+unfolding preset validCard setsFront
+valid-preset c ok v free =
+    let cells = listed (cellAfter c v) cellCount in
+    let connectors = listed (connectorAfter c v) connectorCount in
+    let first = listed-at (connectorAfter c v) connectorCount 0 noConnector (omega arith) in
+    let s = sound cellCount c ok in
+    join cellCount (c .trigger) cells connectors
+    (record {
+      clock = s .clock;
+      front = rw first (either-front (c .trigger) (presetSource v 0) (getD (c .connectors) 0 noConnector) free (s .front));
+      cell-count = length-listed (cellAfter c v) cellCount;
+      connector-count = length-listed (connectorAfter c v) connectorCount;
+      cells-pass =
+          every-listed (validCell cellCount) (cellAfter c v) cellCount
+          (λ i h. either-cell (presetCell v i) (getD (c .cells) i noCell) (preset-cell v i) (cell-at cellCount c ok i h));
+      connectors-pass =
+          every-listed (validConnector cellCount) (connectorAfter c v) connectorCount
+          (λ k h. either-connector (presetSource v k) (getD (c .connectors) k noConnector) (preset-source v k) (connector-at cellCount c ok k h));
+    })

@@ -1,0 +1,102 @@
+-- `console::enter` meets its contract: a tick, a load or a card line, each by its own function.
+use Prim.Native.Nat.{ℕ}
+use mathlib.Core.Path.{refl, ap, _∙_}
+use lib.ListN.{length}
+use lib.Seq.{sets}
+use Rattle.card.specs.declared.tick.Ticked.{Ticked}
+use Rattle.console.specs.Console.{tickText, loadText, cardAfter, storeNext, printed}
+use borrow.Author.Needs.{needs}
+use Rattle.console.proofs.enter.Statement.{statement}
+use Rattle.console.proofs.enter.Tie as tie
+
+tick-line-requires : tie.Need-tick-line-requires
+tick-line-requires c κs = search needs
+
+do-tick-requires : tie.Need-do-tick-requires
+do-tick-requires c κs = search needs
+
+put-tick-requires : tie.Need-put-tick-requires
+put-tick-requires c κs = search needs
+
+same-length : tie.Need-same-length
+same-length c = search needs
+
+returns : tie.Need-returns
+unfolding cardAfter storeNext printed
+returns c =
+    let out = c .before .before .before .before .before .before .before .before .before .before .before .before .args .out .now in
+    let done = c .before .before .before .before .before .before .do-tick .ensures .0 in
+    rw (← c .before .before .before .before .before .before .before .before .tick-line .ensures, c .before .before .before .before .before .before .before .if1 .taken) (
+      ap (λ (r : Ticked). r .card) done,
+      (
+        refl,
+        (
+          c .before .before .put-tick .ensures .0 ∙ ap (λ (r : Ticked). sets out 0 (tickText (r .answer))) done,
+          c .before .before .put-tick .ensures .1 ∙ ap (λ (r : Ticked). length (tickText (r .answer))) done,
+        ),
+      ),
+    )
+
+is-load-requires : tie.Need-is-load-requires
+is-load-requires c κs = search needs
+
+load-requires : tie.Need-load-requires
+load-requires c κs = search needs
+
+put-load-requires : tie.Need-put-load-requires
+put-load-requires c κs = search needs
+
+same-length-2 : tie.Need-same-length-2
+same-length-2 c = search needs
+
+same-length-3 : tie.Need-same-length-3
+same-length-3 c = search needs
+
+returns-2 : tie.Need-returns-2
+unfolding cardAfter storeNext printed
+returns-2 c =
+    let out = c .before .before .before .before .before .before .before .before .before .before .before .before .before .before .args .out .now in
+    let k = c .before .before .before .before .before .load .ensures .1 in
+    rw (← c .before .before .before .before .before .before .before .before .before .before .tick-line .ensures, c .before .before .before .before .before .before .before .before .before .if1 .left, ← c .before .before .before .before .before .before .before .before .is-load .ensures, c .before .before .before .before .before .before .before .if2 .taken) (
+      c .before .before .before .before .before .load .ensures .0,
+      (
+        refl,
+        (
+          c .before .before .put-load .ensures .0 ∙ ap (λ (n : ℕ). sets out 0 (loadText n)) k,
+          c .before .before .put-load .ensures .1 ∙ ap (λ (n : ℕ). length (loadText n)) k,
+        ),
+      ),
+    )
+
+enter-line-requires : tie.Need-enter-line-requires
+enter-line-requires c κs = search needs
+
+same-length-4 : tie.Need-same-length-4
+same-length-4 c = search needs
+
+same-length-5 : tie.Need-same-length-5
+same-length-5 c = search needs
+
+returns-3 : tie.Need-returns-3
+unfolding cardAfter storeNext printed
+returns-3 c = rw (← c .before .before .before .before .before .before .before .before .before .before .tick-line .ensures, c .before .before .before .before .before .before .before .before .before .if1 .left, ← c .before .before .before .before .before .before .before .before .is-load .ensures, c .before .before .before .before .before .before .before .if2 .left) (c .before .before .before .before .enter-line .ensures)
+
+pub enter-spec : {M : Type 1} → statement M
+enter-spec =
+    tie.close
+    (tie.spec
+    tick-line-requires
+    do-tick-requires
+    put-tick-requires
+    same-length
+    returns
+    is-load-requires
+    load-requires
+    put-load-requires
+    same-length-2
+    same-length-3
+    returns-2
+    enter-line-requires
+    same-length-4
+    same-length-5
+    returns-3)

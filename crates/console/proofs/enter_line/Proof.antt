@@ -1,0 +1,69 @@
+-- `console::enter_line` meets its contract: the reply is read back out of its buffer, and printed without CR.
+use Prim.Native.Nat.{ℕ, _-_}
+use mathlib.Core.Path.{ap, _∙_}
+use mathlib.Core.List.{List}
+use native.Mathlib.Omega.{arith}
+use lib.ListN.{length, take, replicate}
+use lib.Seq.{sets}
+use Rattle.card.specs.Address.{cellCount}
+use Rattle.lines.specs.Line.{shortestReply, lineReply, replyAfter}
+use Rattle.console.proofs.Chains.{front}
+use Rattle.console.specs.Console.{plainReply}
+use borrow.Author.Needs.{needs}
+use Rattle.console.proofs.enter_line.Statement.{statement}
+use Rattle.console.proofs.enter_line.Tie as tie
+
+slice-aggregate-line : tie.Need-slice-aggregate-line
+slice-aggregate-line c = search needs
+
+line-requires : tie.Need-line-requires
+line-requires c κs = search needs
+
+sub-put-plain : tie.Need-sub-put-plain
+sub-put-plain c = search needs
+
+part-put-plain-start : tie.Need-part-put-plain-start
+part-put-plain-start c = search needs
+
+part-put-plain-end : tie.Need-part-put-plain-end
+part-put-plain-end c = search needs
+
+put-plain-requires : tie.Need-put-plain-requires
+put-plain-requires c κs = search needs
+
+same-length : tie.Need-same-length
+same-length c = search needs
+
+same-length-2 : tie.Need-same-length-2
+same-length-2 c = search needs
+
+returns : tie.Need-returns
+unfolding replyAfter
+returns c =
+    let a = c .before .before .before .before .before .before .before .before .before .before .before .before .before .before .before .before .args in
+    let reply = lineReply cellCount (a .card) (a .text .now) shortestReply (length (a .store .now)) in
+    let slice = ap (take (c .before .before .before .before .before .before .before .before .before .before .line .result .len - 0)) (c .before .before .before .before .before .before .before .before .before .before .line .ensures .1 .1 .1 .0)
+    ∙ front (replicate 16 0) reply (c .before .before .before .before .before .before .before .before .before .before .line .result .len) (c .before .before .before .before .before .before .before .before .before .before .line .ensures .1 .1 .0) (omega (arith, c .before .before .before .before .before .before .before .before .before .before .line .ensures .1 .1 .0, c .before .before .before .before .before .before .before .before .before .before .line .ensures .1 .1 .1 .1 .1)) in (
+      c .before .before .before .before .before .before .before .before .before .before .line .ensures .0,
+      (
+        c .before .before .before .before .before .before .before .before .before .before .line .ensures .1 .1 .1 .1 .0,
+        (
+          c .before .before .put-plain .ensures .0 ∙ ap (λ (r : List ℕ). sets (a .out .now) 0 (plainReply r)) slice,
+          c .before .before .put-plain .ensures .1 ∙ ap (λ (r : List ℕ). length (plainReply r)) slice,
+        ),
+      ),
+    )
+
+pub enter-line-spec : {M : Type 1} → statement M
+enter-line-spec =
+    tie.close
+    (tie.spec
+    slice-aggregate-line
+    line-requires
+    sub-put-plain
+    part-put-plain-start
+    part-put-plain-end
+    put-plain-requires
+    same-length
+    same-length-2
+    returns)

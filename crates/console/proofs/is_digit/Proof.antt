@@ -1,0 +1,12 @@
+-- `console::is_digit` meets its contract: the test is the definition.
+use mathlib.Core.Path.{refl}
+use Rattle.text.specs.Decimal.{isDigit}
+use Rattle.console.proofs.is_digit.Statement.{statement}
+use Rattle.console.proofs.is_digit.Tie as tie
+
+returns : tie.Need-returns
+unfolding isDigit
+returns c = refl
+
+pub is-digit-spec : {M : Type 1} → statement M
+is-digit-spec = tie.close (tie.spec returns)

@@ -1,0 +1,80 @@
+-- Document 01, "One run": what one line of input does to the card, the store and the output. Bytes are written as numbers.
+use Prim.Native.Nat.{ℕ, _-_}
+use mathlib.Core.Bool.{Bool, true, false, _&&_, _||_, cond}
+use mathlib.Core.List.{List, [], _∷_, _++_}
+use lib.Dec.{eqb}
+use lib.ListN.{length, getD, take}
+use Rattle.text.specs.Decimal.{isDigit, decimal}
+use Rattle.text.specs.Hex.{hex4, hexAt}
+use Rattle.card.specs.declared.card.Card.{Card}
+use Rattle.card.specs.declared.tick.Answer.{Answer}
+use Rattle.card.specs.declared.tick.Ticked.{Ticked}
+use Rattle.card.specs.Address.{cellCount}
+use Rattle.card.specs.Record.{configWidth, loadNumber, loaded}
+use Rattle.card.specs.Tick.{tick}
+use Rattle.lines.specs.Line.{shortestReply, lineOutcome, lineReply, storeAfter}
+use Rattle.console.specs.declared.TickLine.{TickLine}
+
+-- ---- a tick
+
+-- "`T c w F` or `T c w Q` (clock, one digit 0-9; sample, four hex digits, letters small; full or quick)"
+abbrev pub tickHead : List ℕ → Bool
+tickHead t = (eqb (getD t 0 0) 84 && eqb (getD t 1 0) 32) && (isDigit (getD t 2 0) && eqb (getD t 3 0) 32)
+
+abbrev pub tickTail : List ℕ → Bool
+tickTail t = hexAt t 4 .ok && (eqb (getD t 8 0) 32 && (eqb (getD t 9 0) 70 || eqb (getD t 9 0) 81))
+
+abbrev pub noTick : TickLine
+noTick = record { ok = false; full = false; code = 0; sample = 0 }
+
+unfoldable pub tickLine : List ℕ → TickLine
+tickLine t =
+    cond (eqb (length t) 10 && (tickHead t && tickTail t))
+    (record { ok = true; full = eqb (getD t 9 0) 70; code = getD t 2 0 - 48; sample = hexAt t 4 .value }) noTick
+
+-- "A tick prints `T` driven, cells, set (hex), count (decimal), or `T -` idle"
+abbrev pub word : ℕ → List ℕ
+word w = hex4 w ++ (32 ∷ [])
+
+abbrev pub ranText : Answer → List ℕ
+ranText a = (84 ∷ 32 ∷ []) ++ (word (a .driven) ++ (word (a .cells) ++ (word (a .woken) ++ (decimal (a .count) ++ (10 ∷ [])))))
+
+abbrev pub idleText : List ℕ
+idleText = 84 ∷ 32 ∷ 45 ∷ 10 ∷ []
+
+unfoldable pub tickText : Answer → List ℕ
+tickText a = cond (a .ran) (ranText a) idleText
+
+-- ---- a load
+
+-- "`L` (load the store ...; prints `:A` or `:N-k`)"
+abbrev pub isLoadLine : List ℕ → Bool
+isLoadLine t = eqb (length t) 1 && eqb (getD t 0 0) 76
+
+unfoldable pub loadText : ℕ → List ℕ
+loadText k = cond (eqb k 0) (58 ∷ 65 ∷ 10 ∷ []) ((58 ∷ 78 ∷ 45 ∷ []) ++ (decimal k ++ (10 ∷ [])))
+
+-- ---- a card line
+
+-- "the rest print replies with LF alone": a reply without its last two bytes, CR LF, and then LF
+unfoldable pub plainReply : List ℕ → List ℕ
+plainReply r = take (length r - 2) r ++ (10 ∷ [])
+
+-- ---- one line of input
+
+abbrev pub ticked : Card → List ℕ → Ticked
+ticked c t = tick cellCount (tickLine t .full) c (tickLine t .code) (tickLine t .sample)
+
+-- a malformed T line is no card line either, and so prints `:N-2`
+unfoldable pub cardAfter : Card → List ℕ → List ℕ → Card
+cardAfter c t store =
+    cond (tickLine t .ok) (ticked c t .card)
+    (cond (isLoadLine t) (loaded cellCount configWidth c store) (lineOutcome cellCount c t shortestReply (length store) .card))
+
+unfoldable pub storeNext : Card → List ℕ → List ℕ → List ℕ
+storeNext c t store = cond (tickLine t .ok || isLoadLine t) store (storeAfter cellCount c t shortestReply store)
+
+unfoldable pub printed : Card → List ℕ → List ℕ → List ℕ
+printed c t store =
+    cond (tickLine t .ok) (tickText (ticked c t .answer))
+    (cond (isLoadLine t) (loadText (loadNumber cellCount configWidth store)) (plainReply (lineReply cellCount c t shortestReply (length store))))

@@ -1,0 +1,198 @@
+// One line of input of a run: a tick, a load or a card line, and what it prints.
+ghost use mathlib.Core.List.{_++_};
+ghost use mathlib.Core.Path.{_≡_};
+ghost use Prim.Native.Nat.{_≤_, _<_, _+_, _-_, _^_};
+ghost use lib.ListN.{length};
+ghost use lib.Seq.{sets};
+ghost use Rattle.text.specs.Decimal.{isDigit, maxDigits};
+ghost use Rattle.text.specs.Hex.{hex4};
+ghost use Rattle.console.specs.Console.{tickLine, tickText, isLoadLine, loadText, plainReply, cardAfter, storeNext, printed};
+ghost use Rattle.card.specs.Address.{cellCount};
+ghost use Rattle.card.specs.Tick.{tick};
+ghost use Rattle.lines.specs.Line.{shortestReply, lineOutcome, lineReply, storeAfter};
+use card::card::Card;
+use card::tick::Answer;
+use card::tick::Ticked;
+use card::tick::full_tick;
+use card::tick::quick_tick;
+
+// A line that asks for a tick: its kind, clock code and sample.
+pub struct TickLine {
+    pub ok: bool,
+    pub full: bool,
+    pub code: u8,
+    pub sample: u16,
+}
+
+// The card after a line of input, and how many bytes it prints.
+pub struct Entered {
+    pub card: Card,
+    pub len: usize,
+}
+
+fn is_digit(b: u8) -> bool
+    ensures { λ q. ⌜ q ≡ isDigit b ⌝ }
+{
+    (48 <= b) & (b <= 57)
+}
+
+// The line read as a tick.
+fn tick_line(text: &[u8]) -> TickLine
+    ensures { λ r. ⌜ r ≡ tickLine (now (text .entry)) ⌝ }
+{
+    if text.len() != 10 {
+        return TickLine {
+            ok: false,
+            full: false,
+            code: 0,
+            sample: 0,
+        };
+    }
+    let code = text[2];
+    let word = text::hex4_at(text, 4);
+    let kind = text[9];
+    let head = ((text[0] == b'T') & (text[1] == b' ')) & (is_digit(code) & (text[3] == b' '));
+    let tail = word.ok & ((text[8] == b' ') & ((kind == b'F') | (kind == b'Q')));
+    if head & tail {
+        TickLine {
+            ok: true,
+            full: kind == b'F',
+            code: code - 48,
+            sample: word.value,
+        }
+    } else {
+        TickLine {
+            ok: false,
+            full: false,
+            code: 0,
+            sample: 0,
+        }
+    }
+}
+
+// A part of the output: four hex digits and a byte behind them.
+fn put_word(out: &mut [u8], at: usize, w: u16, byte: &[u8]) -> usize
+    requires { ⌜ at + 5 ≤ length (now out) ⌝ }
+    requires { ⌜ length (now byte) ≡ 1 ⌝ }
+    ensures { λ r. ⌜ (now (out .exit) ≡ sets (now (out .entry)) at (hex4 w ++ now (byte .entry))) × (r ≡ at + 5) ⌝ }
+{
+    let end = text::put_hex4(out, at, w);
+    text::copy(out, end, byte)
+}
+
+// What a tick prints.
+fn put_tick(out: &mut [u8], a: Answer) -> usize
+    requires { ⌜ 32 ≤ length (now out) ⌝ }
+    requires { ⌜ a .count < 10 ^ maxDigits ⌝ }
+    ensures { λ r. ⌜ (now (out .exit) ≡ sets (now (out .entry)) 0 (tickText a)) × (r ≡ length (tickText a)) ⌝ }
+{
+    if !a.ran {
+        return text::copy(out, 0, b"T -\n");
+    }
+    let driven = text::copy(out, 0, b"T ");
+    let cells = put_word(out, driven, a.driven, b" ");
+    let woken = put_word(out, cells, a.cells, b" ");
+    let count = put_word(out, woken, a.woken, b" ");
+    let end = text::put_decimal(out, count, a.count);
+    text::copy(out, end, b"\n")
+}
+
+// What a load prints.
+fn put_load(out: &mut [u8], k: u8) -> usize
+    requires { ⌜ 32 ≤ length (now out) ⌝ }
+    ensures { λ r. ⌜ (now (out .exit) ≡ sets (now (out .entry)) 0 (loadText k)) × (r ≡ length (loadText k)) ⌝ }
+{
+    if k == 0 {
+        return text::copy(out, 0, b":A\n");
+    }
+    let at = text::copy(out, 0, b":N-");
+    let end = text::put_decimal(out, at, k as u32);
+    text::copy(out, end, b"\n")
+}
+
+fn without(n: usize, m: usize) -> usize
+    ensures { λ r. ⌜ r ≡ n - m ⌝ }
+{
+    if n < m { 0 } else { n - m }
+}
+
+// A reply of a line, with LF in place of CR LF.
+fn put_plain(out: &mut [u8], reply: &[u8]) -> usize
+    requires { ⌜ length (now reply) ≤ 16 ⌝ }
+    requires { ⌜ 32 ≤ length (now out) ⌝ }
+    ensures { λ r. ⌜ (now (out .exit) ≡ sets (now (out .entry)) 0 (plainReply (now (reply .entry)))) × (r ≡ length (plainReply (now (reply .entry)))) ⌝ }
+{
+    let n = without(reply.len(), 2);
+    let end = text::copy(out, 0, &reply[0..n]);
+    text::copy(out, end, b"\n")
+}
+
+// A line that asks for a load of the store.
+fn is_load(text: &[u8]) -> bool
+    ensures { λ q. ⌜ q ≡ isLoadLine (now (text .entry)) ⌝ }
+{
+    if text.len() != 1 {
+        return false;
+    }
+    text[0] == b'L'
+}
+
+fn do_tick(card: Card, t: TickLine) -> Ticked
+    ensures { λ r. ⌜ (r ≡ tick cellCount (t .full) card (t .code) (t .sample)) × (r .answer .count < 10 ^ maxDigits) ⌝ }
+{
+    if t.full {
+        full_tick(card, t.code, t.sample)
+    } else {
+        quick_tick(card, t.code, t.sample)
+    }
+}
+
+// A card line, with its reply in the place of the output.
+fn enter_line(card: Card, text: &[u8], store: &mut [u8], out: &mut [u8]) -> Entered
+    requires { ⌜ 32 ≤ length (now out) ⌝ }
+    ensures { λ r. ⌜ r .card ≡ lineOutcome cellCount card (now (text .entry)) shortestReply (length (now (store .entry))) .card ⌝ }
+    ensures { λ r. ⌜ now (store .exit) ≡ storeAfter cellCount card (now (text .entry)) shortestReply (now (store .entry)) ⌝ }
+    ensures { λ r. ⌜ now (out .exit) ≡ sets (now (out .entry)) 0 (plainReply (lineReply cellCount card (now (text .entry)) shortestReply (length (now (store .entry))))) ⌝ }
+    ensures { λ r. ⌜ r .len ≡ length (plainReply (lineReply cellCount card (now (text .entry)) shortestReply (length (now (store .entry))))) ⌝ }
+{
+    let mut reply = [0u8; 16];
+    let a = lines::line::line(card, text, &mut reply, store);
+    let n = a.len;
+    let next = a.card;
+    let len = put_plain(out, &reply[0..n]);
+    Entered {
+        card: next,
+        len: len,
+    }
+}
+
+// One line of input.
+pub fn enter(card: Card, text: &[u8], store: &mut [u8], out: &mut [u8]) -> Entered
+    requires { ⌜ 32 ≤ length (now out) ⌝ }
+    ensures { λ r. ⌜ r .card ≡ cardAfter card (now (text .entry)) (now (store .entry)) ⌝ }
+    ensures { λ r. ⌜ now (store .exit) ≡ storeNext card (now (text .entry)) (now (store .entry)) ⌝ }
+    ensures { λ r. ⌜ now (out .exit) ≡ sets (now (out .entry)) 0 (printed card (now (text .entry)) (now (store .entry))) ⌝ }
+    ensures { λ r. ⌜ r .len ≡ length (printed card (now (text .entry)) (now (store .entry))) ⌝ }
+{
+    let t = tick_line(text);
+    if t.ok {
+        let done = do_tick(card, t);
+        let answer = done.answer;
+        let next = done.card;
+        let len = put_tick(out, answer);
+        return Entered {
+            card: next,
+            len: len,
+        };
+    }
+    if is_load(text) {
+        let loaded = card::record::load(card, store);
+        let next = loaded.card;
+        let len = put_load(out, loaded.k);
+        return Entered {
+            card: next,
+            len: len,
+        };
+    }
+    enter_line(card, text, store, out)
+}
