@@ -1,6 +1,8 @@
 -- The proofs of the card: laws that several functions or the layer above cite.
+pub mod Counts
 pub mod EditLaws
 pub mod Fields
+pub mod PresetLaws
 pub mod PresetRows
 pub mod Records
 pub mod Settings

@@ -3,7 +3,7 @@ use Prim.Native.Nat.{ℕ, _+_, _≤_, _<_, zero-le}
 use mathlib.Core.Path.{_≡_, refl, sym, ap, _∙_}
 use mathlib.Core.Bool.{Bool, true, false, _||_, cond, false≢true, and-false}
 use mathlib.Core.List.{List, [], _∷_}
-use mathlib.Core.Option.{Option, none, some}
+use mathlib.Core.Option.{none, some}
 use native.Mathlib.Decide.{ℕ-discrete}
 use native.Mathlib.Omega.{arith}
 use lib.Dec.{ltb, eqb}
@@ -12,7 +12,6 @@ use borrow.Author.Tests.{ltb-true, le-ltb, eq-eqb, ne-eqb}
 use Rattle.words.specs.Bits.{bitAt}
 use Rattle.words.specs.Listed.{listed}
 use Rattle.words.proofs.Listed.{listed-at}
-use Rattle.cells.specs.declared.cell.Cell.{Cell}
 use Rattle.cells.proofs.Rows.{and-left, and-right}
 use Rattle.card.specs.Address.{firstCell}
 use Rattle.card.specs.Presets.{Entry, table, find, has, cellsOf, settingOf, offered, presetCell, presetSource}
@@ -32,6 +31,7 @@ row-at read should rows places e v h i k =
 
 -- ---- past the tables
 
+-- no preset has a later number
 numbered : Entry → Bool
 numbered e = ltb (e .0) sourceRows
 
@@ -98,18 +98,14 @@ zero-row i = rw (le-ltb (firstCell + i) 0 zero-le, and-false)
 
 -- ---- which cells and connectors a row sets
 
+has-cond : {A : Type 0} (b : Bool) (a : A) → has (cond b (some a) none) ≡ b
+has-cond true a = refl
+has-cond false a = refl
+
 pub has-source : (w k : ℕ) → has (sourceIn w k) ≡ bitAt w (32 + k)
 unfolding sourceIn
-has-source w k = go (bitAt w (32 + k)) _
-  where
-    go : (b : Bool) (a : ℕ) → has (cond b (some a) none) ≡ b
-    go true a = refl
-    go false a = refl
+has-source w k = has-cond (bitAt w (32 + k)) _
 
 pub has-cell : (a b i : ℕ) → has (cellIn a b i) ≡ covers a i
 unfolding cellIn
-has-cell a b i = go (covers a i) _
-  where
-    go : (q : Bool) (x : Cell) → has (cond q (some x) none) ≡ q
-    go true x = refl
-    go false x = refl
+has-cell a b i = has-cond (covers a i) _

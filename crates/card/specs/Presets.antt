@@ -68,6 +68,7 @@ everyCell f = map (λ (n : ℕ). (n, f n)) (numbers firstCell cellCount)
 abbrev pub along : (first count a : ℕ) → List (ℕ × ℕ)
 along first count a = listed (λ i. (first + i, a + i)) count
 
+-- the number is one of these
 abbrev pub isIn : ℕ → List ℕ → Bool
 isIn n [] = false
 isIn n (m ∷ ms) = eqb n m || isIn n ms
@@ -76,6 +77,7 @@ isIn n (m ∷ ms) = eqb n m || isIn n ms
 abbrev pub laser : (group lit : List ℕ) → List (ℕ × ℕ)
 laser group lit = map (λ (b : ℕ). (b, cond (isIn b lit) 10 0)) group
 
+-- the presets of a group, each with the BNCs that it lights
 abbrev pub lasers : List ℕ → List (ℕ × List ℕ) → List Entry
 lasers group presets = map (λ (p : ℕ × List ℕ). routes (p .0) (laser group (p .1))) presets
 
@@ -165,6 +167,7 @@ sevenLasers =
     ∷ (59, 2 ∷ 6 ∷ [])
     ∷ []
 
+-- all presets that are offered
 unfoldable pub table : List Entry
 table =
     cellPresets ++ (mixedPresets ++ (sourcePresets ++ (lasers (numbers 5 4) fourLasers ++ lasers (numbers 1 7) sevenLasers)))
@@ -176,10 +179,12 @@ abbrev pub find : {A : Type 0} → ℕ → List (ℕ × A) → Option A
 find n [] = none
 find n (e ∷ es) = cond (eqb n (e .0)) (some (e .1)) (find n es)
 
+-- whether there is anything
 abbrev pub has : {A : Type 0} → Option A → Bool
 has none = false
 has (some a) = true
 
+-- the table's entry for a preset
 unfoldable pub settingOf : ℕ → Option Setting
 settingOf v = find v table
 
@@ -187,6 +192,7 @@ settingOf v = find v table
 unfoldable pub offered : ℕ → Bool
 offered v = has (settingOf v)
 
+-- what it sets; a number that the table has not sets nothing
 abbrev pub cellsOf : Option Setting → List (ℕ × Cell)
 cellsOf none = []
 cellsOf (some s) = s .cells
@@ -213,6 +219,7 @@ abbrev pub sourced : Option ℕ → Connector → Connector
 sourced none old = old
 sourced (some a) old = record { kind = pushPull; source = a }
 
+-- a cell or a connector after a preset: as the preset sets it, or as it was
 abbrev pub cellAfter : Card → ℕ → ℕ → Cell
 cellAfter c v i = Option·getD (presetCell v i) (getD (c .cells) i noCell)
 

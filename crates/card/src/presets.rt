@@ -1,6 +1,5 @@
 // Presets: two constant tables by preset number, and what a preset does to the card.
 ghost use mathlib.Core.Bool.{not, _||_, cond};
-ghost use mathlib.Core.List.{map};
 ghost use mathlib.Core.Option.{Option·getD};
 ghost use mathlib.Core.Path.{_≡_};
 ghost use Prim.Native.Nat.{ℕ, _<_};
@@ -228,7 +227,7 @@ fn byte(w: u64, i: u32) -> u8
     ((w >> (8 * i)) % 256) as u8
 }
 
-// Nothing says here that the sum fits, so it wraps; no row of the tables comes near 255.
+// Nothing says here that the sum fits, so it wraps; no row of the tables comes to 256.
 fn stepped(step: bool, place: u8, a: u8) -> u8
     ensures { λ r. ⌜ r ≡ PresetRows.stepped step place a ⌝ }
 {

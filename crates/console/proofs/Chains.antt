@@ -1,19 +1,17 @@
 -- Laws of output made by stores, each behind the last, and of the tick line's digits.
 use Prim.Native.Nat.{ℕ, _+_, _-_, _^_, _≤_, _<_}
 use mathlib.Core.Path.{_≡_, refl, sym, ap, _∙_}
-use mathlib.Core.Bool.{Bool, true, false, _&&_, cond}
+use mathlib.Core.Bool.{Bool, true, _&&_}
 use mathlib.Core.List.{List, _++_, append-assoc}
 use native.Mathlib.Nat.{zero-add}
 use native.Mathlib.Omega.{arith}
-use lib.Count.{ones, ones-le}
-use lib.Dec.{eqb, lit<}
 use lib.ListN.{length, take, drop, length-append}
 use lib.Seq.{sets, sets-eq, take-append-seam}
-use Rattle.words.proofs.Laws.{built-lt}
 use Rattle.text.specs.Decimal.{maxDigits}
 use Rattle.card.specs.declared.card.Card.{Card}
 use Rattle.card.specs.Address.{cellCount}
-use Rattle.card.specs.Tick.{turned, ticked, idle, tick}
+use Rattle.card.specs.Tick.{tick}
+use Rattle.card.proofs.Counts.{tick-count}
 use Rattle.cells.proofs.Rows.{and-left, and-right}
 use Rattle.text.specs.Hex.{hex4}
 use Rattle.text.proofs.HexLaws.{hex-length}
@@ -61,13 +59,5 @@ front l r n e h =
     rw (s, m) (take-append-seam r (drop (0 + length r) l))
 
 -- the count of a tick is small enough to be printed
-ones-small : (w : ℕ) → w < 2 ^ cellCount → ones w < 10 ^ maxDigits
-ones-small w h = let b = ones-le cellCount w h in omega arith
-
 pub count-small : (full : Bool) (c : Card) (code sample : ℕ) → tick cellCount full c code sample .answer .count < 10 ^ maxDigits
-unfolding tick turned
-count-small full c code sample = go (eqb code (c .trigger))
-  where
-    go : (b : Bool) → cond b (ticked cellCount full c sample) (idle c) .answer .count < 10 ^ maxDigits
-    go true = ones-small _ (built-lt _ cellCount)
-    go false = lit< tt
+count-small full c code sample = let b = tick-count cellCount full c code sample in omega arith

@@ -1,5 +1,5 @@
 -- `card::presets::apply_preset` meets its contract: the rows say of each cell and connector what the definition says.
-use mathlib.Core.Path.{_≡_, sym, _∙_, ap}
+use mathlib.Core.Path.{sym, _∙_, ap}
 use mathlib.Core.Bool.{Bool, _||_}
 use mathlib.Core.Option.{Option, Option·getD}
 use Prim.Native.Nat.{ℕ}
@@ -44,7 +44,8 @@ returns c =
     ∙ listed-same (λ i. Option·getD (cellIn (row .0) (row .1) i) (getD (a .card .cells) i noCell)) (cellAfter (a .card) (a .v)) cellCount
     (λ i h. ap (λ (o : Option Cell). Option·getD o (getD (a .card .cells) i noCell)) (says i h)) in
     let connectors = c .before .connectors-under .ensures
-    ∙ listed-same (λ k. sourced (sourceIn (c .before .before .source-row .result) k) (getD (a .card .connectors) k noConnector)) (connectorAfter (a .card) (a .v)) connectorCount
+    ∙ listed-same (λ k. sourced (sourceIn (c .before .before .source-row .result) k) (getD (a .card .connectors) k noConnector))
+    (connectorAfter (a .card) (a .v)) connectorCount
     (λ k h. ap (λ (o : Option ℕ). sourced o (getD (a .card .connectors) k noConnector)) (c .before .before .source-row .ensures k h)) in
     let edited = c .edited-under .ensures
     ∙ built-same (λ i. bitAt (a .card .edited) i || covers (row .0) i) (editedAfter (a .card) (a .v)) cellCount

@@ -1,6 +1,6 @@
 -- `card::presets::bad_preset` meets its contract: one test, computed over all 64 bits, gives each number; past them none is offered.
-use mathlib.Core.Path.{_≡_, refl, sym, _∙_, ap}
-use mathlib.Core.Bool.{true, false, not}
+use mathlib.Core.Path.{refl, sym, _∙_, ap}
+use mathlib.Core.Bool.{not}
 use borrow.Author.Needs.{needs}
 use Rattle.words.specs.Bits.{bitAt}
 use Rattle.words.specs.Listed.{listed}

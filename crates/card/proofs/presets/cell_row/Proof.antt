@@ -1,5 +1,5 @@
 -- `card::presets::cell_row` meets its contract: two rows of the table, by the test over the whole of it, or rows of zeros.
-use mathlib.Core.Path.{_≡_, sym, _∙_}
+use mathlib.Core.Path.{sym, _∙_}
 use Prim.Native.Nat.{_+_, _*_}
 use lib.ListN.{getD}
 use borrow.Author.Needs.{needs}
@@ -38,7 +38,8 @@ returns : tie.Need-returns
 unfolding CellRows
 returns c =
     let rows = c .before .cell-rows .result in
-    row-at (λ v. cellIn (getD rows (2 * v) 0) (getD rows (2 * v + 1) 0)) presetCell cellRows cellCount (c .before .cell-rows .ensures) (c .before .before .args .v) (search needs)
+    row-at (λ v. cellIn (getD rows (2 * v) 0) (getD rows (2 * v + 1) 0)) presetCell cellRows cellCount
+    (c .before .cell-rows .ensures) (c .before .before .args .v) (search needs)
 
 returns-2 : tie.Need-returns-2
 returns-2 c i h = zero-row i ∙ sym (past-cell (c .before .before .args .v) i (search needs))

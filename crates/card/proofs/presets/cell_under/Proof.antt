@@ -1,5 +1,4 @@
 -- `card::presets::cell_under` meets its contract: the rows set the cell where they cover it.
-use mathlib.Core.Path.{_≡_}
 use borrow.Author.Needs.{needs}
 use Rattle.card.specs.PresetRows.{cellIn}
 use Rattle.card.proofs.presets.cell_under.Statement.{statement}
@@ -31,7 +30,15 @@ wired-cell-requires c κs = search needs
 
 returns : tie.Need-returns
 unfolding cellIn
-returns c = rw (← c .before .before .before .before .before .covers .ensures, c .before .before .before .before .if1 .taken, c .wired-cell .ensures, c .before .before .either .ensures, c .before .before .before .byte .ensures, c .before .bit .ensures)
+returns c =
+    rw (
+      ← c .before .before .before .before .before .covers .ensures,
+      c .before .before .before .before .if1 .taken,
+      c .wired-cell .ensures,
+      c .before .before .either .ensures,
+      c .before .before .before .byte .ensures,
+      c .before .bit .ensures,
+    )
 
 returns-2 : tie.Need-returns-2
 unfolding cellIn

@@ -1,21 +1,26 @@
 -- `card::presets::cells_under` meets its contract: after i turns the first i cells are those under the row.
-use Prim.Native.Nat.{_-_, _≤_, zero-le}
+use Prim.Native.Nat.{ℕ, _-_, _≤_, zero-le}
 use mathlib.Core.Path.{_≡_, refl}
-use mathlib.Core.List.{_++_}
+use mathlib.Core.List.{List, _++_}
 use mathlib.Core.Option.{Option·getD}
 use native.Mathlib.Omega.{arith}
 use lib.ListN.{drop, getD}
 use borrow.Author.Needs.{needs}
 use Rattle.words.specs.Listed.{listed}
 use Rattle.words.proofs.Listed.{listed-next, listed-done}
+use Rattle.cells.specs.declared.cell.Cell.{Cell}
 use Rattle.card.specs.Address.{cellCount}
 use Rattle.card.specs.Tick.{noCell}
 use Rattle.card.specs.PresetRows.{cellIn}
 use Rattle.card.proofs.presets.cells_under.Statement.{statement}
 use Rattle.card.proofs.presets.cells_under.Tie as tie
 
+-- the cell at an index under the two rows
+abbrev under : ℕ → ℕ → List Cell → ℕ → Cell
+under a b cells i = Option·getD (cellIn a b i) (getD cells i noCell)
+
 abbrev Inv-loop : tie.InvT-loop
-Inv-loop row cells next₀ i₀ next i = (i ≤ cellCount) × (next ≡ listed (λ j. Option·getD (cellIn (row .0) (row .1) j) (getD cells j noCell)) i ++ drop i cells)
+Inv-loop row cells next₀ i₀ next i = (i ≤ cellCount) × (next ≡ listed (under (row .0) (row .1) cells) i ++ drop i cells)
 
 abbrev μ-loop : tie.MeasureT-loop
 μ-loop row cells next₀ i₀ next i = cellCount - i
@@ -53,7 +58,7 @@ loop-again c =
     let a = c .before .before .before .before .args in
     let l = c .before .before .before .loop in (
       omega arith,
-      listed-next (λ j. Option·getD (cellIn (a .row .0) (a .row .1) j) (getD (a .t2) j noCell)) (l .i) (a .t2) (l .next) _ noCell (l .inv .1) (c .cell-under .ensures) (search needs),
+      listed-next (under (a .row .0) (a .row .1) (a .t2)) (l .i) (a .t2) (l .next) _ noCell (l .inv .1) (c .cell-under .ensures) (search needs),
     )
 
 returns : tie.Need-returns Inv-loop μ-loop
@@ -61,7 +66,7 @@ returns c =
     let a = c .before .before .args in
     let l = c .before .loop in
     let end : l .i ≡ cellCount = omega arith in
-    listed-done (λ j. Option·getD (cellIn (a .row .0) (a .row .1) j) (getD (a .t2) j noCell)) cellCount (a .t2) (l .next) (rw end at (l .inv .1)) (search needs)
+    listed-done (under (a .row .0) (a .row .1) (a .t2)) cellCount (a .t2) (l .next) (rw end at (l .inv .1)) (search needs)
 
 pub cells-under-spec : {M : Type 1} → statement M
 cells-under-spec =

@@ -1,5 +1,4 @@
 -- `card::presets::connector_under` meets its contract: the bits and the bytes of the row are those of the definition.
-use mathlib.Core.Path.{_≡_}
 use borrow.Author.Needs.{needs}
 use Rattle.card.specs.PresetRows.{sourceIn}
 use Rattle.card.proofs.presets.connector_under.Statement.{statement}
@@ -37,7 +36,17 @@ stepped-requires c κs = search needs
 
 returns : tie.Need-returns
 unfolding sourceIn
-returns c = rw (← c .before .before .before .before .before .before .before .bit .ensures, c .before .before .before .before .before .before .if1 .taken, c .stepped .ensures, c .before .before .address .ensures, c .before .before .before .before .byte .ensures, c .before .before .before .byte2 .ensures, c .before .before .before .before .before .bit2 .ensures, c .before .bit3 .ensures)
+returns c =
+    rw (
+      ← c .before .before .before .before .before .before .before .bit .ensures,
+      c .before .before .before .before .before .before .if1 .taken,
+      c .stepped .ensures,
+      c .before .before .address .ensures,
+      c .before .before .before .before .byte .ensures,
+      c .before .before .before .byte2 .ensures,
+      c .before .before .before .before .before .bit2 .ensures,
+      c .before .bit3 .ensures,
+    )
 
 returns-2 : tie.Need-returns-2
 unfolding sourceIn

@@ -1,12 +1,13 @@
 -- `card::presets::connectors_under` meets its contract: after k turns the first k connectors are those under the row.
-use Prim.Native.Nat.{_-_, _≤_, zero-le}
+use Prim.Native.Nat.{ℕ, _-_, _≤_, zero-le}
 use mathlib.Core.Path.{_≡_, refl}
-use mathlib.Core.List.{_++_}
+use mathlib.Core.List.{List, _++_}
 use native.Mathlib.Omega.{arith}
 use lib.ListN.{drop, getD}
 use borrow.Author.Needs.{needs}
 use Rattle.words.specs.Listed.{listed}
 use Rattle.words.proofs.Listed.{listed-next, listed-done}
+use Rattle.card.specs.declared.card.Connector.{Connector}
 use Rattle.card.specs.Address.{connectorCount}
 use Rattle.card.specs.Connectors.{noConnector}
 use Rattle.card.specs.Presets.{sourced}
@@ -14,8 +15,12 @@ use Rattle.card.specs.PresetRows.{sourceIn}
 use Rattle.card.proofs.presets.connectors_under.Statement.{statement}
 use Rattle.card.proofs.presets.connectors_under.Tie as tie
 
+-- the connector at an index under the row
+abbrev under : ℕ → List Connector → ℕ → Connector
+under w connectors k = sourced (sourceIn w k) (getD connectors k noConnector)
+
 abbrev Inv-loop : tie.InvT-loop
-Inv-loop row connectors next₀ k₀ next k = (k ≤ connectorCount) × (next ≡ listed (λ j. sourced (sourceIn row j) (getD connectors j noConnector)) k ++ drop k connectors)
+Inv-loop row connectors next₀ k₀ next k = (k ≤ connectorCount) × (next ≡ listed (under row connectors) k ++ drop k connectors)
 
 abbrev μ-loop : tie.MeasureT-loop
 μ-loop row connectors next₀ k₀ next k = connectorCount - k
@@ -53,7 +58,7 @@ loop-again c =
     let a = c .before .before .before .before .args in
     let l = c .before .before .before .loop in (
       omega arith,
-      listed-next (λ j. sourced (sourceIn (a .row) j) (getD (a .t2) j noConnector)) (l .k) (a .t2) (l .next) _ noConnector (l .inv .1) (c .connector-under .ensures) (search needs),
+      listed-next (under (a .row) (a .t2)) (l .k) (a .t2) (l .next) _ noConnector (l .inv .1) (c .connector-under .ensures) (search needs),
     )
 
 returns : tie.Need-returns Inv-loop μ-loop
@@ -61,7 +66,7 @@ returns c =
     let a = c .before .before .args in
     let l = c .before .loop in
     let end : l .k ≡ connectorCount = omega arith in
-    listed-done (λ j. sourced (sourceIn (a .row) j) (getD (a .t2) j noConnector)) connectorCount (a .t2) (l .next) (rw end at (l .inv .1)) (search needs)
+    listed-done (under (a .row) (a .t2)) connectorCount (a .t2) (l .next) (rw end at (l .inv .1)) (search needs)
 
 pub connectors-under-spec : {M : Type 1} → statement M
 connectors-under-spec =

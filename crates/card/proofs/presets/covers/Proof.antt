@@ -1,6 +1,5 @@
 -- `card::presets::covers` meets its contract: the two bytes are those of the definition.
 use borrow.Author.Needs.{needs}
-use mathlib.Core.Path.{refl}
 use Rattle.card.specs.PresetRows.{covers}
 use Rattle.card.proofs.presets.covers.Statement.{statement}
 use Rattle.card.proofs.presets.covers.Tie as tie

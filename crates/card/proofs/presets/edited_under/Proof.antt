@@ -41,7 +41,8 @@ loop-again c =
     let a = c .before .before .before .before .before .args in
     let l = c .before .before .before .before .loop in (
       omega arith,
-      built-next (λ j. bitAt (a .edited) j || covers (a .row) j) (l .i) (l .next) _ _ (l .inv .1) (ap₂ _||_ (c .before .before .bit .ensures) (c .before .covers .ensures)) (c .pushed16 .ensures),
+      built-next (λ j. bitAt (a .edited) j || covers (a .row) j) (l .i) (l .next) _ _ (l .inv .1)
+          (ap₂ _||_ (c .before .before .bit .ensures) (c .before .covers .ensures)) (c .pushed16 .ensures),
     )
 
 returns : tie.Need-returns Inv-loop μ-loop

@@ -1,5 +1,5 @@
 -- `card::presets::sets_front` meets its contract: the bit of BNC1 says whether the row sources it.
-use mathlib.Core.Path.{_≡_, sym, _∙_, ap}
+use mathlib.Core.Path.{sym, _∙_, ap}
 use mathlib.Core.Option.{Option}
 use Prim.Native.Nat.{ℕ}
 use borrow.Author.Needs.{needs}

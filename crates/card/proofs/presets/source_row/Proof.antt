@@ -1,5 +1,5 @@
 -- `card::presets::source_row` meets its contract: a row of the table, by the test over the whole of it, or a row of zeros.
-use mathlib.Core.Path.{_≡_, sym}
+use mathlib.Core.Path.{sym}
 use Prim.Native.Nat.{_+_}
 use lib.ListN.{getD}
 use borrow.Author.Needs.{needs}
@@ -22,7 +22,9 @@ array-read-result c = search needs
 
 returns : tie.Need-returns
 unfolding SourceRows
-returns c = row-at (λ v. sourceIn (getD (c .before .source-rows .result) v 0)) presetSource sourceRows connectorCount (c .before .source-rows .ensures) (c .before .before .args .v) (search needs)
+returns c =
+    row-at (λ v. sourceIn (getD (c .before .source-rows .result) v 0)) presetSource sourceRows connectorCount
+    (c .before .source-rows .ensures) (c .before .before .args .v) (search needs)
 
 returns-2 : tie.Need-returns-2
 unfolding sourceIn

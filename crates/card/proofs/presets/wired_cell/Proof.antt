@@ -33,7 +33,17 @@ cast-t11 c = search needs
 
 returns : tie.Need-returns
 unfolding wiredCell
-returns c = rw (c .before .before .before .before .before .before .stepped .ensures, c .before .before .before .before .stepped2 .ensures, c .before .before .before .before .before .before .before .byte .ensures, c .before .before .before .before .before .byte2 .ensures, c .before .before .before .byte3 .ensures, c .before .before .byte4 .ensures, c .before .byte5 .ensures, c .byte6 .ensures)
+returns c =
+    rw (
+      c .before .before .before .before .before .before .stepped .ensures,
+      c .before .before .before .before .stepped2 .ensures,
+      c .before .before .before .before .before .before .before .byte .ensures,
+      c .before .before .before .before .before .byte2 .ensures,
+      c .before .before .before .byte3 .ensures,
+      c .before .before .byte4 .ensures,
+      c .before .byte5 .ensures,
+      c .byte6 .ensures,
+    )
 
 pub wired-cell-spec : {M : Type 1} → statement M
 wired-cell-spec =

@@ -1,0 +1,28 @@
+-- The count of an answer is at most the number of cells: what a caller needs to print it.
+use Prim.Native.Nat.{ℕ, zero, suc, _+_, _≤_, zero-le}
+use mathlib.Core.Bool.{Bool, true, false, cond}
+use native.Mathlib.Omega.{arith}
+use lib.Dec.{eqb}
+use Rattle.words.specs.Bits.{bitNumber, countOf}
+use Rattle.card.specs.declared.card.Card.{Card}
+use Rattle.card.specs.Tick.{wokeAt, wiresOf, lines, ticked, idle, tick}
+use Rattle.card.proofs.Sleep.{count-is}
+
+count-le : (f : ℕ → Bool) (n : ℕ) → countOf f n ≤ n
+unfolding countOf
+count-le f zero = zero-le
+count-le f (suc n) = go (f n) (count-le f n)
+  where
+    go : (b : Bool) → countOf f n ≤ n → countOf f n + bitNumber b ≤ suc n
+    go true h = omega arith
+    go false h = omega arith
+
+pub tick-count : (n : ℕ) (full : Bool) (c : Card) (code sample : ℕ) → tick n full c code sample .answer .count ≤ n
+unfolding tick
+tick-count n full c code sample = go (eqb code (c .trigger))
+  where
+    go : (b : Bool) → cond b (ticked n full c sample) (idle c) .answer .count ≤ n
+    go true =
+        let w = wiresOf c (lines n c sample .levels) in
+        rw (count-is n full (c .cells) (c .edited) w) (count-le (wokeAt n full (c .cells) (c .edited) w) n)
+    go false = zero-le

@@ -1,0 +1,52 @@
+-- What presets leave alone.
+use Prim.Native.Nat.{ℕ, _^_, _<_}
+use mathlib.Core.Path.{_≡_, refl, sym, _∙_}
+use mathlib.Core.Bool.{false, true≢false, or-false}
+use mathlib.Core.List.{List}
+use mathlib.Core.Option.{Option, none, some}
+use lib.ListN.{length, getD}
+use lib.Seq.{ext-getD}
+use Rattle.words.specs.Bits.{bitAt}
+use Rattle.words.specs.Listed.{listed}
+use Rattle.words.proofs.Laws.{built-same, built-of-bits}
+use Rattle.words.proofs.Listed.{length-listed, listed-at, listed-same}
+use Rattle.card.specs.declared.card.Card.{Card}
+use Rattle.card.specs.Address.{connectorCount}
+use Rattle.card.specs.Connectors.{noConnector}
+use Rattle.card.specs.Edits.{withSettings}
+use Rattle.card.specs.Tick.{noCell}
+use Rattle.card.specs.Presets.{Setting, has, settingOf, offered, presetCell, presetSource, cellAfter, connectorAfter, editedAfter, preset}
+
+-- a preset moves nothing that ticks, the pointer or the trigger source hold
+pub preset-keeps : (n : ℕ) (c : Card) (v : ℕ) → let d = preset n c v in
+    (d .outputs ≡ c .outputs)
+    × (d .outputs2 ≡ c .outputs2)
+    × (d .outputs3 ≡ c .outputs3)
+    × (d .levels ≡ c .levels)
+    × (d .levels2 ≡ c .levels2)
+    × (d .driven ≡ c .driven)
+    × (d .pointer ≡ c .pointer)
+    × (d .trigger ≡ c .trigger)
+unfolding preset
+preset-keeps n c v = (refl, refl, refl, refl, refl, refl, refl, refl)
+
+listed-self : {A : Type 0} (l : List A) (d : A) (n : ℕ) → length l ≡ n → listed (λ i. getD l i d) n ≡ l
+listed-self l d n e =
+    ext-getD d (listed (λ i. getD l i d) n) l (length-listed (λ i. getD l i d) n ∙ sym e)
+    (λ i h. listed-at (λ i. getD l i d) n i d (rw (length-listed (λ i. getD l i d) n) at h))
+
+no-setting : (o : Option Setting) → has o ≡ false → o ≡ none
+no-setting none e = refl
+no-setting (some s) e = absurd (true≢false e)
+
+-- a number that is not offered changes nothing
+pub preset-unoffered : (n : ℕ) (c : Card) (v : ℕ) → length (c .cells) ≡ n → length (c .connectors) ≡ connectorCount → c .edited < 2 ^ n
+    → offered v ≡ false → preset n c v ≡ c
+unfolding offered presetCell presetSource preset
+preset-unoffered n c v hc hk he e =
+    let none-set = no-setting (settingOf v) e in
+    let cells = listed-same (cellAfter c v) (λ i. getD (c .cells) i noCell) n (λ i h. rw none-set) ∙ listed-self (c .cells) noCell n hc in
+    let connectors = listed-same (connectorAfter c v) (λ k. getD (c .connectors) k noConnector) connectorCount (λ k h. rw none-set)
+    ∙ listed-self (c .connectors) noConnector connectorCount hk in
+    let edited = built-same (editedAfter c v) (bitAt (c .edited)) n (λ i h. rw (none-set, or-false)) ∙ built-of-bits (c .edited) n he in
+    λ k. withSettings c (c .trigger) (cells k) (connectors k) (edited k)

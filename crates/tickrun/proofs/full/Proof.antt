@@ -1,0 +1,24 @@
+-- `tickrun::full` meets its contract: it hands on the card of the tick, whose count is at most the number of cells.
+use mathlib.Core.Bool.{true}
+use mathlib.Core.Path.{ap}
+use native.Mathlib.Omega.{arith}
+use borrow.Author.Needs.{needs}
+use Rattle.card.specs.Address.{cellCount}
+use Rattle.card.specs.declared.tick.Ticked.{Ticked}
+use Rattle.card.proofs.Counts.{tick-count}
+use Rattle.tickrun.proofs.full.Statement.{statement}
+use Rattle.tickrun.proofs.full.Tie as tie
+
+full-tick-requires : tie.Need-full-tick-requires
+full-tick-requires c κs = search needs
+
+put-answer-requires : tie.Need-put-answer-requires
+put-answer-requires c κs =
+    let a = c .before .before .args in
+    omega (arith, ap (λ (t : Ticked). t .answer .count) (c .before .full-tick .ensures), tick-count cellCount true (a .card) (a .code) (a .sample))
+
+returns : tie.Need-returns
+returns c = ap (λ (t : Ticked). t .card) (c .before .before .before .full-tick .ensures)
+
+pub full-spec : {M : Type 1} → statement M
+full-spec = tie.close (tie.spec full-tick-requires put-answer-requires returns)
