@@ -22,7 +22,8 @@ use Rattle.card.specs.Connectors.{noConnector}
 use Rattle.card.specs.Fresh.{fresh, clearState}
 use Rattle.card.specs.Tick.{noCell}
 use Rattle.card.specs.Valid.{permittedBase, badClock, frontDriven, badCellType, badConnectorType, badAddress, validSlot, validSlots, validCell, validConnector, every, valid, validCard}
-use Rattle.card.specs.Record.{bigEndian, bigValue, triggerField, cellField, connectorField, fieldsFrom, encode, configWidth, triggerLength, cellLength, connectorLength, recordLength, triggerIn, cellIn, connectorIn, cellsIn, connectorsIn, recordOf, sameBytes, loadNumber, poweredUp, cleared, loaded, savedTo}
+use Rattle.card.specs.Record.{bigEndian, bigValue, triggerField, cellField, connectorField, fieldsFrom, encode, configWidth, triggerLength, cellLength, connectorLength, recordLength, triggerIn, cellIn, connectorIn, cellsIn, connectorsIn, recordOf, sameBytes, loadNumber, poweredUp, loaded, savedTo}
+use Rattle.card.specs.Edits.{clearedCell}
 use Rattle.card.proofs.Settings.{every-at, every-map, Sound, split}
 use Rattle.card.proofs.Fields.{fields-length, field-at, fields-map, length-big, big-read, sets-all, four, same-refl, same-sound, same-not}
 
@@ -134,7 +135,7 @@ module _ (width i : ℕ) (cell : Cell) (bytes rest : List ℕ) (at : ℕ) (there
       ∷ [])
       ∙ four (cell .slots) n
 
-  cell-there : length (cell .slots) ≡ 4 → cell .config < 256 ^ width → at ≡ triggerLength + i * cellLength width → cellIn width bytes i ≡ cleared cell
+  cell-there : length (cell .slots) ≡ 4 → cell .config < 256 ^ width → at ≡ triggerLength + i * cellLength width → cellIn width bytes i ≡ clearedCell cell
   unfolding cellIn
   cell-there n h e =
       rw (sym e) (λ k. record { kind = kind-there k; config = config-there h k; slots = slots-there n k; state = clearState })
@@ -159,15 +160,15 @@ config-fits = lit< tt
 
 -- the cells and the connectors that stand in the bytes of a record
 module _ (width : ℕ) (trigger : ℕ) (cells : List Cell) (connectors : List Connector) (slots : FourSlots cells) (fit : (i : ℕ) → i < length cells → getD cells i noCell .config < 256 ^ width) where
-  pub cells-read : cellsIn (length cells) width (encode width trigger cells connectors) ≡ map cleared cells
+  pub cells-read : cellsIn (length cells) width (encode width trigger cells connectors) ≡ map clearedCell cells
   cells-read =
       let bytes = encode width trigger cells connectors in
       let n : length (cellsIn (length cells) width bytes) ≡ length cells = length-listed (cellIn width bytes) (length cells) in
-      ext-getD noCell (cellsIn (length cells) width bytes) (map cleared cells) (n ∙ sym (length-map cells cleared))
+      ext-getD noCell (cellsIn (length cells) width bytes) (map clearedCell cells) (n ∙ sym (length-map cells clearedCell))
       (λ i h. let g : i < length cells = omega arith in
       listed-at (cellIn width bytes) (length cells) i noCell g
       ∙ cell-there width i (getD cells i noCell) bytes _ (triggerLength + i * cellLength width) (cell-place width trigger cells connectors slots i g) (slots i g) (fit i g) refl
-      ∙ sym (List·getD-map cleared cells i noCell))
+      ∙ sym (List·getD-map clearedCell cells i noCell))
 
   pub connectors-read : length connectors ≡ connectorCount → connectorsIn (length cells) width (encode width trigger cells connectors) ≡ connectors
   connectors-read e =
@@ -215,15 +216,15 @@ module _ (n trigger : ℕ) (cells : List Cell) (connectors : List Connector) (ok
 
 -- a record says nothing of states, and neither does validity
 encode-cleared : (width trigger : ℕ) (cells : List Cell) (connectors : List Connector)
-    → encode width trigger (map cleared cells) connectors ≡ encode width trigger cells connectors
+    → encode width trigger (map clearedCell cells) connectors ≡ encode width trigger cells connectors
 unfolding encode cellField
 encode-cleared width trigger cells connectors =
-    ap (λ (l : List ℕ). triggerField trigger ++ l ++ back connectors) (fields-map (cellField width) cleared (λ k x. refl) 0 cells)
+    ap (λ (l : List ℕ). triggerField trigger ++ l ++ back connectors) (fields-map (cellField width) clearedCell (λ k x. refl) 0 cells)
 
 valid-cleared : (n trigger : ℕ) (cells : List Cell) (connectors : List Connector)
-    → valid n trigger (map cleared cells) connectors ≡ valid n trigger cells connectors
+    → valid n trigger (map clearedCell cells) connectors ≡ valid n trigger cells connectors
 unfolding valid validCell
-valid-cleared n trigger cells connectors = rw (length-map cells cleared, every-map (validCell n) cleared (λ x. refl) cells)
+valid-cleared n trigger cells connectors = rw (length-map cells clearedCell, every-map (validCell n) clearedCell (λ x. refl) cells)
 
 -- ---- loads
 
@@ -318,7 +319,7 @@ module _ (n width : ℕ) (wide : largestConfig < 256 ^ width) (c : Card) (ok : v
   fit : (i : ℕ) → i < length (c .cells) → getD (c .cells) i noCell .config < 256 ^ width
   fit = configs-fit n (c .trigger) (c .cells) (c .connectors) settings width wide
 
-  cells-back : cellsIn n width (recordOf width c) ≡ map cleared (c .cells)
+  cells-back : cellsIn n width (recordOf width c) ≡ map clearedCell (c .cells)
   unfolding recordOf
   cells-back = rw count at (cells-read width (c .trigger) (c .cells) (c .connectors) slots fit)
 
@@ -334,17 +335,17 @@ module _ (n width : ℕ) (wide : largestConfig < 256 ^ width) (c : Card) (ok : v
   pub load-accepts : loadNumber n width (recordOf width c) ≡ 0
   unfolding recordOf
   load-accepts =
-      number-from n width (recordOf width c) (c .trigger) (map cleared (c .cells)) (c .connectors) trigger-back cells-back connectors-back
+      number-from n width (recordOf width c) (c .trigger) (map clearedCell (c .cells)) (c .connectors) trigger-back cells-back connectors-back
       ∙ rw (encode-cleared width (c .trigger) (c .cells) (c .connectors), same-refl (recordOf width c), valid-cleared n (c .trigger) (c .cells) (c .connectors), settings)
 
-  pub load-save : (d : Card) → loaded n width d (recordOf width c) ≡ poweredUp n (c .trigger) (map cleared (c .cells)) (c .connectors)
+  pub load-save : (d : Card) → loaded n width d (recordOf width c) ≡ poweredUp n (c .trigger) (map clearedCell (c .cells)) (c .connectors)
   load-save d =
-      loaded-from n width (recordOf width c) (c .trigger) (map cleared (c .cells)) (c .connectors) trigger-back cells-back connectors-back d load-accepts
+      loaded-from n width (recordOf width c) (c .trigger) (map clearedCell (c .cells)) (c .connectors) trigger-back cells-back connectors-back d load-accepts
 
 -- valid cards with one record have the same settings
 pub one-record : (n width : ℕ) → largestConfig < 256 ^ width → (c d : Card) → validCard n c ≡ true → validCard n d ≡ true
     → recordOf width c ≡ recordOf width d
-    → (c .trigger ≡ d .trigger) × (map cleared (c .cells) ≡ map cleared (d .cells)) × (c .connectors ≡ d .connectors)
+    → (c .trigger ≡ d .trigger) × (map clearedCell (c .cells) ≡ map clearedCell (d .cells)) × (c .connectors ≡ d .connectors)
 one-record n width wide c d okc okd e =
     let same = sym (load-save n width wide c okc c) ∙ ap (loaded n width c) e ∙ load-save n width wide d okd c in
     (ap (λ (x : Card). x .trigger) same, ap (λ (x : Card). x .cells) same, ap (λ (x : Card). x .connectors) same)

@@ -1,4 +1,5 @@
 -- Document 01, "Lines", its last sentence: the card as it powers up, with everything low and no cell edited.
+use Prim.Native.Nat.{ℕ}
 use mathlib.Core.Bool.{false}
 use mathlib.Core.List.{List, [], _∷_, _++_}
 use lib.ListN.{replicate}
@@ -21,15 +22,15 @@ freshCell = record { kind = 0; config = 0; slots = replicate 4 0; state = clearS
 abbrev pub freshConnectors : List Connector
 freshConnectors = replicate 8 (record { kind = 2; source = 0 }) ++ replicate 8 (record { kind = 0; source = 0 })
 
--- "pointer 1, cells constant 0, BNCs push-pull from 0, backplane inputs from 0, trigger 0"
-unfoldable pub fresh : Card
-fresh =
+-- a card as it powers up with some settings: pointer 1, and "everything before the first tick counts as low"
+abbrev pub started : ℕ → List Cell → List Connector → ℕ → Card
+started trigger cells connectors edited =
     record {
       pointer = 1;
-      trigger = 0;
-      cells = replicate cellCount freshCell;
-      connectors = freshConnectors;
-      edited = 0;
+      trigger = trigger;
+      cells = cells;
+      connectors = connectors;
+      edited = edited;
       driven = 0;
       outputs = 0;
       outputs2 = 0;
@@ -37,3 +38,7 @@ fresh =
       levels = 0;
       levels2 = 0;
     }
+
+-- "pointer 1, cells constant 0, BNCs push-pull from 0, backplane inputs from 0, trigger 0"; "a fresh card has none edited"
+unfoldable pub fresh : Card
+fresh = started 0 (replicate cellCount freshCell) freshConnectors 0

@@ -10,7 +10,7 @@ use Rattle.cells.specs.declared.cell.Cell.{Cell}
 use Rattle.card.specs.declared.card.Card.{Card}
 use Rattle.card.specs.declared.card.Connector.{Connector}
 use Rattle.card.specs.Address.{firstCell, firstConnector, connectorCount}
-use Rattle.card.specs.Fresh.{clearState}
+use Rattle.card.specs.Fresh.{clearState, started}
 use Rattle.card.specs.Valid.{valid}
 
 -- ---- the bytes
@@ -117,24 +117,7 @@ loadNumber n width bytes =
 
 -- "A load is a power-up: fresh, with these settings"; "by HOME and by a load, all are" edited
 abbrev pub poweredUp : ℕ → ℕ → List Cell → List Connector → Card
-poweredUp n trigger cells connectors =
-    record {
-      pointer = 1;
-      trigger = trigger;
-      cells = cells;
-      connectors = connectors;
-      edited = 2 ^ n - 1;
-      driven = 0;
-      outputs = 0;
-      outputs2 = 0;
-      outputs3 = 0;
-      levels = 0;
-      levels2 = 0;
-    }
-
--- "Pointer and states aren't saved": what a record keeps of a cell
-abbrev pub cleared : Cell → Cell
-cleared cell = record { kind = cell .kind; config = cell .config; slots = cell .slots; state = clearState }
+poweredUp n trigger cells connectors = started trigger cells connectors (2 ^ n - 1)
 
 -- the card after a load: a refused one changes nothing
 unfoldable pub loaded : ℕ → ℕ → Card → List ℕ → Card
