@@ -1,0 +1,26 @@
+// Stored runs of plrun: for each, its name and then what plrun prints for it.
+//
+// `pair-a` and `pair-b` differ only in which ticks are quick, so that what they print differs only
+// in woken sets and their counts.
+fn replay(path: &[u8]) {
+    let input = os::open_read(path);
+    if input < 0 {
+        os::fail(path);
+        return;
+    }
+    io::write_all(libc::STDOUT_FILENO, path);
+    io::write_all(libc::STDOUT_FILENO, b"\n");
+    runner::run_from(input);
+    libc::close(input);
+}
+
+fn main() {
+    replay(b"session-1.in");
+    replay(b"session-2.in");
+    replay(b"session-3.in");
+    replay(b"session-4.in");
+    replay(b"session-5.in");
+    replay(b"session-6.in");
+    replay(b"pair-a.in");
+    replay(b"pair-b.in");
+}
