@@ -17,7 +17,7 @@ const BLOCK: usize = 65536;
 // More than the 80 bytes of the longest line, so that a longer one, cut to this, is still too long.
 const LONGEST: usize = 96;
 
-// What one line prints is never longer.
+// The room that `console::enter` asks for. What one line prints is never longer.
 const ROOM: usize = 32;
 
 // Between two bytes of the input.
@@ -69,9 +69,14 @@ fn add(line: &mut [u8; 96], len: usize, more: &[u8]) -> usize
     text::copy(line, len, &more[0..n])
 }
 
-fn write_front(out: &[u8], n: usize) -> bool
+// Writes the first n bytes, and answers whether the run goes on. After a write that failed nothing
+// more is written, so that what came out is never without its middle.
+fn write_front(out: &[u8], n: usize, going: bool) -> bool
     requires { ⌜ n ≤ length (now out) ⌝ }
 {
+    if !going {
+        return false;
+    }
     io::write_all(STDOUT_FILENO, &out[0..n])
 }
 
@@ -82,12 +87,12 @@ fn flush(run: Run, out: &[u8; 65536]) -> Run
 {
     let used = run.used;
     let card = run.card;
-    let done = write_front(out, used);
+    let going = write_front(out, used, run.going);
     Run {
         card: card,
         len: run.len,
         used: 0,
-        going: run.going & done,
+        going: going,
     }
 }
 
@@ -118,7 +123,8 @@ fn enter_at(
     console::enter(card, &line[0..len], store, &mut out[used..])
 }
 
-// A line has ended.
+// A line has ended. `console::enter` gives the length of what it prints by a definition and not by a
+// bound, so `least` is what shows that the sum stays within the output.
 fn enter(run: Run, line: &[u8; 96], store: &mut [u8; 276], out: &mut [u8; 65536]) -> Run
     requires { ⌜ run .len ≤ 96 ⌝ }
     requires { ⌜ run .used ≤ 65536 ⌝ }
