@@ -1,7 +1,7 @@
 // Stored runs of plrun: for each, its name and then what plrun prints for it.
 //
 // `pair-a` and `pair-b` differ only in which ticks are quick, so that what they print differs only
-// in woken sets and their counts.
+// in woken sets and their counts. The wirings that end in `.lines` are those of the folder examples.
 fn replay(path: &[u8]) {
     let input = os::open_read(path);
     if input < 0 {
@@ -23,4 +23,14 @@ fn main() {
     replay(b"session-6.in");
     replay(b"pair-a.in");
     replay(b"pair-b.in");
+    replay(b"clock.lines");
+    replay(b"n-pulses.lines");
+    replay(b"pass-n-m.lines");
+    replay(b"after-fall.lines");
+    replay(b"during-acquisition.lines");
+    replay(b"two-colours.lines");
+    replay(b"light-sheet.lines");
+    replay(b"conditional-pulse.lines");
+    replay(b"counter.lines");
+    replay(b"readout.lines");
 }
