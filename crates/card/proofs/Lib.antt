@@ -4,6 +4,7 @@ pub mod EditLaws
 pub mod Fields
 pub mod PresetLaws
 pub mod PresetRows
+pub mod Quiet
 pub mod Records
 pub mod Settings
 pub mod Sleep

@@ -45,7 +45,7 @@ mixed-same i below other others j same = go (decLt j i)
         rw (le-ltb j i g)
 
 -- a reader in position i sees of this tick's outputs only those of cells below i
-view-same : (n i below other others levels : ℕ) → ((j : ℕ) → j < i → bitAt below j ≡ bitAt other j)
+pub view-same : (n i below other others levels : ℕ) → ((j : ℕ) → j < i → bitAt below j ≡ bitAt other j)
     → view n i below others levels ≡ view n i other others levels
 unfolding view
 view-same n i below other others levels same = λ k b. levelAt n (λ j. mixed-same i below other others j same k) (bitAt levels) b

@@ -3,20 +3,21 @@ use Prim.Native.Nat.{ℕ, zero, suc, _+_, _-_, _*_, _/_, _%_, _^_, _≤_, _<_}
 use mathlib.Core.Path.{_≡_, refl, sym, ap, ap₂, _∙_}
 use mathlib.Core.Bool.{Bool, true, false, not, _&&_, _||_, Bool·beq, cond, and-false}
 use mathlib.Core.Logic.{⊎-elim}
-use mathlib.Core.List.{List}
+use mathlib.Core.List.{List, [], _∷_}
 use native.Mathlib.Nat.{add-zero, mod-lt, lt-of-le-of-lt, lt-of-lt-of-le}
 use native.Mathlib.Numerals.{one-add}
 use native.Mathlib.Decide.{decLt}
 use native.Mathlib.Omega.{arith}
 use lib.Dec.{leb, ltb, eqb, lit<}
-use lib.Bits.{bitAnd, bitXor, xor-lt, and-lt, and-le-l}
+use lib.Bits.{bitAnd, bitOr, bitXor, xor-lt, and-lt, and-le-l}
 use lib.ListN.{getD}
 use lib.Pow.{ones-lt, pow-mono}
-use borrow.Author.Tests.{lt-ltb, le-ltb, le-leb, lt-leb, ltb-true, leb-true}
+use borrow.Author.Tests.{eq-eqb, ne-eqb, lt-ltb, le-ltb, le-leb, lt-leb, ltb-true, leb-true}
 use Rattle.words.specs.Bits.{bitAt, wordOf}
-use Rattle.words.proofs.Laws.{bit-zero, bit-above, bit-ones, bit-low, bit-high, bit-and, bit-xor, bit-built, built-same, built-of-bits}
-use Rattle.cells.specs.declared.table.Slots.{Slots}
+use Rattle.words.proofs.Laws.{bit-zero, bit-above, bit-ones, bit-low, bit-high, bit-and, bit-or, bit-xor, bit-built, built-same, built-of-bits}
+use Rattle.cells.specs.Work.{placeOf, slotsOf}
 use Rattle.cells.proofs.Rows.{and-left, and-right}
+use Rattle.cells.proofs.Packed.{slots-place}
 use Rattle.card.specs.Address.{connectorCount, firstConnector, among, levelAt, baseOf, readsLevels, reads, slotsRead, mixed, view}
 
 -- ---- the word of a view
@@ -134,62 +135,87 @@ view-word n i below others levels w hn hb ho hl e =
 
 -- ---- reading an address
 
--- the four readings of a level now and before
-as-level : (n b : Bool) → (not (Bool·beq n false) && (not false || not (Bool·beq n b))) ≡ n
-as-level true b = refl
-as-level false b = refl
+-- the four words that the code reads addresses from
+abbrev pub all : ℕ
+all = 18446744073709551615
 
-as-inverse : (n b : Bool) → (not (Bool·beq n true) && (not false || not (Bool·beq n b))) ≡ not n
-as-inverse true b = refl
-as-inverse false b = refl
+abbrev pub quarterWords : ℕ → ℕ → List ℕ
+quarterWords n b = n ∷ bitXor n all ∷ bitAnd n (bitXor b all) ∷ bitOr (bitAnd (bitXor n all) b) 1 ∷ []
 
-as-rise : (n b : Bool) → (not (Bool·beq n false) && (not true || not (Bool·beq n b))) ≡ (n && not b)
-as-rise true true = refl
-as-rise true false = refl
-as-rise false b = refl
+flip-true : (b : Bool) → not (Bool·beq b true) ≡ not b
+flip-true true = refl
+flip-true false = refl
 
-as-fall : (n b : Bool) → (not (Bool·beq n true) && (not true || not (Bool·beq n b))) ≡ (not n && b)
-as-fall true b = refl
-as-fall false true = refl
-as-fall false false = refl
+or-false : (b : Bool) → (b || false) ≡ b
+or-false true = refl
+or-false false = refl
 
--- inverted in every second quarter, an edge from 128 on
-abbrev pub formula : ℕ → Bool → Bool → Bool
-formula a n b = not (Bool·beq n (eqb (a / 64 % 2) 1)) && (not (leb 128 a) || not (Bool·beq n b))
+or-true : (b : Bool) → (b || true) ≡ true
+or-true true = refl
+or-true false = refl
 
-formula-reads : (a : ℕ) (n b : Bool) → a < 256 → formula a n b ≡ readsLevels a n b
-unfolding readsLevels
-formula-reads a n b h = level (decLt a 64)
+flipped : (w i : ℕ) → i < 64 → bitAt (bitXor w all) i ≡ not (bitAt w i)
+flipped w i h = bit-xor w all i ∙ ap (λ (x : Bool). not (Bool·beq (bitAt w i) x)) (bit-ones 64 i h) ∙ flip-true (bitAt w i)
+
+rose : (n b i : ℕ) → i < 64 → bitAt (bitAnd n (bitXor b all)) i ≡ (bitAt n i && not (bitAt b i))
+rose n b i h = bit-and n (bitXor b all) i ∙ ap (λ (x : Bool). bitAt n i && x) (flipped b i h)
+
+fell : (n b i : ℕ) → i < 64 → bitAt (bitAnd (bitXor n all) b) i ≡ (not (bitAt n i) && bitAt b i)
+fell n b i h = bit-and (bitXor n all) b i ∙ ap (λ (x : Bool). x && bitAt b i) (flipped n i h)
+
+-- an address reads its base in the word of its quarter
+pub quarter-reads : (n b a : ℕ) → a < 256 → bitAt (getD (quarterWords n b) (a / 64) 0) (a % 64) ≡ reads (bitAt n) (bitAt b) a
+unfolding reads readsLevels bitAt
+quarter-reads n b a h = level (decLt a 64)
   where
-    fall : Dec (a < 192) → 128 ≤ a → formula a n b ≡ readsLevels a n b
-    fall (yes k) g =
-        let q : a / 64 % 2 ≡ 0 = omega arith in
-        rw (q, le-leb 128 a g, le-ltb a 64 (omega arith), le-ltb a 128 g, lt-ltb a 192 k) (as-rise n b)
-    fall (no k) g =
-        let q : a / 64 % 2 ≡ 1 = omega arith in
-        rw (q, le-leb 128 a g, le-ltb a 64 (omega arith), le-ltb a 128 g, le-ltb a 192 (omega arith)) (as-fall n b)
+    i : ℕ
+    i = a % 64
 
-    inverse : Dec (a < 128) → 64 ≤ a → formula a n b ≡ readsLevels a n b
+    below : i < 64
+    below = mod-lt a (lit< tt)
+
+    last : Dec (192 < a) → 192 ≤ a → bitAt (bitOr (bitAnd (bitXor n all) b) 1) i ≡ reads (bitAt n) (bitAt b) a
+    last (yes k) g =
+        let z : 1 ≤ i = omega arith in
+        let e : a ≡ 192 → ⊥ = omega arith in
+        rw (ne-eqb a 192 e, le-ltb a 64 (omega arith), le-ltb a 128 (omega arith), le-ltb a 192 g)
+        (bit-or (bitAnd (bitXor n all) b) 1 i ∙ ap (λ (x : Bool). bitAt (bitAnd (bitXor n all) b) i || x) (bit-above 1 1 i (omega arith) z) ∙ or-false (bitAt (bitAnd (bitXor n all) b) i) ∙ fell n b i below)
+    last (no k) g =
+        let e : a ≡ 192 = omega arith in
+        let z : i ≡ 0 = omega arith in
+        rw (eq-eqb a 192 e) (bit-or (bitAnd (bitXor n all) b) 1 i ∙ ap (λ (k : ℕ). bitAt (bitAnd (bitXor n all) b) i || bitAt 1 k) z ∙ or-true (bitAt (bitAnd (bitXor n all) b) i))
+
+    fall : Dec (a < 192) → 128 ≤ a → bitAt (getD (quarterWords n b) (a / 64) 0) i ≡ reads (bitAt n) (bitAt b) a
+    fall (yes k) g =
+        let q : a / 64 ≡ 2 = omega arith in
+        let e : a ≡ 192 → ⊥ = omega arith in
+        rw (q, ne-eqb a 192 e, le-ltb a 64 (omega arith), le-ltb a 128 g, lt-ltb a 192 k) (rose n b i below)
+    fall (no k) g =
+        let q : a / 64 ≡ 3 = omega arith in
+        rw q (last (decLt 192 a) (omega arith))
+
+    inverse : Dec (a < 128) → 64 ≤ a → bitAt (getD (quarterWords n b) (a / 64) 0) i ≡ reads (bitAt n) (bitAt b) a
     inverse (yes k) g =
-        let q : a / 64 % 2 ≡ 1 = omega arith in
-        rw (q, lt-leb 128 a k, le-ltb a 64 g, lt-ltb a 128 k) (as-inverse n b)
+        let q : a / 64 ≡ 1 = omega arith in
+        let e : a ≡ 192 → ⊥ = omega arith in
+        rw (q, ne-eqb a 192 e, le-ltb a 64 g, lt-ltb a 128 k) (flipped n i below)
     inverse (no k) g = fall (decLt a 192) (omega arith)
 
-    level : Dec (a < 64) → formula a n b ≡ readsLevels a n b
+    level : Dec (a < 64) → bitAt (getD (quarterWords n b) (a / 64) 0) i ≡ reads (bitAt n) (bitAt b) a
     level (yes k) =
-        let q : a / 64 % 2 ≡ 0 = omega arith in
-        rw (q, lt-leb 128 a (omega arith), lt-ltb a 64 k) (as-level n b)
+        let q : a / 64 ≡ 0 = omega arith in
+        let e : a ≡ 192 → ⊥ = omega arith in
+        rw (q, ne-eqb a 192 e, lt-ltb a 64 k)
     level (no k) = inverse (decLt a 128) (omega arith)
 
-or-cond : (t b : Bool) → (t || b) ≡ cond t true b
-or-cond true b = refl
-or-cond false b = refl
-
-pub formula-is : (now before : ℕ → Bool) (a : ℕ) → a < 256
-    → (eqb a 192 || formula a (now (baseOf a)) (before (baseOf a))) ≡ reads now before a
-unfolding reads
-formula-is now before a h =
-    or-cond (eqb a 192) _ ∙ ap (cond (eqb a 192) true) (formula-reads a (now (baseOf a)) (before (baseOf a)) h)
+-- so the bit that the code picks is what the address reads
+pub picked : (f g : ℕ → Bool) (q : List ℕ) (a k i : ℕ) (r : Bool) → ((a : ℕ) → a < 256 → bitAt (getD q (a / 64) 0) (a % 64) ≡ reads f g a)
+    → (k ≡ a / 64) × (k < 4) → i ≡ a % 64 → r ≡ bitAt (getD q k 0) i → r ≡ reads f g a
+picked f g q a k i r law hk hi hr =
+    let quarter = hk .0 in
+    let four = hk .1 in
+    let h : a < 256 = omega (arith, quarter, four) in
+    hr ∙ ap₂ (λ (x y : ℕ). bitAt (getD q x 0) y) quarter hi ∙ law a h
 
 -- an address looks at one base below 64, so the word of a view reads as the view
 pub reads-built : (f g : ℕ → Bool) (a : ℕ) → reads (bitAt (wordOf f 64)) (bitAt (wordOf g 64)) a ≡ reads f g a
@@ -202,10 +228,11 @@ pub slots-built : (f g : ℕ → Bool) (s : List ℕ) → slotsRead (bitAt (word
 unfolding slotsRead
 slots-built f g s = rw (reads-built f g (getD s 0 0), reads-built f g (getD s 1 0), reads-built f g (getD s 2 0), reads-built f g (getD s 3 0))
 
--- what the code reads by two words of views is what the views read
-pub read-as : (f g : ℕ → Bool) (a b : ℕ) (s : List ℕ) (r : Slots) → a ≡ wordOf f 64 → b ≡ wordOf g 64 → r ≡ slotsRead (bitAt a) (bitAt b) s
-    → r ≡ slotsRead f g s
-read-as f g a b s r ea eb er = er ∙ ap₂ (λ (x y : ℕ). slotsRead (bitAt x) (bitAt y) s) ea eb ∙ slots-built f g s
+-- what the code reads by two words of views, packed, is what the views read
+pub read-as : (f g : ℕ → Bool) (a b : ℕ) (s : List ℕ) (p : ℕ) → a ≡ wordOf f 64 → b ≡ wordOf g 64 → p ≡ placeOf (slotsRead (bitAt a) (bitAt b) s)
+    → slotsOf p ≡ slotsRead f g s
+read-as f g a b s p ea eb ep =
+    ap slotsOf ep ∙ slots-place (slotsRead (bitAt a) (bitAt b) s) ∙ ap₂ (λ (x y : ℕ). slotsRead (bitAt x) (bitAt y) s) ea eb ∙ slots-built f g s
 
 -- ---- a base among some
 

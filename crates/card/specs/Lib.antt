@@ -3,6 +3,7 @@ pub mod Address
 pub mod Connectors
 pub mod Fresh
 pub mod Tick
+pub mod Quiet
 pub mod Valid
 pub mod Edits
 pub mod Presets

@@ -1,10 +1,14 @@
 // Ticks: full and quick.
-ghost use mathlib.Core.Bool.{true, false};
+ghost use mathlib.Core.Bool.{true, false, _||_};
 ghost use mathlib.Core.Path.{_≡_};
 ghost use Prim.Native.Nat.{_<_};
-ghost use Rattle.card.specs.Address.{cellCount};
+ghost use Rattle.words.specs.Bits.{bitAt};
+ghost use Rattle.cells.specs.Wake.{stirred, wakes};
+ghost use Rattle.cells.specs.Work.{slotsOf};
+ghost use Rattle.card.specs.Address.{cellCount, slotsRead};
+ghost use Rattle.card.specs.Quiet.{steadyWires, AllRest, sleptAll};
 ghost use Rattle.card.specs.Tick;
-ghost use Rattle.card.specs.Tick.{workedTurn, turnAt, turned, ticked};
+ghost use Rattle.card.specs.Tick.{workedTurn, readLast, turnAt, turned, ticked};
 use crate::card::Card;
 use crate::card::Connector;
 use crate::connectors::Lines;
@@ -13,7 +17,6 @@ use crate::view::readings;
 use crate::view::sees;
 use cells::cell::Cell;
 use cells::cell::Worked;
-use cells::table::Slots;
 
 // What the readers of a tick see besides its own outputs: the levels of this tick, of the last one that ran (2) and of the one before (3), and
 // the cell words of the last three ticks that ran.
@@ -56,9 +59,9 @@ pub struct Ticked {
     pub answer: Answer,
 }
 
-// A cell that is worked out with its readings.
-fn worked_turn(cell: Cell, now: Slots) -> Turn
-    ensures { λ t. ⌜ t ≡ workedTurn cell now ⌝ }
+// A cell that is worked out with its readings, packed.
+fn worked_turn(cell: Cell, now: u32) -> Turn
+    ensures { λ t. ⌜ t ≡ workedTurn cell (slotsOf now) ⌝ }
 {
     let w = cells::work::work(cell.kind, cell.config, cell.state, now);
     let s = w.state;
@@ -71,25 +74,37 @@ fn worked_turn(cell: Cell, now: Slots) -> Turn
     }
 }
 
+// Whether cell i is worked out: in a full tick, or because the rules name it.
+fn is_worked(full: bool, cell: Cell, i: u32, edited: u16, w: Wires, now: u32) -> bool
+    requires { ⌜ i < 64 ⌝ }
+    ensures { λ q. ⌜ q ≡ (full || wakes (cell .kind) (cell .state) (bitAt edited i) (slotsOf now) (readLast cellCount i w (cell .slots))) ⌝ }
+{
+    if full {
+        return true;
+    }
+    let slots = cell.slots;
+    let view = sees(i, w.outputs, w.outputs2, w.levels2);
+    let before = sees(i, w.outputs2, w.outputs3, w.levels3);
+    let last = readings(slots, view, before);
+    cells::wake::wakes(
+        cell.kind,
+        cell.state,
+        words::bit(edited as u64, i),
+        now,
+        last,
+    )
+}
+
 // The turn of cell i, below which this tick's outputs are known.
 fn turn_at(full: bool, cell: Cell, i: u32, edited: u16, w: Wires, below: u16) -> Turn
     requires { ⌜ i < 64 ⌝ }
     ensures { λ t. ⌜ t ≡ turnAt cellCount full cell i edited w below ⌝ }
 {
     let slots = cell.slots;
+    let view = sees(i, below, w.outputs, w.levels);
     let before = sees(i, w.outputs, w.outputs2, w.levels2);
-    let now = readings(slots, sees(i, below, w.outputs, w.levels), before);
-    if full {
-        return worked_turn(cell, now);
-    }
-    let last = readings(slots, before, sees(i, w.outputs2, w.outputs3, w.levels3));
-    if cells::wake::wakes(
-        cell.kind,
-        cell.state,
-        words::bit(edited as u64, i),
-        now,
-        last,
-    ) {
+    let now = readings(slots, view, before);
+    if is_worked(full, cell, i, edited, w, now) {
         worked_turn(cell, now)
     } else {
         Turn {
@@ -101,7 +116,7 @@ fn turn_at(full: bool, cell: Cell, i: u32, edited: u16, w: Wires, below: u16) ->
 }
 
 // The turns of all cells, in order.
-fn turn_all(full: bool, cells: [Cell; 16], edited: u16, w: Wires) -> Turned
+fn turn_each(full: bool, cells: [Cell; 16], edited: u16, w: Wires) -> Turned
     ensures { λ t. ⌜ t ≡ turned cellCount full cells edited w ⌝ }
 {
     let mut next = cells;
@@ -120,6 +135,69 @@ fn turn_all(full: bool, cells: [Cell; 16], edited: u16, w: Wires) -> Turned
         outputs: outputs,
         woken: woken,
     }
+}
+
+// ---- the quiet way of a quick tick
+//
+// While no cell is edited and every word is what it was in the last two ticks, all readers see one view, level slots read as they did, and a cell
+// sleeps unless an edge slot of it is high all the same.
+
+// Whether a cell sleeps under a view that does not change.
+fn rests(cell: Cell, view: u64) -> bool
+    ensures { λ q. ⌜ (q ≡ true → stirred (cell .kind) (cell .state) (slotsRead (bitAt view) (bitAt view) (cell .slots)) ≡ false) ⌝ }
+{
+    if !cells::wake::has_edges(cell.kind) {
+        return true;
+    }
+    let slots = cell.slots;
+    let now = readings(slots, view, view);
+    !cells::wake::stirred(cell.kind, cell.state, now)
+}
+
+fn all_rest(cells: [Cell; 16], view: u64) -> bool
+    ensures { λ q. ⌜ (q ≡ true → AllRest cellCount (bitAt view) cells) ⌝ }
+{
+    for i in 0..16usize {
+        if !rests(cells[i], view) {
+            return false;
+        }
+    }
+    true
+}
+
+// Whether no word has changed in the last two ticks.
+fn unchanged(w: Wires) -> bool
+    ensures { λ q. ⌜ (q ≡ true → w ≡ steadyWires (w .outputs) (w .levels)) ⌝ }
+{
+    ((w.outputs2 == w.outputs) & (w.outputs3 == w.outputs))
+        & ((w.levels2 == w.levels) & (w.levels3 == w.levels))
+}
+
+// Whether a tick leaves every cell as it is. It may say no where a closer look would say yes.
+fn is_quiet(full: bool, cells: [Cell; 16], edited: u16, w: Wires) -> bool
+    ensures { λ q. ⌜ (q ≡ true → turned cellCount full cells edited w ≡ sleptAll cells (w .outputs)) ⌝ }
+{
+    if full | (edited != 0) {
+        return false;
+    }
+    if !unchanged(w) {
+        return false;
+    }
+    all_rest(cells, sees(0, w.outputs, w.outputs, w.levels))
+}
+
+// What a tick makes of all cells.
+fn turn_all(full: bool, cells: [Cell; 16], edited: u16, w: Wires) -> Turned
+    ensures { λ t. ⌜ t ≡ turned cellCount full cells edited w ⌝ }
+{
+    if is_quiet(full, cells, edited, w) {
+        return Turned {
+            cells: cells,
+            outputs: w.outputs,
+            woken: 0,
+        };
+    }
+    turn_each(full, cells, edited, w)
 }
 
 // A tick that runs.

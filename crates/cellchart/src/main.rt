@@ -10,6 +10,7 @@ use cells::cell::State;
 use cells::cell::Worked;
 use cells::table::Row;
 use cells::table::Slots;
+use cells::table::packed;
 
 // Of both timers.
 const DURATION: u16 = 2;
@@ -128,7 +129,7 @@ fn put_step(r: Slots, w: Worked) {
 fn step(kind: u8, s: State, r: Slots) -> State
     ensures { λ t. ⌜ t ≡ workOut kind duration s r .state ⌝ }
 {
-    let w = cells::work::work(kind, DURATION, s, r);
+    let w = cells::work::work(kind, DURATION, s, packed(r.x, r.y, r.z, r.f));
     put_step(r, w);
     w.state
 }

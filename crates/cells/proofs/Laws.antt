@@ -10,9 +10,9 @@ use Rattle.cells.specs.declared.table.Row.{Row}
 use Rattle.cells.specs.declared.table.Class.{Class}
 use Rattle.cells.specs.declared.table.Class.the-variants.{Nothing, Constant, Lookup, And2, Or2, Xor2, And4, Or4, DFlop, SyncDFlop, ClearDFlop, Jk, OneShot, Delay}
 use Rattle.cells.specs.declared.cell.State.{State}
-use Rattle.cells.specs.Table.{rowOf, masked, levelSlots, slots}
+use Rattle.cells.specs.Table.{rowOf, masked, levelSlots, slots, no-slot}
 use Rattle.cells.specs.Work.{constantOut, trigger, taken, nextCount, nextPulse, countAfter, pulseAfter, keeping, holding, counting, shown, workAs, workOut}
-use Rattle.cells.specs.Wake.{timerStirred, stirredAs, stirred, differ, disagreeOn, disagree, wakes}
+use Rattle.cells.specs.Wake.{timerStirred, stirredAs, stirred, NeverStirred, differ, disagreeOn, disagree, wakes}
 use Rattle.cells.proofs.Rows.{and-left, and-right, every-row}
 
 pub or-left : (a b : Bool) → (a || b) ≡ false → a ≡ false
@@ -22,6 +22,14 @@ or-left false b e = refl
 pub or-right : (a b : Bool) → (a || b) ≡ false → b ≡ false
 or-right true b e = absurd (true≢false e)
 or-right false b e = e
+
+pub not-false : (b : Bool) → not b ≡ false → b ≡ true
+not-false true e = refl
+not-false false e = absurd (true≢false e)
+
+pub not-true : (b : Bool) → not b ≡ true → b ≡ false
+not-true true e = absurd (false≢true e)
+not-true false e = refl
 
 -- ---- why a cell may sleep
 
@@ -188,6 +196,55 @@ again kind config s last now d h =
     again-as (rowOf kind .class) config s (rowOf kind .edge) (masked (rowOf kind .used) last) (masked (rowOf kind .used) now) (rows-fit kind)
     (same (rowOf kind) last now d) h
 
+-- ---- what nothing stirs
+
+-- gates and constants
+stillClass : Class → Bool
+stillClass Nothing = true
+stillClass Constant = true
+stillClass Lookup = true
+stillClass And2 = true
+stillClass Or2 = true
+stillClass Xor2 = true
+stillClass And4 = true
+stillClass Or4 = true
+stillClass DFlop = false
+stillClass SyncDFlop = false
+stillClass ClearDFlop = false
+stillClass Jk = false
+stillClass (OneShot t) = false
+stillClass (Delay t) = false
+
+still-as : (k : Class) (s : State) (r : Slots) → stillClass k ≡ true → stirredAs k s r ≡ false
+unfolding stillClass stirredAs
+still-as Nothing s r h = refl
+still-as Constant s r h = refl
+still-as Lookup s r h = refl
+still-as And2 s r h = refl
+still-as Or2 s r h = refl
+still-as Xor2 s r h = refl
+still-as And4 s r h = refl
+still-as Or4 s r h = refl
+still-as DFlop s r h = absurd (false≢true h)
+still-as SyncDFlop s r h = absurd (false≢true h)
+still-as ClearDFlop s r h = absurd (false≢true h)
+still-as Jk s r h = absurd (false≢true h)
+still-as (OneShot t) s r h = absurd (false≢true h)
+still-as (Delay t) s r h = absurd (false≢true h)
+
+edged : Slots → Bool
+edged e = (e .x || e .y) || (e .z || e .f)
+
+rowStill : Row → Bool
+rowStill w = edged (w .edge) || stillClass (w .class)
+
+-- a type without edge slots is one of them
+pub edgeless-still : (kind : ℕ) → rowOf kind .edge ≡ no-slot → NeverStirred kind
+unfolding NeverStirred stirred rowStill edged stillClass
+edgeless-still kind e s r =
+    let still = ap (λ (edge : Slots). edged edge || stillClass (rowOf kind .class)) (sym e) ∙ every-row rowStill refl kind in
+    still-as (rowOf kind .class) s (masked (rowOf kind .used) r) still
+
 -- ---- when a cell wakes
 
 -- a cell sleeps exactly where it is not edited, nothing stirs it and no level slot disagrees
@@ -203,7 +260,18 @@ pub wakes-splits : (kind : ℕ) (s : State) (edited : Bool) (now last : Slots)
 unfolding wakes
 wakes-splits kind s edited now last = refl
 
--- agreement on the level slots goes both ways, and from one reading to the next
+-- a reading agrees with itself; agreement on the level slots goes both ways, and from one reading to the next
+
+differ-self : (s a : Bool) → differ s a a ≡ false
+differ-self false a = refl
+differ-self true true = refl
+differ-self true false = refl
+
+pub disagree-self : (kind : ℕ) (a : Slots) → disagree kind a a ≡ false
+unfolding disagree
+disagree-self kind a =
+    let l = levelSlots (rowOf kind) in
+    rw (differ-self (l .x) (a .x), differ-self (l .y) (a .y), differ-self (l .z) (a .z), differ-self (l .f) (a .f))
 
 differ-sym : (s a b : Bool) → differ s a b ≡ differ s b a
 differ-sym false a b = refl

@@ -1,5 +1,6 @@
 -- Document 01, "Who wakes": whether a quick tick works out a cell.
 use Prim.Native.Nat.{ℕ}
+use mathlib.Core.Path.{_≡_}
 use mathlib.Core.Bool.{Bool, false, not, _&&_, _||_, Bool·beq}
 use lib.Dec.{ltb}
 use Rattle.cells.specs.declared.table.Slots.{Slots}
@@ -32,6 +33,10 @@ stirredAs (Delay t) s r = timerStirred s r
 
 unfoldable pub stirred : ℕ → State → Slots → Bool
 stirred kind s r = stirredAs (rowOf kind .class) s (masked (rowOf kind .used) r)
+
+-- nothing stirs a cell of the type
+unfoldable pub NeverStirred : ℕ → Type 0
+NeverStirred kind = (s : State) (r : Slots) → stirred kind s r ≡ false
 
 -- in a slot of the set the two readings have other values
 abbrev pub differ : Bool → Bool → Bool → Bool

@@ -10,7 +10,7 @@ use Rattle.cells.specs.declared.table.Class.the-variants.{Nothing, Const
 use Rattle.cells.specs.declared.cell.State.{State}
 use Rattle.cells.specs.declared.cell.Worked.{Worked}
 use Rattle.cells.specs.declared.cell.Pulses.{Pulses}
-use Rattle.cells.specs.Table.{rowOf, masked}
+use Rattle.cells.specs.Table.{slots, rowOf, masked}
 
 -- a number of pulses
 abbrev pub pulses : ℕ → Pulses
@@ -23,6 +23,10 @@ constantOut config = not (eqb config 0)
 -- "p = X + 2Y + 4Z + 8F over the slots used"
 abbrev pub placeOf : Slots → ℕ
 placeOf r = bitNumber (r .x) + 2 * bitNumber (r .y) + 4 * bitNumber (r .z) + 8 * bitNumber (r .f)
+
+-- and back: four bits as slots, X lowest. The code holds readings and sets of slots so
+unfoldable pub slotsOf : ℕ → Slots
+slotsOf p = slots (bitAt p 0) (bitAt p 1) (bitAt p 2) (bitAt p 3)
 
 -- "the answer is bit number p of the code"
 abbrev pub lookupOut : ℕ → Slots → Bool

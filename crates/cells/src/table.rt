@@ -1,7 +1,9 @@
 // The constant table by cell type.
 ghost use mathlib.Core.Path.{_≡_};
-ghost use Rattle.cells.specs.Table;
-ghost use Rattle.cells.specs.Table.{rowOf, levelSlots};
+ghost use Prim.Native.Nat.{_<_, _≤_};
+ghost use Rattle.words.specs.Bits.{bitNumber};
+ghost use Rattle.cells.specs.Table.{slots, rowOf, levelSlots};
+ghost use Rattle.cells.specs.Work.{placeOf, slotsOf};
 
 // One bit for each input slot: the readings of the four, or a set of them.
 #[repr(C)]
@@ -47,252 +49,248 @@ pub struct Row {
     pub kept: Kept,
 }
 
-const NONE: Slots = Slots {
-    x: false,
-    y: false,
-    z: false,
-    f: false,
-};
+// Sets of slots, packed: X 1, Y 2, Z 4, F 8. The readings of the four slots are packed in the same way.
+const NONE: u8 = 0;
 
-const XY: Slots = Slots {
-    x: true,
-    y: true,
-    z: false,
-    f: false,
-};
+const XY: u8 = 3;
 
-const XYZ: Slots = Slots {
-    x: true,
-    y: true,
-    z: true,
-    f: false,
-};
+const XYZ: u8 = 7;
 
-const XYZF: Slots = Slots {
-    x: true,
-    y: true,
-    z: true,
-    f: true,
-};
+const XYZF: u8 = 15;
 
-const Y: Slots = Slots {
-    x: false,
-    y: true,
-    z: false,
-    f: false,
-};
+const ONLY_Y: u8 = 2;
 
-const Z: Slots = Slots {
-    x: false,
-    y: false,
-    z: true,
-    f: false,
-};
+const ONLY_Z: u8 = 4;
 
-const XYF: Slots = Slots {
-    x: true,
-    y: true,
-    z: false,
-    f: true,
-};
+const XYF: u8 = 11;
 
-// By type number.
-const TABLE: [Row; 19] = [
-    Row {
-        used: NONE,
-        edge: NONE,
-        configured: true,
-        largest: 65535,
-        class: Class::Constant,
-        kept: Kept::Stateless,
-    },
-    Row {
-        used: XYZF,
-        edge: Y,
-        configured: false,
-        largest: 0,
-        class: Class::DFlop,
-        kept: Kept::Bit,
-    },
-    Row {
-        used: XY,
-        edge: NONE,
-        configured: true,
-        largest: 15,
-        class: Class::Lookup,
-        kept: Kept::Stateless,
-    },
-    Row {
-        used: XYZ,
-        edge: NONE,
-        configured: true,
-        largest: 255,
-        class: Class::Lookup,
-        kept: Kept::Stateless,
-    },
-    Row {
-        used: XYZF,
-        edge: NONE,
-        configured: true,
-        largest: 65535,
-        class: Class::Lookup,
-        kept: Kept::Stateless,
-    },
-    Row {
-        used: XY,
-        edge: NONE,
-        configured: false,
-        largest: 0,
-        class: Class::And2,
-        kept: Kept::Stateless,
-    },
-    Row {
-        used: XY,
-        edge: NONE,
-        configured: false,
-        largest: 0,
-        class: Class::Or2,
-        kept: Kept::Stateless,
-    },
-    Row {
-        used: XY,
-        edge: NONE,
-        configured: false,
-        largest: 0,
-        class: Class::Xor2,
-        kept: Kept::Stateless,
-    },
-    Row {
-        used: XYZ,
-        edge: XY,
-        configured: true,
-        largest: 65535,
-        class: Class::OneShot(true),
-        kept: Kept::Count,
-    },
-    Row {
-        used: XYZ,
-        edge: XY,
-        configured: true,
-        largest: 65535,
-        class: Class::Delay(true),
-        kept: Kept::Count,
-    },
-    Row {
-        used: XYZF,
-        edge: NONE,
-        configured: false,
-        largest: 0,
-        class: Class::And4,
-        kept: Kept::Stateless,
-    },
-    Row {
-        used: XYZF,
-        edge: NONE,
-        configured: false,
-        largest: 0,
-        class: Class::Or4,
-        kept: Kept::Stateless,
-    },
-    Row {
-        used: XYZF,
-        edge: Y,
-        configured: false,
-        largest: 0,
-        class: Class::SyncDFlop,
-        kept: Kept::Bit,
-    },
-    Row {
-        used: XYZ,
-        edge: Z,
-        configured: false,
-        largest: 0,
-        class: Class::Jk,
-        kept: Kept::Bit,
-    },
-    Row {
-        used: XYZ,
-        edge: XY,
-        configured: true,
-        largest: 65535,
-        class: Class::OneShot(false),
-        kept: Kept::Count,
-    },
-    Row {
-        used: XYZ,
-        edge: XY,
-        configured: true,
-        largest: 65535,
-        class: Class::Delay(false),
-        kept: Kept::Count,
-    },
-    Row {
-        used: XYZF,
-        edge: XYF,
-        configured: true,
-        largest: 65535,
-        class: Class::OneShot(false),
-        kept: Kept::Count,
-    },
-    Row {
-        used: XYZF,
-        edge: XYF,
-        configured: true,
-        largest: 65535,
-        class: Class::Delay(false),
-        kept: Kept::Count,
-    },
-    Row {
-        used: XYZF,
-        edge: Y,
-        configured: false,
-        largest: 0,
-        class: Class::ClearDFlop,
-        kept: Kept::Bit,
-    },
+// The table is kept by columns, each by type number. A constant is made anew wherever it is read, and a tick reads some columns for every cell.
+
+// The slots used.
+const USED: [u8; 19] = [
+    NONE,
+    XYZF,
+    XY,
+    XYZ,
+    XYZF,
+    XY,
+    XY,
+    XY,
+    XYZ,
+    XYZ,
+    XYZF,
+    XYZF,
+    XYZF,
+    XYZ,
+    XYZ,
+    XYZ,
+    XYZF,
+    XYZF,
+    XYZF,
 ];
 
-// A number past the table is no cell type: such a cell has no slots and does nothing.
+// The edge slots.
+const EDGE: [u8; 19] = [
+    NONE,
+    ONLY_Y,
+    NONE,
+    NONE,
+    NONE,
+    NONE,
+    NONE,
+    NONE,
+    XY,
+    XY,
+    NONE,
+    NONE,
+    ONLY_Y,
+    ONLY_Z,
+    XY,
+    XY,
+    XYF,
+    XYF,
+    ONLY_Y,
+];
+
+// The largest configuration, 0 where there is none.
+const LARGEST: [u16; 19] = [
+    65535,
+    0,
+    15,
+    255,
+    65535,
+    0,
+    0,
+    0,
+    65535,
+    65535,
+    0,
+    0,
+    0,
+    0,
+    65535,
+    65535,
+    65535,
+    65535,
+    0,
+];
+
+// Whether there is a configuration.
+const CONFIGURED: [bool; 19] = [
+    true,
+    false,
+    true,
+    true,
+    true,
+    false,
+    false,
+    false,
+    true,
+    true,
+    false,
+    false,
+    false,
+    false,
+    true,
+    true,
+    true,
+    true,
+    false,
+];
+
+// What is kept between ticks.
+const KEPT: [Kept; 19] = [
+    Kept::Stateless,
+    Kept::Bit,
+    Kept::Stateless,
+    Kept::Stateless,
+    Kept::Stateless,
+    Kept::Stateless,
+    Kept::Stateless,
+    Kept::Stateless,
+    Kept::Count,
+    Kept::Count,
+    Kept::Stateless,
+    Kept::Stateless,
+    Kept::Bit,
+    Kept::Bit,
+    Kept::Count,
+    Kept::Count,
+    Kept::Count,
+    Kept::Count,
+    Kept::Bit,
+];
+
+fn number(b: bool) -> u32
+    ensures { λ n. ⌜ (n ≡ bitNumber b) × (n ≤ 1) ⌝ }
+{
+    if b { 1 } else { 0 }
+}
+
+// Four readings, packed.
+pub fn packed(x: bool, y: bool, z: bool, f: bool) -> u32
+    ensures { λ p. ⌜ (p ≡ placeOf (slots x y z f)) × (p < 16) ⌝ }
+{
+    number(x) + 2 * number(y) + 4 * number(z) + 8 * number(f)
+}
+
+// The slots of a packed set, or packed readings.
+pub fn unpacked(p: u32) -> Slots
+    ensures { λ s. ⌜ s ≡ slotsOf p ⌝ }
+{
+    let w = p as u64;
+    Slots {
+        x: words::bit(w, 0),
+        y: words::bit(w, 1),
+        z: words::bit(w, 2),
+        f: words::bit(w, 3),
+    }
+}
+
+// What a type does. A number past the table is no cell type: such a cell does nothing.
+pub fn class_of(kind: u8) -> Class
+    ensures { λ k. ⌜ k ≡ rowOf kind .class ⌝ }
+{
+    match kind {
+        0 => Class::Constant,
+        1 => Class::DFlop,
+        2 => Class::Lookup,
+        3 => Class::Lookup,
+        4 => Class::Lookup,
+        5 => Class::And2,
+        6 => Class::Or2,
+        7 => Class::Xor2,
+        8 => Class::OneShot(true),
+        9 => Class::Delay(true),
+        10 => Class::And4,
+        11 => Class::Or4,
+        12 => Class::SyncDFlop,
+        13 => Class::Jk,
+        14 => Class::OneShot(false),
+        15 => Class::Delay(false),
+        16 => Class::OneShot(false),
+        17 => Class::Delay(false),
+        18 => Class::ClearDFlop,
+        _ => Class::Nothing,
+    }
+}
+
+fn wide(b: u8) -> u32
+    ensures { λ n. ⌜ n ≡ b ⌝ }
+{
+    b as u32
+}
+
+// The slots that a type uses, packed; past the table none.
+pub fn used_of(kind: u8) -> u32
+    ensures { λ u. ⌜ (slotsOf u ≡ rowOf kind .used) × (u < 16) ⌝ }
+{
+    let n = kind as usize;
+    if n < 19 { wide(USED[n]) } else { 0 }
+}
+
+// Its edge slots, packed.
+pub fn edge_of(kind: u8) -> u32
+    ensures { λ e. ⌜ slotsOf e ≡ rowOf kind .edge ⌝ }
+{
+    let n = kind as usize;
+    if n < 19 { wide(EDGE[n]) } else { 0 }
+}
+
+// The whole row of a type.
 pub fn row_of(kind: u8) -> Row
     ensures { λ r. ⌜ r ≡ rowOf kind ⌝ }
 {
     let n = kind as usize;
+    let class = class_of(kind);
+    let used = unpacked(used_of(kind));
+    let edge = unpacked(edge_of(kind));
     if n < 19 {
-        TABLE[n]
+        let kept = KEPT[n];
+        Row {
+            used: used,
+            edge: edge,
+            configured: CONFIGURED[n],
+            largest: LARGEST[n],
+            class: class,
+            kept: kept,
+        }
     } else {
         Row {
-            used: NONE,
-            edge: NONE,
+            used: used,
+            edge: edge,
             configured: false,
             largest: 0,
-            class: Class::Nothing,
+            class: class,
             kept: Kept::Stateless,
         }
     }
 }
 
-// The readings of the slots of a set; the others read low.
-pub fn masked(set: Slots, r: Slots) -> Slots
-    ensures { λ m. ⌜ m ≡ Table.masked set r ⌝ }
+// The used slots of a type that are no edge slots, packed.
+pub fn level_slots(kind: u8) -> u32
+    ensures { λ m. ⌜ (slotsOf m ≡ levelSlots (rowOf kind)) × (m < 16) ⌝ }
 {
-    Slots {
-        x: set.x & r.x,
-        y: set.y & r.y,
-        z: set.z & r.z,
-        f: set.f & r.f,
-    }
-}
-
-// The used slots that are no edge slots.
-pub fn level_slots(row: Row) -> Slots
-    ensures { λ m. ⌜ m ≡ levelSlots row ⌝ }
-{
-    let used = row.used;
-    let edge = row.edge;
-    Slots {
-        x: used.x & !edge.x,
-        y: used.y & !edge.y,
-        z: used.z & !edge.z,
-        f: used.f & !edge.f,
-    }
+    let used = used_of(kind);
+    used & (edge_of(kind) ^ 15)
 }

@@ -1,13 +1,17 @@
 // Whether a quick tick works out a cell.
+ghost use mathlib.Core.Bool.{false};
 ghost use mathlib.Core.Path.{_≡_};
 ghost use Rattle.cells.specs.Wake;
-ghost use Rattle.cells.specs.Wake.{timerStirred, stirredAs, disagreeOn};
+ghost use Rattle.cells.specs.Wake.{timerStirred, stirredAs, NeverStirred};
+ghost use Rattle.cells.specs.Work.{slotsOf};
 use crate::cell::State;
 use crate::table::Class;
 use crate::table::Slots;
+use crate::table::class_of;
+use crate::table::edge_of;
 use crate::table::level_slots;
-use crate::table::masked;
-use crate::table::row_of;
+use crate::table::unpacked;
+use crate::table::used_of;
 
 // A timer's trigger, or its clock while there is something to count or to end.
 fn timer_stirred(s: State, r: Slots) -> bool
@@ -39,22 +43,31 @@ fn stirred_as(class: Class, s: State, r: Slots) -> bool
     }
 }
 
-// Whether two readings differ in some slot of the set.
-fn disagree_on(set: Slots, a: Slots, b: Slots) -> bool
-    ensures { λ q. ⌜ q ≡ disagreeOn set a b ⌝ }
+// Whether a cell of a type is stirred by what its slots read, packed.
+pub fn stirred(kind: u8, s: State, now: u32) -> bool
+    ensures { λ q. ⌜ q ≡ Wake.stirred kind s (slotsOf now) ⌝ }
 {
-    ((set.x & (a.x ^ b.x)) | (set.y & (a.y ^ b.y)))
-        | ((set.z & (a.z ^ b.z)) | (set.f & (a.f ^ b.f)))
+    stirred_as(class_of(kind), s, unpacked(used_of(kind) & now))
 }
 
-// Whether a cell of a type wakes, by what its slots read now and read in the last tick that ran.
-pub fn wakes(kind: u8, s: State, edited: bool, now: Slots, last: Slots) -> bool
-    ensures { λ q. ⌜ q ≡ Wake.wakes kind s edited now last ⌝ }
+// Whether a type has edge slots. One that has none is never stirred.
+pub fn has_edges(kind: u8) -> bool
+    ensures { λ q. ⌜ (q ≡ false → NeverStirred kind) ⌝ }
 {
-    let row = row_of(kind);
-    let class = row.class;
-    let used = row.used;
-    let stirred = stirred_as(class, s, masked(used, now));
-    let differs = disagree_on(level_slots(row), now, last);
-    edited | (stirred | differs)
+    edge_of(kind) != 0
+}
+
+// Whether two readings differ in a level slot of a type.
+fn disagree(kind: u8, now: u32, last: u32) -> bool
+    ensures { λ q. ⌜ q ≡ Wake.disagree kind (slotsOf now) (slotsOf last) ⌝ }
+{
+    let set = level_slots(kind);
+    set & (now ^ last) != 0
+}
+
+// Whether a cell of a type wakes, by what its slots read now and read in the last tick that ran, both packed.
+pub fn wakes(kind: u8, s: State, edited: bool, now: u32, last: u32) -> bool
+    ensures { λ q. ⌜ q ≡ Wake.wakes kind s edited (slotsOf now) (slotsOf last) ⌝ }
+{
+    edited | (stirred(kind, s, now) | disagree(kind, now, last))
 }

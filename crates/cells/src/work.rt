@@ -1,37 +1,23 @@
 // A cell worked out: one function for each class, and the one that picks among them.
 ghost use mathlib.Core.Path.{_≡_};
-ghost use Prim.Native.Nat.{_<_, _≤_};
-ghost use Rattle.words.specs.Bits.{bitNumber};
 ghost use Rattle.cells.specs.Work;
-ghost use Rattle.cells.specs.Work.{placeOf, lookupOut, dFlop, syncDFlop, clearDFlop, nextCount, nextPulse, pulses};
+ghost use Rattle.cells.specs.Work.{slotsOf, lookupOut, dFlop, syncDFlop, clearDFlop, nextCount, nextPulse, pulses};
 ghost use Rattle.cells.specs.Work.{keeping, holding, oneShot, workAs, workOut};
 use crate::cell::Pulses;
 use crate::cell::State;
 use crate::cell::Worked;
 use crate::table::Class;
 use crate::table::Slots;
-use crate::table::masked;
-use crate::table::row_of;
+use crate::table::class_of;
+use crate::table::packed;
+use crate::table::unpacked;
+use crate::table::used_of;
 
-// A reading as a number.
-fn number(b: bool) -> u32
-    ensures { λ n. ⌜ (n ≡ bitNumber b) × (n ≤ 1) ⌝ }
-{
-    if b { 1 } else { 0 }
-}
-
-// The place in the lookup code that the readings choose.
-fn place_of(r: Slots) -> u32
-    ensures { λ p. ⌜ (p ≡ placeOf r) × (p < 16) ⌝ }
-{
-    number(r.x) + 2 * number(r.y) + 4 * number(r.z) + 8 * number(r.f)
-}
-
-// The bit of the code at that place.
+// The bit of the code at the place that the readings choose.
 fn lookup(code: u16, r: Slots) -> bool
     ensures { λ q. ⌜ q ≡ lookupOut code r ⌝ }
 {
-    words::bit(code as u64, place_of(r))
+    words::bit(code as u64, packed(r.x, r.y, r.z, r.f))
 }
 
 fn d_flop(r: Slots, bit: bool) -> bool
@@ -204,12 +190,9 @@ fn work_as(class: Class, config: u16, s: State, r: Slots) -> Worked
     }
 }
 
-// A cell of a type worked out with the readings of its four slots.
-pub fn work(kind: u8, config: u16, s: State, r: Slots) -> Worked
-    ensures { λ w. ⌜ w ≡ workOut kind config s r ⌝ }
+// A cell of a type worked out with the readings of its four slots, packed. A slot that is not used reads low.
+pub fn work(kind: u8, config: u16, s: State, r: u32) -> Worked
+    ensures { λ w. ⌜ w ≡ workOut kind config s (slotsOf r) ⌝ }
 {
-    let row = row_of(kind);
-    let class = row.class;
-    let used = row.used;
-    work_as(class, config, s, masked(used, r))
+    work_as(class_of(kind), config, s, unpacked(used_of(kind) & r))
 }

@@ -1,29 +1,43 @@
+-- `card::view::read` meets its contract: the bit of the address's base, in the word of its quarter.
 use Rattle.words.specs.Bits.{bitAt}
-use Rattle.card.proofs.Views.{formula-is}
+use Rattle.card.proofs.Views.{picked}
 use borrow.Author.Needs.{needs}
 use Rattle.card.proofs.view.read.Statement.{statement}
 use Rattle.card.proofs.view.read.Tie as tie
-use Rattle.card.proofs.view.read.Reads as reads
-use Rattle.card.proofs.view.read.Lts as lts
-use Rattle.words.proofs.bit.Reads as bit-reads
 
--- src/view.rt:25:16
-cast-base : tie.Need-cast-base
-cast-base c = search needs
+quarters-requires : tie.Need-quarters-requires
+quarters-requires c κs = search needs
 
--- src/view.rt:26:9
+quarter-requires : tie.Need-quarter-requires
+quarter-requires c κs = search needs
+
+mul-bit : tie.Need-mul-bit
+mul-bit c = search needs
+
+array-read-bit : tie.Need-array-read-bit
+array-read-bit c = search needs
+
+base-requires : tie.Need-base-requires
+base-requires c κs = search needs
+
 bit-requires : tie.Need-bit-requires
 bit-requires c κs = search needs
 
--- src/view.rt:27:9
-bit-requires-2 : tie.Need-bit-requires-2
-bit-requires-2 c κs = search needs
-
--- src/view.rt:22:1
 returns : tie.Need-returns
 returns c =
-    let a = c .before .before .args in
-    rw (c .bit2 .ensures, c .before .bit .ensures) (formula-is (bitAt (a .now)) (bitAt (a .before)) (a .address) (search needs))
+    let q = c .before .before in
+    let a = q .before .before .args in
+    picked (bitAt (a .now)) (bitAt (a .before)) (q .before .quarters .result) (a .address) _ _ _ (q .before .quarters .ensures) (q .quarter .ensures) (c .before .base .ensures .0)
+    (c .bit .ensures)
 
 pub read-spec : {M : Type 1} → statement M
-read-spec = tie.close (tie.spec cast-base bit-requires bit-requires-2 returns)
+read-spec =
+    tie.close
+    (tie.spec
+    quarters-requires
+    quarter-requires
+    mul-bit
+    array-read-bit
+    base-requires
+    bit-requires
+    returns)

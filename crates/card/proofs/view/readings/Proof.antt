@@ -1,59 +1,158 @@
+-- `card::view::readings` meets its contract: each slot is picked as one address is, and the four are packed.
+use Prim.Native.Nat.{ℕ}
+use mathlib.Core.Path.{_≡_, ap, _∙_}
+use mathlib.Core.Bool.{Bool}
+use lib.ListN.{getD}
+use Rattle.words.specs.Bits.{bitAt}
+use Rattle.cells.specs.declared.table.Slots.{Slots}
 use Rattle.cells.specs.Table.{slots}
+use Rattle.cells.specs.Work.{placeOf}
 use Rattle.card.specs.Address.{slotsRead}
+use Rattle.card.proofs.Views.{picked}
 use borrow.Author.Needs.{needs}
 use Rattle.card.proofs.view.readings.Statement.{statement}
 use Rattle.card.proofs.view.readings.Tie as tie
-use Rattle.card.proofs.view.readings.Reads as reads
-use Rattle.card.proofs.view.readings.Lts as lts
-use Rattle.card.proofs.view.read.Reads as read-reads
 
--- src/view.rt:46:30
-array-read-read : tie.Need-array-read-read
-array-read-read c = search needs
+quarters-requires : tie.Need-quarters-requires
+quarters-requires c κs = search needs
 
--- src/view.rt:46:12
-read-requires : tie.Need-read-requires
-read-requires c κs = search needs
+array-read-quarter : tie.Need-array-read-quarter
+array-read-quarter c = search needs
 
--- src/view.rt:47:30
-array-read-read-2 : tie.Need-array-read-read-2
-array-read-read-2 c = search needs
+quarter-requires : tie.Need-quarter-requires
+quarter-requires c κs = search needs
 
--- src/view.rt:47:12
-read-requires-2 : tie.Need-read-requires-2
-read-requires-2 c κs = search needs
+mul-bit : tie.Need-mul-bit
+mul-bit c = search needs
 
--- src/view.rt:48:30
-array-read-read-3 : tie.Need-array-read-read-3
-array-read-read-3 c = search needs
+array-read-bit : tie.Need-array-read-bit
+array-read-bit c = search needs
 
--- src/view.rt:48:12
-read-requires-3 : tie.Need-read-requires-3
-read-requires-3 c κs = search needs
+array-read-base : tie.Need-array-read-base
+array-read-base c = search needs
 
--- src/view.rt:49:30
-array-read-read-4 : tie.Need-array-read-read-4
-array-read-read-4 c = search needs
+base-requires : tie.Need-base-requires
+base-requires c κs = search needs
 
--- src/view.rt:49:12
-read-requires-4 : tie.Need-read-requires-4
-read-requires-4 c κs = search needs
+bit-requires : tie.Need-bit-requires
+bit-requires c κs = search needs
 
--- src/view.rt:42:1
+array-read-quarter-2 : tie.Need-array-read-quarter-2
+array-read-quarter-2 c = search needs
+
+quarter-requires-2 : tie.Need-quarter-requires-2
+quarter-requires-2 c κs = search needs
+
+mul-bit-2 : tie.Need-mul-bit-2
+mul-bit-2 c = search needs
+
+array-read-bit-2 : tie.Need-array-read-bit-2
+array-read-bit-2 c = search needs
+
+array-read-base-2 : tie.Need-array-read-base-2
+array-read-base-2 c = search needs
+
+base-requires-2 : tie.Need-base-requires-2
+base-requires-2 c κs = search needs
+
+bit-requires-2 : tie.Need-bit-requires-2
+bit-requires-2 c κs = search needs
+
+array-read-quarter-3 : tie.Need-array-read-quarter-3
+array-read-quarter-3 c = search needs
+
+quarter-requires-3 : tie.Need-quarter-requires-3
+quarter-requires-3 c κs = search needs
+
+mul-bit-3 : tie.Need-mul-bit-3
+mul-bit-3 c = search needs
+
+array-read-bit-3 : tie.Need-array-read-bit-3
+array-read-bit-3 c = search needs
+
+array-read-base-3 : tie.Need-array-read-base-3
+array-read-base-3 c = search needs
+
+base-requires-3 : tie.Need-base-requires-3
+base-requires-3 c κs = search needs
+
+bit-requires-3 : tie.Need-bit-requires-3
+bit-requires-3 c κs = search needs
+
+array-read-quarter-4 : tie.Need-array-read-quarter-4
+array-read-quarter-4 c = search needs
+
+quarter-requires-4 : tie.Need-quarter-requires-4
+quarter-requires-4 c κs = search needs
+
+mul-bit-4 : tie.Need-mul-bit-4
+mul-bit-4 c = search needs
+
+array-read-bit-4 : tie.Need-array-read-bit-4
+array-read-bit-4 c = search needs
+
+array-read-base-4 : tie.Need-array-read-base-4
+array-read-base-4 c = search needs
+
+base-requires-4 : tie.Need-base-requires-4
+base-requires-4 c κs = search needs
+
+bit-requires-4 : tie.Need-bit-requires-4
+bit-requires-4 c κs = search needs
+
+packed-requires : tie.Need-packed-requires
+packed-requires c κs = search needs
+
 returns : tie.Need-returns
 unfolding slotsRead
-returns c = λ i. slots (c .before .before .before .read .ensures i) (c .before .before .read2 .ensures i) (c .before .read3 .ensures i) (c .read4 .ensures i)
+returns c =
+    let f = c .before in
+    let z = f .before .before .before in
+    let y = z .before .before .before in
+    let x = y .before .before .before in
+    let q = x .before .before .before in
+    let a = q .before .args in
+    let at = picked (bitAt (a .now)) (bitAt (a .before)) (q .quarters .result) in
+    let s = a .t1 in
+    let law = q .quarters .ensures in
+    let rx = at (getD s 0 0) _ _ _ law (x .before .before .quarter .ensures) (x .before .base .ensures .0) (x .bit .ensures) in
+    let ry = at (getD s 1 0) _ _ _ law (y .before .before .quarter2 .ensures) (y .before .base2 .ensures .0) (y .bit2 .ensures) in
+    let rz = at (getD s 2 0) _ _ _ law (z .before .before .quarter3 .ensures) (z .before .base3 .ensures .0) (z .bit3 .ensures) in
+    let rf = at (getD s 3 0) _ _ _ law (f .before .before .quarter4 .ensures) (f .before .base4 .ensures .0) (f .bit4 .ensures) in
+    c .packed .ensures .0 ∙ ap placeOf (λ j. slots (rx j) (ry j) (rz j) (rf j))
 
 pub readings-spec : {M : Type 1} → statement M
 readings-spec =
     tie.close
     (tie.spec
-    array-read-read
-    read-requires
-    array-read-read-2
-    read-requires-2
-    array-read-read-3
-    read-requires-3
-    array-read-read-4
-    read-requires-4
+    quarters-requires
+    array-read-quarter
+    quarter-requires
+    mul-bit
+    array-read-bit
+    array-read-base
+    base-requires
+    bit-requires
+    array-read-quarter-2
+    quarter-requires-2
+    mul-bit-2
+    array-read-bit-2
+    array-read-base-2
+    base-requires-2
+    bit-requires-2
+    array-read-quarter-3
+    quarter-requires-3
+    mul-bit-3
+    array-read-bit-3
+    array-read-base-3
+    base-requires-3
+    bit-requires-3
+    array-read-quarter-4
+    quarter-requires-4
+    mul-bit-4
+    array-read-bit-4
+    array-read-base-4
+    base-requires-4
+    bit-requires-4
+    packed-requires
     returns)

@@ -3,8 +3,8 @@ use borrow.Author.Needs.{needs}
 use Rattle.cells.proofs.work.lookup.Statement.{statement}
 use Rattle.cells.proofs.work.lookup.Tie as tie
 
-place-of-requires : tie.Need-place-of-requires
-place-of-requires c κs = search needs
+packed-requires : tie.Need-packed-requires
+packed-requires c κs = search needs
 
 bit-requires : tie.Need-bit-requires
 bit-requires c κs = search needs
@@ -13,4 +13,4 @@ returns : tie.Need-returns
 returns c = cc
 
 pub lookup-spec : {M : Type 1} → statement M
-lookup-spec = tie.close (tie.spec place-of-requires bit-requires returns)
+lookup-spec = tie.close (tie.spec packed-requires bit-requires returns)

@@ -1,21 +1,37 @@
--- `cells::work::work` meets its contract: the row's class works on the readings of the row's used slots.
-use Rattle.cells.specs.Work.{workOut}
+-- `cells::work::work` meets its contract: the class and the used slots are those of the type's row.
+use mathlib.Core.Path.{ap, ap₂, _∙_}
+use Rattle.cells.specs.declared.table.Slots.{Slots}
+use Rattle.cells.specs.declared.table.Class.{Class}
+use Rattle.cells.specs.Table.{masked}
+use Rattle.cells.specs.Work.{slotsOf, workAs, workOut}
+use Rattle.cells.proofs.Packed.{slots-and}
 use borrow.Author.Needs.{needs}
 use Rattle.cells.proofs.work.work.Statement.{statement}
 use Rattle.cells.proofs.work.work.Tie as tie
 
-row-of-requires : tie.Need-row-of-requires
-row-of-requires c κs = search needs
+class-of-requires : tie.Need-class-of-requires
+class-of-requires c κs = search needs
 
-masked-requires : tie.Need-masked-requires
-masked-requires c κs = search needs
+used-of-requires : tie.Need-used-of-requires
+used-of-requires c κs = search needs
+
+unpacked-requires : tie.Need-unpacked-requires
+unpacked-requires c κs = search needs
 
 work-as-requires : tie.Need-work-as-requires
 work-as-requires c κs = search needs
 
 returns : tie.Need-returns
 unfolding workOut
-returns c = rw (c .work-as .ensures, c .before .masked .ensures, c .before .before .before .row-of .ensures)
+returns c =
+    let p = c .before in
+    let a = p .before .before .before .args in
+    let used = p .before .used-of in
+    c .work-as .ensures
+    ∙ ap₂ (λ (k : Class) (r : Slots). workAs k (a .config) (a .s) r) (p .before .before .class-of .ensures)
+    (p .unpacked .ensures ∙ slots-and (used .result) (a .r) ∙ ap (λ (u : Slots). masked u (slotsOf (a .r))) (used .ensures .0))
 
 pub work-spec : {M : Type 1} → statement M
-work-spec = tie.close (tie.spec row-of-requires masked-requires work-as-requires returns)
+work-spec =
+    tie.close
+    (tie.spec class-of-requires used-of-requires unpacked-requires work-as-requires returns)

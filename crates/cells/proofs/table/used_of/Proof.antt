@@ -1,0 +1,32 @@
+-- `cells::table::used_of` meets its contract: the code's column is, entry by entry, what document 01's table gives, packed, which antt computes;
+-- past it the number has no row.
+use mathlib.Core.Path.{sym, ap, _∙_}
+use native.Mathlib.Omega.{arith}
+use borrow.Author.Needs.{needs}
+use Rattle.words.specs.Listed.{listed}
+use Rattle.words.proofs.Listed.{listed-at}
+use Rattle.cells.specs.declared.table.Row.{Row}
+use Rattle.cells.specs.Table.{rowOf, typeCount}
+use Rattle.cells.specs.Work.{placeOf}
+use Rattle.cells.proofs.Rows.{past-table}
+use Rattle.cells.proofs.Packed.{column, slots-none}
+use Rattle.cells.proofs.table.used_of.Statement.{statement}
+use Rattle.cells.proofs.table.used_of.Tie as tie
+
+array-read-wide : tie.Need-array-read-wide
+array-read-wide c = search needs
+
+wide-requires : tie.Need-wide-requires
+wide-requires c κs = search needs
+
+returns : tie.Need-returns
+unfolding listed rowOf
+returns c =
+    let n = c .before .before .args .kind in
+    column (rowOf n .used) _ (c .wide .ensures ∙ listed-at (λ k. placeOf (rowOf k .used)) typeCount n 0 (search needs))
+
+returns-2 : tie.Need-returns-2
+returns-2 c = (slots-none ∙ sym (ap (λ (r : Row). r .used) (past-table (c .before .args .kind) (search needs))), omega arith)
+
+pub used-of-spec : {M : Type 1} → statement M
+used-of-spec = tie.close (tie.spec array-read-wide wide-requires returns returns-2)

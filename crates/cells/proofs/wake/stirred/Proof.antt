@@ -1,0 +1,38 @@
+-- `cells::wake::stirred` meets its contract: the class and the used slots are those of the type's row.
+use mathlib.Core.Path.{ap, ap₂, _∙_}
+use Rattle.cells.specs.declared.table.Slots.{Slots}
+use Rattle.cells.specs.declared.table.Class.{Class}
+use Rattle.cells.specs.Table.{masked}
+use Rattle.cells.specs.Work.{slotsOf}
+use Rattle.cells.specs.Wake.{stirredAs, stirred}
+use Rattle.cells.proofs.Packed.{slots-and}
+use borrow.Author.Needs.{needs}
+use Rattle.cells.proofs.wake.stirred.Statement.{statement}
+use Rattle.cells.proofs.wake.stirred.Tie as tie
+
+class-of-requires : tie.Need-class-of-requires
+class-of-requires c κs = search needs
+
+used-of-requires : tie.Need-used-of-requires
+used-of-requires c κs = search needs
+
+unpacked-requires : tie.Need-unpacked-requires
+unpacked-requires c κs = search needs
+
+stirred-as-requires : tie.Need-stirred-as-requires
+stirred-as-requires c κs = search needs
+
+returns : tie.Need-returns
+unfolding stirred
+returns c =
+    let p = c .before in
+    let a = p .before .before .before .args in
+    let used = p .before .used-of in
+    c .stirred-as .ensures
+    ∙ ap₂ (λ (k : Class) (r : Slots). stirredAs k (a .s) r) (p .before .before .class-of .ensures)
+    (p .unpacked .ensures ∙ slots-and (used .result) (a .now) ∙ ap (λ (u : Slots). masked u (slotsOf (a .now))) (used .ensures .0))
+
+pub stirred-spec : {M : Type 1} → statement M
+stirred-spec =
+    tie.close
+    (tie.spec class-of-requires used-of-requires unpacked-requires stirred-as-requires returns)
