@@ -1,21 +1,25 @@
--- Laws of output made by stores, each behind the last, and of the tick line's digits.
+-- Laws of output made by stores, each behind the last, of its length, and of the tick line's digits.
 use Prim.Native.Nat.{ℕ, _+_, _-_, _^_, _≤_, _<_}
 use mathlib.Core.Path.{_≡_, refl, sym, ap, _∙_}
-use mathlib.Core.Bool.{Bool, true, _&&_}
-use mathlib.Core.List.{List, _++_, append-assoc}
+use mathlib.Core.Bool.{Bool, true, false, _&&_, cond}
+use mathlib.Core.List.{List, [], _∷_, _++_, append-assoc}
 use native.Mathlib.Nat.{zero-add}
 use native.Mathlib.Omega.{arith}
-use lib.ListN.{length, take, drop, length-append}
+use lib.Dec.{eqb, lit≤}
+use lib.ListN.{length, take, drop, length-append, length-take}
 use lib.Seq.{sets, sets-eq, take-append-seam}
-use Rattle.text.specs.Decimal.{maxDigits}
+use Rattle.text.specs.Decimal.{decimal, maxDigits}
 use Rattle.card.specs.declared.card.Card.{Card}
+use Rattle.card.specs.declared.tick.Answer.{Answer}
 use Rattle.card.specs.Address.{cellCount}
 use Rattle.card.specs.Tick.{tick}
 use Rattle.card.proofs.Counts.{tick-count}
 use Rattle.cells.proofs.Rows.{and-left, and-right}
 use Rattle.text.specs.Hex.{hex4}
+use Rattle.text.proofs.DecimalLaws.{decimal-length}
 use Rattle.text.proofs.HexLaws.{hex-length}
 use Rattle.text.proofs.DigitLaws.{sets-append}
+use Rattle.console.specs.Console.{ranText, idleText, tickText, loadText, plainReply, longestPrint}
 
 -- what stands at the front of a buffer so far, and where the next part goes
 pub record Stored (l a : List ℕ) (x : List ℕ) (at : ℕ) : Type 0 where
@@ -61,3 +65,32 @@ front l r n e h =
 -- the count of a tick is small enough to be printed
 pub count-small : (full : Bool) (c : Card) (code sample : ℕ) → tick cellCount full c code sample .answer .count < 10 ^ maxDigits
 count-small full c code sample = let b = tick-count cellCount full c code sample in omega arith
+
+-- ---- nothing printed is longer than the room that a line asks for
+
+pub within : {A : Type 0} {n at : ℕ} → A × (at ≡ n) → n ≤ longestPrint → A × ((at ≡ n) × (at ≤ longestPrint))
+within s h = (s .0, (s .1, omega (arith, s .1)))
+
+pub tick-short : (a : Answer) → a .count < 10 ^ maxDigits → length (tickText a) ≤ longestPrint
+unfolding tickText
+tick-short a h = go (a .ran)
+  where
+    go : (ran : Bool) → length (cond ran (ranText a) idleText) ≤ longestPrint
+    go true =
+        let d = decimal-length (a .count) maxDigits (lit≤ tt) h in
+        simp (length-append, hex-length) (omega arith)
+    go false = lit≤ tt
+
+pub load-short : (k : ℕ) → k < 10 ^ maxDigits → length (loadText k) ≤ longestPrint
+unfolding loadText
+load-short k h = go (eqb k 0)
+  where
+    go : (none : Bool) → length (cond none (58 ∷ 65 ∷ 10 ∷ []) ((58 ∷ 78 ∷ 45 ∷ []) ++ (decimal k ++ (10 ∷ [])))) ≤ longestPrint
+    go true = lit≤ tt
+    go false =
+        let d = decimal-length k maxDigits (lit≤ tt) h in
+        simp length-append (omega arith)
+
+pub plain-short : (r : List ℕ) → length r ≤ 16 → length (plainReply r) ≤ longestPrint
+unfolding plainReply
+plain-short r h = simp (length-append, length-take) (omega arith)

@@ -62,6 +62,10 @@ plainReply r = take (length r - 2) r ++ (10 ∷ [])
 
 -- ---- one line of input
 
+-- the room that a line asks for; nothing printed is longer
+abbrev pub longestPrint : ℕ
+longestPrint = 32
+
 abbrev pub ticked : Card → List ℕ → Ticked
 ticked c t = tick cellCount (tickLine t .full) c (tickLine t .code) (tickLine t .sample)
 

@@ -6,7 +6,7 @@ ghost use lib.ListN.{length};
 ghost use lib.Seq.{sets};
 ghost use Rattle.text.specs.Decimal.{isDigit, maxDigits};
 ghost use Rattle.text.specs.Hex.{hex4};
-ghost use Rattle.console.specs.Console.{tickLine, tickText, isLoadLine, loadText, plainReply, cardAfter, storeNext, printed};
+ghost use Rattle.console.specs.Console.{tickLine, tickText, isLoadLine, loadText, plainReply, longestPrint, cardAfter, storeNext, printed};
 ghost use Rattle.card.specs.Address.{cellCount};
 ghost use Rattle.card.specs.Tick.{tick};
 ghost use Rattle.lines.specs.Line.{shortestReply, lineOutcome, lineReply, storeAfter};
@@ -82,9 +82,11 @@ fn put_word(out: &mut [u8], at: usize, w: u16, byte: &[u8]) -> usize
 
 // What a tick prints.
 fn put_tick(out: &mut [u8], a: Answer) -> usize
-    requires { ⌜ 32 ≤ length (now out) ⌝ }
+    requires { ⌜ longestPrint ≤ length (now out) ⌝ }
     requires { ⌜ a .count < 10 ^ maxDigits ⌝ }
-    ensures { λ r. ⌜ (now (out .exit) ≡ sets (now (out .entry)) 0 (tickText a)) × (r ≡ length (tickText a)) ⌝ }
+    ensures { λ _. ⌜ now (out .exit) ≡ sets (now (out .entry)) 0 (tickText a) ⌝ }
+    ensures { λ r. ⌜ r ≡ length (tickText a) ⌝ }
+    ensures { λ r. ⌜ r ≤ longestPrint ⌝ }
 {
     if !a.ran {
         return text::copy(out, 0, b"T -\n");
@@ -99,8 +101,10 @@ fn put_tick(out: &mut [u8], a: Answer) -> usize
 
 // What a load prints.
 fn put_load(out: &mut [u8], k: u8) -> usize
-    requires { ⌜ 32 ≤ length (now out) ⌝ }
-    ensures { λ r. ⌜ (now (out .exit) ≡ sets (now (out .entry)) 0 (loadText k)) × (r ≡ length (loadText k)) ⌝ }
+    requires { ⌜ longestPrint ≤ length (now out) ⌝ }
+    ensures { λ _. ⌜ now (out .exit) ≡ sets (now (out .entry)) 0 (loadText k) ⌝ }
+    ensures { λ r. ⌜ r ≡ length (loadText k) ⌝ }
+    ensures { λ r. ⌜ r ≤ longestPrint ⌝ }
 {
     if k == 0 {
         return text::copy(out, 0, b":A\n");
@@ -119,8 +123,10 @@ fn without(n: usize, m: usize) -> usize
 // A reply of a line, with LF in place of CR LF.
 fn put_plain(out: &mut [u8], reply: &[u8]) -> usize
     requires { ⌜ length (now reply) ≤ 16 ⌝ }
-    requires { ⌜ 32 ≤ length (now out) ⌝ }
-    ensures { λ r. ⌜ (now (out .exit) ≡ sets (now (out .entry)) 0 (plainReply (now (reply .entry)))) × (r ≡ length (plainReply (now (reply .entry)))) ⌝ }
+    requires { ⌜ longestPrint ≤ length (now out) ⌝ }
+    ensures { λ _. ⌜ now (out .exit) ≡ sets (now (out .entry)) 0 (plainReply (now (reply .entry))) ⌝ }
+    ensures { λ r. ⌜ r ≡ length (plainReply (now (reply .entry))) ⌝ }
+    ensures { λ r. ⌜ r ≤ longestPrint ⌝ }
 {
     let n = without(reply.len(), 2);
     let end = text::copy(out, 0, &reply[0..n]);
@@ -149,11 +155,12 @@ fn do_tick(card: Card, t: TickLine) -> Ticked
 
 // A card line, with its reply in the place of the output.
 fn enter_line(card: Card, text: &[u8], store: &mut [u8], out: &mut [u8]) -> Entered
-    requires { ⌜ 32 ≤ length (now out) ⌝ }
+    requires { ⌜ longestPrint ≤ length (now out) ⌝ }
     ensures { λ r. ⌜ r .card ≡ lineOutcome cellCount card (now (text .entry)) shortestReply (length (now (store .entry))) .card ⌝ }
     ensures { λ r. ⌜ now (store .exit) ≡ storeAfter cellCount card (now (text .entry)) shortestReply (now (store .entry)) ⌝ }
     ensures { λ r. ⌜ now (out .exit) ≡ sets (now (out .entry)) 0 (plainReply (lineReply cellCount card (now (text .entry)) shortestReply (length (now (store .entry))))) ⌝ }
     ensures { λ r. ⌜ r .len ≡ length (plainReply (lineReply cellCount card (now (text .entry)) shortestReply (length (now (store .entry))))) ⌝ }
+    ensures { λ r. ⌜ r .len ≤ longestPrint ⌝ }
 {
     let mut reply = [0u8; 16];
     let a = lines::line::line(card, text, &mut reply, store);
@@ -168,11 +175,12 @@ fn enter_line(card: Card, text: &[u8], store: &mut [u8], out: &mut [u8]) -> Ente
 
 // One line of input.
 pub fn enter(card: Card, text: &[u8], store: &mut [u8], out: &mut [u8]) -> Entered
-    requires { ⌜ 32 ≤ length (now out) ⌝ }
+    requires { ⌜ longestPrint ≤ length (now out) ⌝ }
     ensures { λ r. ⌜ r .card ≡ cardAfter card (now (text .entry)) (now (store .entry)) ⌝ }
     ensures { λ r. ⌜ now (store .exit) ≡ storeNext card (now (text .entry)) (now (store .entry)) ⌝ }
     ensures { λ r. ⌜ now (out .exit) ≡ sets (now (out .entry)) 0 (printed card (now (text .entry)) (now (store .entry))) ⌝ }
     ensures { λ r. ⌜ r .len ≡ length (printed card (now (text .entry)) (now (store .entry))) ⌝ }
+    ensures { λ r. ⌜ r .len ≤ longestPrint ⌝ }
 {
     let t = tick_line(text);
     if t.ok {

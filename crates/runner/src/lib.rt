@@ -7,6 +7,7 @@ ghost use mathlib.Core.Path.{_≡_};
 ghost use Prim.Native.Nat.{ℕ, _≤_, _<_, _+_, _-_, min};
 ghost use lib.ListN.{length, take, getD};
 ghost use lib.Seq.{sets};
+ghost use Rattle.console.specs.Console.{longestPrint};
 use card::card::Card;
 use console::Entered;
 use libc::STDOUT_FILENO;
@@ -17,7 +18,7 @@ const BLOCK: usize = 65536;
 // More than the 80 bytes of the longest line, so that a longer one, cut to this, is still too long.
 const LONGEST: usize = 96;
 
-// The room that `console::enter` asks for. What one line prints is never longer.
+// `longestPrint`: the room that `console::enter` asks for, and no line prints more.
 const ROOM: usize = 32;
 
 // Between two bytes of the input.
@@ -100,7 +101,7 @@ fn flush(run: Run, out: &[u8; 65536]) -> Run
 fn make_room(run: Run, out: &[u8; 65536]) -> Run
     requires { ⌜ run .used ≤ 65536 ⌝ }
     ensures { λ r. ⌜ r .len ≡ run .len ⌝ }
-    ensures { λ r. ⌜ r .used + 32 ≤ 65536 ⌝ }
+    ensures { λ r. ⌜ r .used + longestPrint ≤ 65536 ⌝ }
 {
     if run.used <= BLOCK - ROOM {
         return run;
@@ -118,13 +119,13 @@ fn enter_at(
     used: usize,
 ) -> Entered
     requires { ⌜ len ≤ length (now line) ⌝ }
-    requires { ⌜ used + 32 ≤ length (now out) ⌝ }
+    requires { ⌜ used + longestPrint ≤ length (now out) ⌝ }
+    ensures { λ r. ⌜ r .len ≤ longestPrint ⌝ }
 {
     console::enter(card, &line[0..len], store, &mut out[used..])
 }
 
-// A line has ended. `console::enter` gives the length of what it prints by a definition and not by a
-// bound, so `least` is what shows that the sum stays within the output.
+// A line has ended.
 fn enter(run: Run, line: &[u8; 96], store: &mut [u8; 276], out: &mut [u8; 65536]) -> Run
     requires { ⌜ run .len ≤ 96 ⌝ }
     requires { ⌜ run .used ≤ 65536 ⌝ }
@@ -140,7 +141,7 @@ fn enter(run: Run, line: &[u8; 96], store: &mut [u8; 276], out: &mut [u8; 65536]
     Run {
         card: next,
         len: 0,
-        used: used + least(entered.len, ROOM),
+        used: used + entered.len,
         going: r.going,
     }
 }

@@ -32,7 +32,7 @@ returns c =
         refl,
         (
           c .before .before .put-tick .ensures .0 ∙ ap (λ (r : Ticked). sets out 0 (tickText (r .answer))) done,
-          c .before .before .put-tick .ensures .1 ∙ ap (λ (r : Ticked). length (tickText (r .answer))) done,
+          (c .before .before .put-tick .ensures .1 .0 ∙ ap (λ (r : Ticked). length (tickText (r .answer))) done, c .before .before .put-tick .ensures .1 .1),
         ),
       ),
     )
@@ -63,7 +63,7 @@ returns-2 c =
         refl,
         (
           c .before .before .put-load .ensures .0 ∙ ap (λ (n : ℕ). sets out 0 (loadText n)) k,
-          c .before .before .put-load .ensures .1 ∙ ap (λ (n : ℕ). length (loadText n)) k,
+          (c .before .before .put-load .ensures .1 .0 ∙ ap (λ (n : ℕ). length (loadText n)) k, c .before .before .put-load .ensures .1 .1),
         ),
       ),
     )

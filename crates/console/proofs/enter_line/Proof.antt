@@ -49,7 +49,7 @@ returns c =
         c .before .before .before .before .before .before .before .before .before .before .line .ensures .1 .1 .1 .1 .0,
         (
           c .before .before .put-plain .ensures .0 ∙ ap (λ (r : List ℕ). sets (a .out .now) 0 (plainReply r)) slice,
-          c .before .before .put-plain .ensures .1 ∙ ap (λ (r : List ℕ). length (plainReply r)) slice,
+          (c .before .before .put-plain .ensures .1 .0 ∙ ap (λ (r : List ℕ). length (plainReply r)) slice, c .before .before .put-plain .ensures .1 .1),
         ),
       ),
     )

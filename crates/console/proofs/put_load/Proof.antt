@@ -3,7 +3,7 @@ use mathlib.Core.Path.{_≡_, refl, sym, ap, _∙_}
 use mathlib.Core.List.{[], _∷_, _++_, append-assoc}
 use lib.ListN.{length, take}
 use lib.Seq.{sets}
-use Rattle.console.proofs.Chains.{Stored, next, three}
+use Rattle.console.proofs.Chains.{Stored, next, three, within, load-short}
 use native.Mathlib.Omega.{arith}
 use lib.Dec.{lit≤}
 use borrow.Author.Tests.{eq-eqb, ne-eqb}
@@ -25,7 +25,7 @@ same-length c = search needs
 
 returns : tie.Need-returns
 unfolding loadText
-returns c = rw (eq-eqb _ _ (c .before .before .before .before .before .if1 .taken)) (c .before .before .copy .ensures)
+returns c = within (rw (eq-eqb _ _ (c .before .before .before .before .before .if1 .taken)) (c .before .before .copy .ensures)) (load-short (c .before .before .before .before .before .before .before .args .k) (search needs))
 
 slice-aggregate-copy-2 : tie.Need-slice-aggregate-copy-2
 slice-aggregate-copy-2 c = search needs
@@ -52,7 +52,7 @@ returns-2 c =
     let s0 : Stored l _ (58 ∷ 78 ∷ 45 ∷ []) _ = record { bytes = c .before .before .before .before .before .before .before .before .before .before .before .copy2 .ensures .0; at-end = c .before .before .before .before .before .before .before .before .before .before .before .copy2 .ensures .1 } in
     let s1 = next l _ _ _ (decimal (c .before .before .before .before .before .before .before .before .before .before .before .before .before .before .before .before .args .k)) _ _ s0 (c .before .before .before .before .before .before .before .put-decimal .ensures .0) (c .before .before .before .before .before .before .before .put-decimal .ensures .1) in
     let s2 = next l _ _ _ (10 ∷ []) _ _ s1 (c .before .before .copy3 .ensures .0) (c .before .before .copy3 .ensures .1) in
-    rw (ne-eqb _ _ (c .before .before .before .before .before .before .before .before .before .before .before .before .before .before .if1 .left)) (three l _ (58 ∷ 78 ∷ 45 ∷ []) (decimal (c .before .before .before .before .before .before .before .before .before .before .before .before .before .before .before .before .args .k)) (10 ∷ []) _ s2)
+    within (rw (ne-eqb _ _ (c .before .before .before .before .before .before .before .before .before .before .before .before .before .before .if1 .left)) (three l _ (58 ∷ 78 ∷ 45 ∷ []) (decimal (c .before .before .before .before .before .before .before .before .before .before .before .before .before .before .before .before .args .k)) (10 ∷ []) _ s2)) (load-short (c .before .before .before .before .before .before .before .before .before .before .before .before .before .before .before .before .args .k) (search needs))
 
 pub put-load-spec : {M : Type 1} → statement M
 put-load-spec =

@@ -7,7 +7,7 @@ use native.Mathlib.Omega.{arith}
 use lib.ListN.{length, take}
 use lib.Seq.{sets}
 use Rattle.console.specs.Console.{plainReply}
-use Rattle.console.proofs.Chains.{Stored, next}
+use Rattle.console.proofs.Chains.{Stored, next, within, plain-short}
 use borrow.Author.Needs.{needs}
 use Rattle.console.proofs.put_plain.Statement.{statement}
 use Rattle.console.proofs.put_plain.Tie as tie
@@ -47,7 +47,7 @@ returns c =
       at-end = c .before .before .before .before .before .before .before .copy .ensures .1 ∙ zero-add _ ∙ ap (λ (n : ℕ). length (take n r)) whole;
     } in
     let s1 = next l _ _ _ (10 ∷ []) _ _ s0 (c .before .before .copy2 .ensures .0) (c .before .before .copy2 .ensures .1) in
-    (s1 .bytes, s1 .at-end)
+    within (s1 .bytes, s1 .at-end) (plain-short r (search needs))
 
 pub put-plain-spec : {M : Type 1} → statement M
 put-plain-spec =

@@ -10,7 +10,7 @@ use borrow.Author.Tests.{not-true, not-false}
 use Rattle.text.specs.Decimal.{decimal, maxDigits}
 use Rattle.text.specs.Hex.{hex4}
 use Rattle.text.proofs.DecimalLaws.{decimal-length}
-use Rattle.console.proofs.Chains.{Stored, next, six, word-length}
+use Rattle.console.proofs.Chains.{Stored, next, six, word-length, within, tick-short}
 use Rattle.console.specs.Console.{word, tickText}
 use borrow.Author.Needs.{needs}
 use Rattle.console.proofs.put_tick.Statement.{statement}
@@ -27,7 +27,9 @@ same-length c = search needs
 
 returns : tie.Need-returns
 unfolding tickText
-returns c = rw (not-true (c .before .before .before .before .before .before .before .before .args .a .ran) (c .before .before .before .before .before .if1 .taken)) (c .before .before .copy .ensures)
+returns c =
+    let a = c .before .before .before .before .before .before .before .before .args .a in
+    within (rw (not-true (a .ran) (c .before .before .before .before .before .if1 .taken)) (c .before .before .copy .ensures)) (tick-short a (search needs))
 
 slice-aggregate-copy-2 : tie.Need-slice-aggregate-copy-2
 slice-aggregate-copy-2 c = search needs
@@ -76,7 +78,7 @@ returns-2 c =
     let s3 = next l _ _ _ (hex4 (a .woken) ++ (32 ∷ [])) _ _ s2 (c .before .before .before .before .before .before .before .before .before .before .before .put-word3 .ensures .0) (c .before .before .before .before .before .before .before .before .before .before .before .put-word3 .ensures .1 ∙ ap (λ (k : ℕ). c .before .before .before .before .before .before .before .before .before .before .before .before .before .before .before .before .put-word2 .result + k) (sym (word-length (a .woken) (32 ∷ []) refl))) in
     let s4 = next l _ _ _ (decimal (a .count)) _ _ s3 (c .before .before .before .before .before .before .before .put-decimal .ensures .0) (c .before .before .before .before .before .before .before .put-decimal .ensures .1) in
     let s5 = next l _ _ _ (10 ∷ []) _ _ s4 (c .before .before .copy3 .ensures .0) (c .before .before .copy3 .ensures .1) in
-    rw (not-false (c .before .before .before .before .before .before .before .before .before .before .before .before .before .before .before .before .before .before .before .before .before .before .before .before .before .before .before .before .before .before .before .before .args .a .ran) (c .before .before .before .before .before .before .before .before .before .before .before .before .before .before .before .before .before .before .before .before .before .before .before .before .before .before .before .before .before .if1 .left)) (six l _ (84 ∷ 32 ∷ []) (word (a .driven)) (word (a .cells)) (word (a .woken)) (decimal (a .count)) (10 ∷ []) _ s5)
+    within (rw (not-false (c .before .before .before .before .before .before .before .before .before .before .before .before .before .before .before .before .before .before .before .before .before .before .before .before .before .before .before .before .before .before .before .before .args .a .ran) (c .before .before .before .before .before .before .before .before .before .before .before .before .before .before .before .before .before .before .before .before .before .before .before .before .before .before .before .before .before .if1 .left)) (six l _ (84 ∷ 32 ∷ []) (word (a .driven)) (word (a .cells)) (word (a .woken)) (decimal (a .count)) (10 ∷ []) _ s5)) (tick-short a (c .before .before .before .before .before .before .before .before .before .before .before .before .before .before .before .before .before .before .before .before .before .before .before .before .before .before .before .before .before .before .before .before .pre .1))
 
 pub put-tick-spec : {M : Type 1} → statement M
 put-tick-spec =
