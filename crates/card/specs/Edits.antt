@@ -24,27 +24,11 @@ use Rattle.card.specs.Valid.{frontTrigger}
 
 -- ---- parts of the card, replaced
 
-abbrev pub withPointer : Card → ℕ → Card
-withPointer c p =
+-- all that a line can replace
+abbrev pub withParts : Card → ℕ → ℕ → List Cell → List Connector → ℕ → Card
+withParts c pointer trigger cells connectors edited =
     record {
-      pointer = p;
-      trigger = c .trigger;
-      cells = c .cells;
-      connectors = c .connectors;
-      edited = c .edited;
-      driven = c .driven;
-      outputs = c .outputs;
-      outputs2 = c .outputs2;
-      outputs3 = c .outputs3;
-      levels = c .levels;
-      levels2 = c .levels2;
-    }
-
--- the settings and states, with the cells that are now edited; nothing else of the card
-abbrev pub withSettings : Card → ℕ → List Cell → List Connector → ℕ → Card
-withSettings c trigger cells connectors edited =
-    record {
-      pointer = c .pointer;
+      pointer = pointer;
       trigger = trigger;
       cells = cells;
       connectors = connectors;
@@ -56,6 +40,13 @@ withSettings c trigger cells connectors edited =
       levels = c .levels;
       levels2 = c .levels2;
     }
+
+abbrev pub withPointer : Card → ℕ → Card
+withPointer c p = withParts c p (c .trigger) (c .cells) (c .connectors) (c .edited)
+
+-- the settings and states, with the cells that are now edited; nothing else of the card
+abbrev pub withSettings : Card → ℕ → List Cell → List Connector → ℕ → Card
+withSettings c trigger cells connectors edited = withParts c (c .pointer) trigger cells connectors edited
 
 -- the card with the cell at index i replaced, and edited
 abbrev pub withCell : Card → ℕ → Cell → Card

@@ -29,7 +29,26 @@ pub struct Card {
     pub levels2: u16,
 }
 
-// A card as it powers up.
+// A card that powers up with settings: all else is fresh.
+pub fn started(trigger: u8, cells: [Cell; 16], connectors: [Connector; 16], edited: u16) -> Card
+    ensures { λ c. ⌜ c ≡ Fresh.started trigger cells connectors edited ⌝ }
+{
+    Card {
+        pointer: 1,
+        trigger: trigger,
+        cells: cells,
+        connectors: connectors,
+        edited: edited,
+        driven: 0,
+        outputs: 0,
+        outputs2: 0,
+        outputs3: 0,
+        levels: 0,
+        levels2: 0,
+    }
+}
+
+// A card as it first powers up.
 pub fn fresh() -> Card
     ensures { λ c. ⌜ c ≡ Fresh.fresh ⌝ }
 {
@@ -45,34 +64,23 @@ pub fn fresh() -> Card
     };
     let front = Connector { kind: 2, source: 0 };
     let back = Connector { kind: 0, source: 0 };
-    Card {
-        pointer: 1,
-        trigger: 0,
-        cells: [cell; 16],
-        connectors: [
-            front,
-            front,
-            front,
-            front,
-            front,
-            front,
-            front,
-            front,
-            back,
-            back,
-            back,
-            back,
-            back,
-            back,
-            back,
-            back,
-        ],
-        edited: 0,
-        driven: 0,
-        outputs: 0,
-        outputs2: 0,
-        outputs3: 0,
-        levels: 0,
-        levels2: 0,
-    }
+    let connectors = [
+        front,
+        front,
+        front,
+        front,
+        front,
+        front,
+        front,
+        front,
+        back,
+        back,
+        back,
+        back,
+        back,
+        back,
+        back,
+        back,
+    ];
+    started(0, [cell; 16], connectors, 0)
 }

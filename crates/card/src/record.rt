@@ -8,9 +8,10 @@ ghost use lib.Seq.{sets};
 ghost use Rattle.card.specs.Address.{cellCount, connectorCount};
 ghost use Rattle.card.specs.Record.{configWidth, cellLength, connectorLength, triggerLength, recordLength};
 ghost use Rattle.card.specs.Record.{cellField, connectorField, fieldsFrom, encode, sameBytes};
-ghost use Rattle.card.specs.Record.{cellIn, connectorIn, cellsIn, connectorsIn, loadNumber, poweredUp, loaded, savedTo};
+ghost use Rattle.card.specs.Record.{cellIn, connectorIn, cellsIn, connectorsIn, loadNumber, loaded, savedTo};
 use crate::card::Card;
 use crate::card::Connector;
+use crate::card::started;
 use crate::valid::valid_settings;
 use cells::cell::Cell;
 use cells::cell::Pulses;
@@ -180,26 +181,7 @@ fn same(a: &[u8], b: &[u8]) -> bool
 
 // ---- load and save
 
-// A card that powers up with settings: all else is fresh, and every cell counts as edited.
-fn powered_up(trigger: u8, cells: [Cell; 16], connectors: [Connector; 16]) -> Card
-    ensures { λ r. ⌜ r ≡ poweredUp cellCount trigger cells connectors ⌝ }
-{
-    Card {
-        pointer: 1,
-        trigger: trigger,
-        cells: cells,
-        connectors: connectors,
-        edited: 65535,
-        driven: 0,
-        outputs: 0,
-        outputs2: 0,
-        outputs3: 0,
-        levels: 0,
-        levels2: 0,
-    }
-}
-
-// A load of any bytes. A refused one leaves the card as it was.
+// A load of any bytes. The card powers up with them, and every cell counts as edited; a refused load leaves it as it was.
 pub fn load(card: Card, bytes: &[u8]) -> Loaded
     ensures { λ r. ⌜ r .card ≡ loaded cellCount configWidth card (now (bytes .entry)) ⌝ }
     ensures { λ r. ⌜ r .k ≡ loadNumber cellCount configWidth (now (bytes .entry)) ⌝ }
@@ -214,7 +196,7 @@ pub fn load(card: Card, bytes: &[u8]) -> Loaded
     if !same(&again, bytes) {
         return Loaded { card: card, k: 14 };
     }
-    let next = powered_up(trigger, cells, connectors);
+    let next = started(trigger, cells, connectors, 65535);
     if !valid_settings(trigger, cells, connectors) {
         return Loaded { card: card, k: 15 };
     }

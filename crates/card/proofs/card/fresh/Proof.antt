@@ -1,14 +1,15 @@
-use mathlib.Core.Path.{refl}
+-- `card::card::fresh` meets its contract: a card that powers up with the fresh settings.
+use borrow.Author.Needs.{needs}
 use Rattle.card.specs.Fresh
 use Rattle.card.proofs.card.fresh.Statement.{statement}
 use Rattle.card.proofs.card.fresh.Tie as tie
-use Rattle.card.proofs.card.fresh.Reads as reads
-use Rattle.card.proofs.card.fresh.Lts as lts
 
--- src/card.rt:31:1
+started-requires : tie.Need-started-requires
+started-requires c κs = search needs
+
 returns : tie.Need-returns
 unfolding Fresh.fresh
-returns c = refl
+returns c = c .started .ensures
 
 pub fresh-spec : {M : Type 1} → statement M
-fresh-spec = tie.close (tie.spec returns)
+fresh-spec = tie.close (tie.spec started-requires returns)

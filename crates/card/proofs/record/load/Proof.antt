@@ -54,8 +54,8 @@ returns-2 c =
     let n : loadNumber cellCount configWidth (a .bytes .now) ≡ 14 = number (c .before .before .before) ∙ rw (← c .before .same .ensures, differ) in
     (sym (load-refused cellCount configWidth (a .card) (a .bytes .now) (ap (λ (k : ℕ). eqb k 0) n)), sym n)
 
-powered-up-requires : tie.Need-powered-up-requires
-powered-up-requires c κs = search needs
+started-requires : tie.Need-started-requires
+started-requires c κs = search needs
 
 valid-settings-requires : tie.Need-valid-settings-requires
 valid-settings-requires c κs = search needs
@@ -74,7 +74,7 @@ returns-4 c =
     let alike : c .before .before .before .before .same .result ≡ true = not-false _ (c .before .before .before .if2 .left) in
     let good : c .before .valid-settings .result ≡ true = not-false _ (c .if3 .left) in
     let n : loadNumber cellCount configWidth (a .bytes .now) ≡ 0 = number (c .before .before .before .before .before .before) ∙ rw (← c .before .before .before .before .same .ensures, alike, ← c .before .valid-settings .ensures, good) in
-    (c .before .before .powered-up .ensures ∙ sym (loaded-from cellCount configWidth (a .bytes .now) (triggerIn (a .bytes .now)) _ _ refl (sym (c .before .before .before .before .before .before .before .before .cells-in .ensures)) (sym (c .before .before .before .before .before .before .before .connectors-in .ensures)) (a .card) n), sym n)
+    (c .before .before .started .ensures ∙ sym (loaded-from cellCount configWidth (a .bytes .now) (triggerIn (a .bytes .now)) _ _ refl (sym (c .before .before .before .before .before .before .before .before .cells-in .ensures)) (sym (c .before .before .before .before .before .before .before .connectors-in .ensures)) (a .card) n), sym n)
 
 pub load-spec : {M : Type 1} → statement M
 load-spec =
@@ -88,7 +88,7 @@ load-spec =
     slice-aggregate-same
     same-requires
     returns-2
-    powered-up-requires
+    started-requires
     valid-settings-requires
     returns-3
     returns-4)
