@@ -13,6 +13,7 @@ use crate::outcome::outcome_for;
 use card::card::Card;
 
 // The answer to a line: the card, 0 or the number of the refusal, and the reply's length.
+#[repr(C)]
 pub struct Answered {
     pub card: Card,
     pub k: u8,
