@@ -17,8 +17,8 @@ mod trigger {
     #[repr(C)]
     #[derive(Clone, Copy)]
     pub struct State {
-        pub bit: bool,
         pub count: Pulses,
+        pub bit: bool,
         pub pulse: bool,
     }
 

@@ -14,28 +14,29 @@ use Rattle.cells.specs.Table.{slots, no-slot, masked, levelSlots}
 use Rattle.cells.specs.Work.{placeOf, slotsOf}
 use Rattle.cells.specs.Wake.{disagreeOn}
 
+-- four slots packed: unpacked they are what they were, and their number is 0 only where all are low
+four : (x y z f : Bool) → (slotsOf (placeOf (slots x y z f)) ≡ slots x y z f) × (((x || y) || (z || f)) ≡ not (eqb (placeOf (slots x y z f)) 0))
+unfolding slotsOf bitAt
+four true true true true = (refl, refl)
+four true true true false = (refl, refl)
+four true true false true = (refl, refl)
+four true true false false = (refl, refl)
+four true false true true = (refl, refl)
+four true false true false = (refl, refl)
+four true false false true = (refl, refl)
+four true false false false = (refl, refl)
+four false true true true = (refl, refl)
+four false true true false = (refl, refl)
+four false true false true = (refl, refl)
+four false true false false = (refl, refl)
+four false false true true = (refl, refl)
+four false false true false = (refl, refl)
+four false false false true = (refl, refl)
+four false false false false = (refl, refl)
+
 -- what was packed is what is unpacked
 pub slots-place : (r : Slots) → slotsOf (placeOf r) ≡ r
-unfolding slotsOf bitAt
-slots-place r = go (r .x) (r .y) (r .z) (r .f)
-  where
-    go : (x y z f : Bool) → slotsOf (placeOf (slots x y z f)) ≡ slots x y z f
-    go true true true true = refl
-    go true true true false = refl
-    go true true false true = refl
-    go true true false false = refl
-    go true false true true = refl
-    go true false true false = refl
-    go true false false true = refl
-    go true false false false = refl
-    go false true true true = refl
-    go false true true false = refl
-    go false true false true = refl
-    go false true false false = refl
-    go false false true true = refl
-    go false false true false = refl
-    go false false false true = refl
-    go false false false false = refl
+slots-place r = four (r .x) (r .y) (r .z) (r .f) .0
 
 one-bit : (b : Bool) → bitNumber b ≤ 1
 one-bit true = omega arith
@@ -76,29 +77,16 @@ slots-level w u e eu ee =
     flip : (k : ℕ) → bitAt 15 k ≡ true → bitAt (bitXor e 15) k ≡ not (bitAt e k)
     flip k h = bit-xor e 15 k ∙ ap (λ (b : Bool). not (Bool·beq (bitAt e k) b)) h ∙ beq-true (bitAt e k)
 
--- four bits are not all low when their number is not 0
+-- and what is unpacked was packed
+place-slots : (x : ℕ) → x < 16 → placeOf (slotsOf x) ≡ x
+unfolding slotsOf wordOf
+place-slots x h =
+    let built = built-of-bits x 4 h in
+    omega (arith, built)
+
 any-of-four : (x : ℕ) → x < 16 → ((bitAt x 0 || bitAt x 1) || (bitAt x 2 || bitAt x 3)) ≡ not (eqb x 0)
-unfolding wordOf
-any-of-four x h =
-    go (bitAt x 0) (bitAt x 1) (bitAt x 2) (bitAt x 3) ∙ ap (λ (n : ℕ). not (eqb n 0)) (built-of-bits x 4 h)
-  where
-    go : (a b c d : Bool) → ((a || b) || (c || d)) ≡ not (eqb (0 + bitNumber a * 2 ^ 0 + bitNumber b * 2 ^ 1 + bitNumber c * 2 ^ 2 + bitNumber d * 2 ^ 3) 0)
-    go true true true true = refl
-    go true true true false = refl
-    go true true false true = refl
-    go true true false false = refl
-    go true false true true = refl
-    go true false true false = refl
-    go true false false true = refl
-    go true false false false = refl
-    go false true true true = refl
-    go false true true false = refl
-    go false true false true = refl
-    go false true false false = refl
-    go false false true true = refl
-    go false false true false = refl
-    go false false false true = refl
-    go false false false false = refl
+unfolding slotsOf
+any-of-four x h = four (bitAt x 0) (bitAt x 1) (bitAt x 2) (bitAt x 3) .1 ∙ ap (λ (n : ℕ). not (eqb n 0)) (place-slots x h)
 
 -- two readings disagree on a set when the bits in which they differ meet it
 pub disagree-word : (s a b : ℕ) → s < 16 → disagreeOn (slotsOf s) (slotsOf a) (slotsOf b) ≡ not (eqb (bitAnd s (bitXor a b)) 0)

@@ -7,8 +7,8 @@ pub struct Pulses(pub u16);
 // What a cell keeps between ticks, the same for every type: a flip-flop's bit, a timer's count and pulse.
 #[repr(C)]
 pub struct State {
-    pub bit: bool,
     pub count: Pulses,
+    pub bit: bool,
     pub pulse: bool,
 }
 

@@ -2,7 +2,7 @@
 ghost use mathlib.Core.Path.{_≡_};
 ghost use Rattle.cells.specs.Work;
 ghost use Rattle.cells.specs.Work.{slotsOf, lookupOut, dFlop, syncDFlop, clearDFlop, nextCount, nextPulse, pulses};
-ghost use Rattle.cells.specs.Work.{keeping, holding, oneShot, workAs, workOut};
+ghost use Rattle.cells.specs.Work.{and2, or2, xor2, and4, or4, keeping, holding, oneShot, workAs, workOut};
 use crate::cell::Pulses;
 use crate::cell::State;
 use crate::cell::Worked;
@@ -168,25 +168,55 @@ fn delay(retrigger: bool, config: u16, s: State, r: Slots) -> Worked
     }
 }
 
-// What a class makes of the used readings.
-fn work_as(class: Class, config: u16, s: State, r: Slots) -> Worked
-    ensures { λ w. ⌜ w ≡ workAs class config s r ⌝ }
+fn gate_and2(r: Slots) -> bool
+    ensures { λ q. ⌜ q ≡ and2 r ⌝ }
+{
+    r.x & r.y
+}
+
+fn gate_or2(r: Slots) -> bool
+    ensures { λ q. ⌜ q ≡ or2 r ⌝ }
+{
+    r.x | r.y
+}
+
+fn gate_xor2(r: Slots) -> bool
+    ensures { λ q. ⌜ q ≡ xor2 r ⌝ }
+{
+    r.x ^ r.y
+}
+
+fn gate_and4(r: Slots) -> bool
+    ensures { λ q. ⌜ q ≡ and4 r ⌝ }
+{
+    (r.x & r.y) & (r.z & r.f)
+}
+
+fn gate_or4(r: Slots) -> bool
+    ensures { λ q. ⌜ q ≡ or4 r ⌝ }
+{
+    (r.x | r.y) | (r.z | r.f)
+}
+
+// What a class makes of the used readings, packed. Each arm unpacks what it needs.
+fn work_as(class: Class, config: u16, s: State, r: u32) -> Worked
+    ensures { λ w. ⌜ w ≡ workAs class config s (slotsOf r) ⌝ }
 {
     match class {
         Class::Nothing => keep(s, false),
         Class::Constant => keep(s, config != 0),
-        Class::Lookup => keep(s, lookup(config, r)),
-        Class::And2 => keep(s, r.x & r.y),
-        Class::Or2 => keep(s, r.x | r.y),
-        Class::Xor2 => keep(s, r.x ^ r.y),
-        Class::And4 => keep(s, (r.x & r.y) & (r.z & r.f)),
-        Class::Or4 => keep(s, (r.x | r.y) | (r.z | r.f)),
-        Class::DFlop => hold(s, d_flop(r, s.bit)),
-        Class::SyncDFlop => hold(s, sync_d_flop(r, s.bit)),
-        Class::ClearDFlop => hold(s, clear_d_flop(r, s.bit)),
-        Class::Jk => hold(s, jk(r, s.bit)),
-        Class::OneShot(retrigger) => one_shot(retrigger, config, s, r),
-        Class::Delay(retrigger) => delay(retrigger, config, s, r),
+        Class::Lookup => keep(s, lookup(config, unpacked(r))),
+        Class::And2 => keep(s, gate_and2(unpacked(r))),
+        Class::Or2 => keep(s, gate_or2(unpacked(r))),
+        Class::Xor2 => keep(s, gate_xor2(unpacked(r))),
+        Class::And4 => keep(s, gate_and4(unpacked(r))),
+        Class::Or4 => keep(s, gate_or4(unpacked(r))),
+        Class::DFlop => hold(s, d_flop(unpacked(r), s.bit)),
+        Class::SyncDFlop => hold(s, sync_d_flop(unpacked(r), s.bit)),
+        Class::ClearDFlop => hold(s, clear_d_flop(unpacked(r), s.bit)),
+        Class::Jk => hold(s, jk(unpacked(r), s.bit)),
+        Class::OneShot(retrigger) => one_shot(retrigger, config, s, unpacked(r)),
+        Class::Delay(retrigger) => delay(retrigger, config, s, unpacked(r)),
     }
 }
 
@@ -194,5 +224,5 @@ fn work_as(class: Class, config: u16, s: State, r: Slots) -> Worked
 pub fn work(kind: u8, config: u16, s: State, r: u32) -> Worked
     ensures { λ w. ⌜ w ≡ workOut kind config s (slotsOf r) ⌝ }
 {
-    work_as(class_of(kind), config, s, unpacked(used_of(kind) & r))
+    work_as(class_of(kind), config, s, used_of(kind) & r)
 }

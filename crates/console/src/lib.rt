@@ -4,7 +4,7 @@ ghost use mathlib.Core.Path.{_≡_};
 ghost use Prim.Native.Nat.{_≤_, _<_, _+_, _-_, _^_};
 ghost use lib.ListN.{length};
 ghost use lib.Seq.{sets};
-ghost use Rattle.text.specs.Decimal.{isDigit, maxDigits};
+ghost use Rattle.text.specs.Decimal.{maxDigits};
 ghost use Rattle.text.specs.Hex.{hex4};
 ghost use Rattle.console.specs.Console.{tickLine, tickText, isLoadLine, loadText, plainReply, longestPrint, cardAfter, storeNext, printed};
 ghost use Rattle.card.specs.Address.{cellCount};
@@ -30,12 +30,6 @@ pub struct Entered {
     pub len: usize,
 }
 
-fn is_digit(b: u8) -> bool
-    ensures { λ q. ⌜ q ≡ isDigit b ⌝ }
-{
-    (48 <= b) & (b <= 57)
-}
-
 // The line read as a tick.
 fn tick_line(text: &[u8]) -> TickLine
     ensures { λ r. ⌜ r ≡ tickLine (now (text .entry)) ⌝ }
@@ -51,7 +45,7 @@ fn tick_line(text: &[u8]) -> TickLine
     let code = text[2];
     let word = text::hex4_at(text, 4);
     let kind = text[9];
-    let head = ((text[0] == b'T') & (text[1] == b' ')) & (is_digit(code) & (text[3] == b' '));
+    let head = ((text[0] == b'T') & (text[1] == b' ')) & (text::is_digit(code) & (text[3] == b' '));
     let tail = word.ok & ((text[8] == b' ') & ((kind == b'F') | (kind == b'Q')));
     if head & tail {
         TickLine {

@@ -2,7 +2,7 @@
 ghost use mathlib.Core.Path.{_≡_};
 ghost use Prim.Native.Nat.{_≤_};
 ghost use lib.ListN.{length};
-ghost use Rattle.text.specs.Decimal.{isDigit, numberAt};
+ghost use Rattle.text.specs.Decimal.{numberAt};
 ghost use Rattle.lines.specs.Grammar;
 ghost use Rattle.lines.specs.Grammar.{byteAt, isWord, isWhole, toEnd, slotOf, stepped, anySlot, pairsOf};
 ghost use Rattle.lines.specs.Grammar.{writeOf, ccaWrite, ccaRead, ccaForm, slotForm, ccbForm, readOf, readForm, cardForm, numbered, plainForm, parse};
@@ -427,12 +427,6 @@ fn addressed(here: bool, p: Parsed) -> Parsed
     }
 }
 
-fn digit(b: u8) -> bool
-    ensures { λ q. ⌜ q ≡ isDigit b ⌝ }
-{
-    (48 <= b) & (b <= 57)
-}
-
 // What the bytes of a line are.
 pub fn parse_line(text: &[u8]) -> Parsed
     ensures { λ q. ⌜ q ≡ parse (now (text .entry)) ⌝ }
@@ -446,7 +440,7 @@ pub fn parse_line(text: &[u8]) -> Parsed
     }
     let a = byte_at(text, 0);
     let b = byte_at(text, 1);
-    if digit(a) & digit(b) {
+    if text::is_digit(a) & text::is_digit(b) {
         addressed((a == b'3') & (b == b'6'), card_form(text))
     } else {
         plain_form(text)

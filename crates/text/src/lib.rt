@@ -23,13 +23,10 @@ pub struct Hex {
     pub value: u16,
 }
 
-fn is_digit(b: u8) -> bool
+pub fn is_digit(b: u8) -> bool
     ensures { λ r. ⌜ r ≡ isDigit b ⌝ }
 {
-    if b < b'0' {
-        return false;
-    }
-    b <= b'9'
+    (48 <= b) & (b <= 57)
 }
 
 // Where the digits that start at `at` end.

@@ -1,16 +1,12 @@
--- `text::is_digit` meets its contract: its tests are the definition's.
-use borrow.Author.Tests.{le-leb, lt-leb}
+-- `text::is_digit` meets its contract: the test is the definition.
+use mathlib.Core.Path.{refl}
 use Rattle.text.specs.Decimal.{isDigit}
 use Rattle.text.proofs.is_digit.Statement.{statement}
 use Rattle.text.proofs.is_digit.Tie as tie
 
 returns : tie.Need-returns
 unfolding isDigit
-returns c = rw (lt-leb 48 (c .before .args .b) (c .if1 .taken))
-
-returns-2 : tie.Need-returns-2
-unfolding isDigit
-returns-2 c = rw (le-leb 48 (c .before .args .b) (c .if1 .left))
+returns c = refl
 
 pub is-digit-spec : {M : Type 1} → statement M
-is-digit-spec = tie.close (tie.spec returns returns-2)
+is-digit-spec = tie.close (tie.spec returns)

@@ -15,23 +15,17 @@ class-of-requires c κs = search needs
 used-of-requires : tie.Need-used-of-requires
 used-of-requires c κs = search needs
 
-unpacked-requires : tie.Need-unpacked-requires
-unpacked-requires c κs = search needs
-
 work-as-requires : tie.Need-work-as-requires
 work-as-requires c κs = search needs
 
 returns : tie.Need-returns
 unfolding workOut
 returns c =
-    let p = c .before in
-    let a = p .before .before .before .args in
-    let used = p .before .used-of in
+    let used = c .before .used-of in
+    let a = c .before .before .before .args in
     c .work-as .ensures
-    ∙ ap₂ (λ (k : Class) (r : Slots). workAs k (a .config) (a .s) r) (p .before .before .class-of .ensures)
-    (p .unpacked .ensures ∙ slots-and (used .result) (a .r) ∙ ap (λ (u : Slots). masked u (slotsOf (a .r))) (used .ensures .0))
+    ∙ ap₂ (λ (k : Class) (r : Slots). workAs k (a .config) (a .s) r) (c .before .before .class-of .ensures)
+    (slots-and (used .result) (a .r) ∙ ap (λ (u : Slots). masked u (slotsOf (a .r))) (used .ensures .0))
 
 pub work-spec : {M : Type 1} → statement M
-work-spec =
-    tie.close
-    (tie.spec class-of-requires used-of-requires unpacked-requires work-as-requires returns)
+work-spec = tie.close (tie.spec class-of-requires used-of-requires work-as-requires returns)

@@ -20,11 +20,11 @@ byte-at-requires c κs = search needs
 byte-at-requires-2 : tie.Need-byte-at-requires-2
 byte-at-requires-2 c κs = search needs
 
-digit-requires : tie.Need-digit-requires
-digit-requires c κs = search needs
+is-digit-requires : tie.Need-is-digit-requires
+is-digit-requires c κs = search needs
 
-digit-requires-2 : tie.Need-digit-requires-2
-digit-requires-2 c κs = search needs
+is-digit-requires-2 : tie.Need-is-digit-requires-2
+is-digit-requires-2 c κs = search needs
 
 card-form-requires : tie.Need-card-form-requires
 card-form-requires c κs = search needs
@@ -37,11 +37,11 @@ plain-form-requires c κs = search needs
 
 returns-3 : tie.Need-returns-3
 unfolding parse
-returns-3 c = rw (le-leb 1 _ (c .before .before .before .before .before .before .before .before .if1 .left), le-leb _ longestLine (c .before .before .before .before .before .before .before .if2 .left), ← c .before .before .before .before .before .before .byte-at .ensures, ← c .before .before .before .before .before .byte-at2 .ensures, ← c .before .before .before .before .digit .ensures, ← c .before .before .before .digit2 .ensures, c .before .before .if3 .taken) (c .addressed .ensures ∙ ap (addressed _) (c .before .card-form .ensures))
+returns-3 c = rw (le-leb 1 _ (c .before .before .before .before .before .before .before .before .if1 .left), le-leb _ longestLine (c .before .before .before .before .before .before .before .if2 .left), ← c .before .before .before .before .before .before .byte-at .ensures, ← c .before .before .before .before .before .byte-at2 .ensures, ← c .before .before .before .before .is-digit .ensures, ← c .before .before .before .is-digit2 .ensures, c .before .before .if3 .taken) (c .addressed .ensures ∙ ap (addressed _) (c .before .card-form .ensures))
 
 returns-4 : tie.Need-returns-4
 unfolding parse
-returns-4 c = rw (le-leb 1 _ (c .before .before .before .before .before .before .before .if1 .left), le-leb _ longestLine (c .before .before .before .before .before .before .if2 .left), ← c .before .before .before .before .before .byte-at .ensures, ← c .before .before .before .before .byte-at2 .ensures, ← c .before .before .before .digit .ensures, ← c .before .before .digit2 .ensures, c .before .if3 .left) (c .plain-form .ensures)
+returns-4 c = rw (le-leb 1 _ (c .before .before .before .before .before .before .before .if1 .left), le-leb _ longestLine (c .before .before .before .before .before .before .if2 .left), ← c .before .before .before .before .before .byte-at .ensures, ← c .before .before .before .before .byte-at2 .ensures, ← c .before .before .before .is-digit .ensures, ← c .before .before .is-digit2 .ensures, c .before .if3 .left) (c .plain-form .ensures)
 
 pub parse-line-spec : {M : Type 1} → statement M
 parse-line-spec =
@@ -51,8 +51,8 @@ parse-line-spec =
     returns-2
     byte-at-requires
     byte-at-requires-2
-    digit-requires
-    digit-requires-2
+    is-digit-requires
+    is-digit-requires-2
     card-form-requires
     addressed-requires
     plain-form-requires
