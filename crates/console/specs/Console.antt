@@ -69,16 +69,26 @@ longestPrint = 32
 abbrev pub ticked : Card → List ℕ → Ticked
 ticked c t = tick cellCount (tickLine t .full) c (tickLine t .code) (tickLine t .sample)
 
--- a malformed T line is no card line either, and so prints `:N-2`
-unfoldable pub cardAfter : Card → List ℕ → List ℕ → Card
-cardAfter c t store =
-    cond (tickLine t .ok) (ticked c t .card)
-    (cond (isLoadLine t) (loaded cellCount configWidth c store) (lineOutcome cellCount c t shortestReply (length store) .card))
+-- what a line leaves: the card, the store, and the bytes that it prints
+pub record Entry : Type 0 where
+  pub card : Card
+  pub store : List ℕ
+  pub printed : List ℕ
 
-unfoldable pub storeNext : Card → List ℕ → List ℕ → List ℕ
-storeNext c t store = cond (tickLine t .ok || isLoadLine t) store (storeAfter cellCount c t shortestReply store)
+abbrev pub byTick : Card → List ℕ → List ℕ → Entry
+byTick c t store = record { card = ticked c t .card; store = store; printed = tickText (ticked c t .answer) }
 
-unfoldable pub printed : Card → List ℕ → List ℕ → List ℕ
-printed c t store =
-    cond (tickLine t .ok) (tickText (ticked c t .answer))
-    (cond (isLoadLine t) (loadText (loadNumber cellCount configWidth store)) (plainReply (lineReply cellCount c t shortestReply (length store))))
+abbrev pub byLoad : Card → List ℕ → Entry
+byLoad c store = record { card = loaded cellCount configWidth c store; store = store; printed = loadText (loadNumber cellCount configWidth store) }
+
+abbrev pub byLine : Card → List ℕ → List ℕ → Entry
+byLine c t store =
+    record {
+      card = lineOutcome cellCount c t shortestReply (length store) .card;
+      store = storeAfter cellCount c t shortestReply store;
+      printed = plainReply (lineReply cellCount c t shortestReply (length store));
+    }
+
+-- a tick, a load, or a card line; a malformed T line is no card line either, and so prints `:N-2`
+unfoldable pub entered : Card → List ℕ → List ℕ → Entry
+entered c t store = cond (tickLine t .ok) (byTick c t store) (cond (isLoadLine t) (byLoad c store) (byLine c t store))

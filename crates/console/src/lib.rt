@@ -6,10 +6,9 @@ ghost use lib.ListN.{length};
 ghost use lib.Seq.{sets};
 ghost use Rattle.text.specs.Decimal.{maxDigits};
 ghost use Rattle.text.specs.Hex.{hex4};
-ghost use Rattle.console.specs.Console.{tickLine, tickText, isLoadLine, loadText, plainReply, longestPrint, cardAfter, storeNext, printed};
+ghost use Rattle.console.specs.Console.{tickLine, tickText, isLoadLine, loadText, plainReply, longestPrint, byLine, entered};
 ghost use Rattle.card.specs.Address.{cellCount};
 ghost use Rattle.card.specs.Tick.{tick};
-ghost use Rattle.lines.specs.Line.{shortestReply, lineOutcome, lineReply, storeAfter};
 use card::card::Card;
 use card::tick::Answer;
 use card::tick::Ticked;
@@ -150,10 +149,10 @@ fn do_tick(card: Card, t: TickLine) -> Ticked
 // A card line, with its reply in the place of the output.
 fn enter_line(card: Card, text: &[u8], store: &mut [u8], out: &mut [u8]) -> Entered
     requires { ⌜ longestPrint ≤ length (now out) ⌝ }
-    ensures { λ r. ⌜ r .card ≡ lineOutcome cellCount card (now (text .entry)) shortestReply (length (now (store .entry))) .card ⌝ }
-    ensures { λ r. ⌜ now (store .exit) ≡ storeAfter cellCount card (now (text .entry)) shortestReply (now (store .entry)) ⌝ }
-    ensures { λ r. ⌜ now (out .exit) ≡ sets (now (out .entry)) 0 (plainReply (lineReply cellCount card (now (text .entry)) shortestReply (length (now (store .entry))))) ⌝ }
-    ensures { λ r. ⌜ r .len ≡ length (plainReply (lineReply cellCount card (now (text .entry)) shortestReply (length (now (store .entry))))) ⌝ }
+    ensures { λ r. ⌜ r .card ≡ byLine card (now (text .entry)) (now (store .entry)) .card ⌝ }
+    ensures { λ r. ⌜ now (store .exit) ≡ byLine card (now (text .entry)) (now (store .entry)) .store ⌝ }
+    ensures { λ r. ⌜ now (out .exit) ≡ sets (now (out .entry)) 0 (byLine card (now (text .entry)) (now (store .entry)) .printed) ⌝ }
+    ensures { λ r. ⌜ r .len ≡ length (byLine card (now (text .entry)) (now (store .entry)) .printed) ⌝ }
     ensures { λ r. ⌜ r .len ≤ longestPrint ⌝ }
 {
     let mut reply = [0u8; 16];
@@ -170,10 +169,10 @@ fn enter_line(card: Card, text: &[u8], store: &mut [u8], out: &mut [u8]) -> Ente
 // One line of input.
 pub fn enter(card: Card, text: &[u8], store: &mut [u8], out: &mut [u8]) -> Entered
     requires { ⌜ longestPrint ≤ length (now out) ⌝ }
-    ensures { λ r. ⌜ r .card ≡ cardAfter card (now (text .entry)) (now (store .entry)) ⌝ }
-    ensures { λ r. ⌜ now (store .exit) ≡ storeNext card (now (text .entry)) (now (store .entry)) ⌝ }
-    ensures { λ r. ⌜ now (out .exit) ≡ sets (now (out .entry)) 0 (printed card (now (text .entry)) (now (store .entry))) ⌝ }
-    ensures { λ r. ⌜ r .len ≡ length (printed card (now (text .entry)) (now (store .entry))) ⌝ }
+    ensures { λ r. ⌜ r .card ≡ entered card (now (text .entry)) (now (store .entry)) .card ⌝ }
+    ensures { λ r. ⌜ now (store .exit) ≡ entered card (now (text .entry)) (now (store .entry)) .store ⌝ }
+    ensures { λ r. ⌜ now (out .exit) ≡ sets (now (out .entry)) 0 (entered card (now (text .entry)) (now (store .entry)) .printed) ⌝ }
+    ensures { λ r. ⌜ r .len ≡ length (entered card (now (text .entry)) (now (store .entry)) .printed) ⌝ }
     ensures { λ r. ⌜ r .len ≤ longestPrint ⌝ }
 {
     let t = tick_line(text);

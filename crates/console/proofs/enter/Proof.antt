@@ -4,7 +4,7 @@ use mathlib.Core.Path.{refl, ap, _∙_}
 use lib.ListN.{length}
 use lib.Seq.{sets}
 use Rattle.card.specs.declared.tick.Ticked.{Ticked}
-use Rattle.console.specs.Console.{tickText, loadText, cardAfter, storeNext, printed}
+use Rattle.console.specs.Console.{tickText, loadText, entered}
 use borrow.Author.Needs.{needs}
 use Rattle.console.proofs.enter.Statement.{statement}
 use Rattle.console.proofs.enter.Tie as tie
@@ -22,7 +22,7 @@ same-length : tie.Need-same-length
 same-length c = search needs
 
 returns : tie.Need-returns
-unfolding cardAfter storeNext printed
+unfolding entered
 returns c =
     let out = c .before .before .before .before .before .before .before .before .before .before .before .before .args .out .now in
     let done = c .before .before .before .before .before .before .do-tick .ensures .0 in
@@ -53,7 +53,7 @@ same-length-3 : tie.Need-same-length-3
 same-length-3 c = search needs
 
 returns-2 : tie.Need-returns-2
-unfolding cardAfter storeNext printed
+unfolding entered
 returns-2 c =
     let out = c .before .before .before .before .before .before .before .before .before .before .before .before .before .before .args .out .now in
     let k = c .before .before .before .before .before .load .ensures .1 in
@@ -78,7 +78,7 @@ same-length-5 : tie.Need-same-length-5
 same-length-5 c = search needs
 
 returns-3 : tie.Need-returns-3
-unfolding cardAfter storeNext printed
+unfolding entered
 returns-3 c = rw (← c .before .before .before .before .before .before .before .before .before .before .tick-line .ensures, c .before .before .before .before .before .before .before .before .before .if1 .left, ← c .before .before .before .before .before .before .before .before .is-load .ensures, c .before .before .before .before .before .before .before .if2 .left) (c .before .before .before .before .enter-line .ensures)
 
 pub enter-spec : {M : Type 1} → statement M
