@@ -1,13 +1,17 @@
 // One run: the lines of an input go through one card, and what they print to standard output.
 //
 // The program takes constant memory, whatever the input: a block of input, a line, the store and a
-// block of output. No contract can say what is read or written, so the parts here promise that they
-// stay within their buffers; what a line does is `console::enter`'s promise.
+// block of output. What the bytes of a block do to them is a definition, `takesAll`. No contract can
+// say what is read or written, so `turn` and `run_from` promise only that they stay within their
+// buffers.
+ghost use mathlib.Core.Bool.{cond};
+ghost use mathlib.Core.List.{_++_};
 ghost use mathlib.Core.Path.{_≡_};
 ghost use Prim.Native.Nat.{ℕ, _≤_, _<_, _+_, _-_, min};
 ghost use lib.ListN.{length, take, getD};
 ghost use lib.Seq.{sets};
-ghost use Rattle.console.specs.Console.{longestPrint};
+ghost use Rattle.console.specs.Console.{longestPrint, entered};
+ghost use Rattle.runner.specs.Run.{cut, held, ended, longer, takesAll, courseOf};
 use card::card::Card;
 use console::Entered;
 use libc::STDOUT_FILENO;
@@ -65,6 +69,7 @@ fn add(line: &mut [u8; 96], len: usize, more: &[u8]) -> usize
     ensures { λ r. ⌜ now (line .exit) ≡ sets (now (line .entry)) len (take (min (length (now (more .entry))) (96 - len)) (now (more .entry))) ⌝ }
     ensures { λ r. ⌜ r ≡ len + min (length (now (more .entry))) (96 - len) ⌝ }
     ensures { λ r. ⌜ r ≤ 96 ⌝ }
+    ensures { λ r. ⌜ length (now (line .entry)) ≡ 96 ⌝ }
 {
     let n = least(more.len(), LONGEST - len);
     text::copy(line, len, &more[0..n])
@@ -83,6 +88,7 @@ fn write_front(out: &[u8], n: usize, going: bool) -> bool
 
 fn flush(run: Run, out: &[u8; 65536]) -> Run
     requires { ⌜ run .used ≤ 65536 ⌝ }
+    ensures { λ r. ⌜ r .card ≡ run .card ⌝ }
     ensures { λ r. ⌜ r .len ≡ run .len ⌝ }
     ensures { λ r. ⌜ r .used ≡ 0 ⌝ }
 {
@@ -97,13 +103,23 @@ fn flush(run: Run, out: &[u8; 65536]) -> Run
     }
 }
 
+// The output's size, which is that of a block.
+fn size(out: &[u8; 65536]) -> usize
+    ensures { λ n. ⌜ (n ≡ 65536) × (length (now (out .entry)) ≡ 65536) ⌝ }
+{
+    let bytes: &[u8] = out;
+    bytes.len()
+}
+
 // Makes room for what one line prints.
 fn make_room(run: Run, out: &[u8; 65536]) -> Run
     requires { ⌜ run .used ≤ 65536 ⌝ }
+    ensures { λ r. ⌜ r .card ≡ run .card ⌝ }
     ensures { λ r. ⌜ r .len ≡ run .len ⌝ }
+    ensures { λ r. ⌜ take (r .used) (now (out .entry)) ≡ held (take (run .used) (now (out .entry))) ⌝ }
     ensures { λ r. ⌜ r .used + longestPrint ≤ 65536 ⌝ }
 {
-    if run.used <= BLOCK - ROOM {
+    if run.used <= size(out) - ROOM {
         return run;
     }
     flush(run, out)
@@ -120,6 +136,9 @@ fn enter_at(
 ) -> Entered
     requires { ⌜ len ≤ length (now line) ⌝ }
     requires { ⌜ used + longestPrint ≤ length (now out) ⌝ }
+    ensures { λ r. ⌜ r .card ≡ entered card (take len (now (line .entry))) (now (store .entry)) .card ⌝ }
+    ensures { λ r. ⌜ now (store .exit) ≡ entered card (take len (now (line .entry))) (now (store .entry)) .store ⌝ }
+    ensures { λ r. ⌜ take (used + r .len) (now (out .exit)) ≡ take used (now (out .entry)) ++ entered card (take len (now (line .entry))) (now (store .entry)) .printed ⌝ }
     ensures { λ r. ⌜ r .len ≤ longestPrint ⌝ }
 {
     console::enter(card, &line[0..len], store, &mut out[used..])
@@ -129,6 +148,7 @@ fn enter_at(
 fn enter(run: Run, line: &[u8; 96], store: &mut [u8; 276], out: &mut [u8; 65536]) -> Run
     requires { ⌜ run .len ≤ 96 ⌝ }
     requires { ⌜ run .used ≤ 65536 ⌝ }
+    ensures { λ r. ⌜ courseOf r (now (store .exit)) (now (line .entry)) (now (out .exit)) ≡ ended (courseOf run (now (store .entry)) (now (line .entry)) (now (out .entry))) ⌝ }
     ensures { λ r. ⌜ r .len ≡ 0 ⌝ }
     ensures { λ r. ⌜ r .used ≤ 65536 ⌝ }
 {
@@ -157,6 +177,7 @@ fn take_part(
 ) -> Run
     requires { ⌜ run .len ≤ 96 ⌝ }
     requires { ⌜ run .used ≤ 65536 ⌝ }
+    ensures { λ r. ⌜ courseOf r (now (store .exit)) (now (line .exit)) (now (out .exit)) ≡ cond ends (ended (longer (courseOf run (now (store .entry)) (now (line .entry)) (now (out .entry))) (now (part .entry)))) (longer (courseOf run (now (store .entry)) (now (line .entry)) (now (out .entry))) (now (part .entry))) ⌝ }
     ensures { λ r. ⌜ r .len ≤ 96 ⌝ }
     ensures { λ r. ⌜ r .used ≤ 65536 ⌝ }
 {
@@ -186,6 +207,7 @@ fn take_block(
     requires { ⌜ n ≤ length (now block) ⌝ }
     requires { ⌜ run .len ≤ 96 ⌝ }
     requires { ⌜ run .used ≤ 65536 ⌝ }
+    ensures { λ r. ⌜ courseOf r (now (store .exit)) (now (line .exit)) (now (out .exit)) ≡ takesAll (courseOf run (now (store .entry)) (now (line .entry)) (now (out .entry))) (take n (now (block .entry))) ⌝ }
     ensures { λ r. ⌜ r .len ≤ 96 ⌝ }
     ensures { λ r. ⌜ r .used ≤ 65536 ⌝ }
 {

@@ -34,7 +34,7 @@ returns c =
     let e = c .copy .ensures in
     let l = length-take (k - 0) (a .more .now) in (
       e .0 ∙ ap (λ (m : ℕ). sets (a .line .now) (a .len) (take m (a .more .now))) n,
-      (omega (arith, e .1, l, n), omega (arith, e .1, l, n)),
+      (omega (arith, e .1, l, n), (omega (arith, e .1, l, n), search needs)),
     )
 
 pub add-spec : {M : Type 1} → statement M
