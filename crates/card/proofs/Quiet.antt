@@ -17,7 +17,7 @@ use Rattle.words.proofs.Listed.{listed-same, listed-map}
 use Rattle.cells.specs.declared.cell.Cell.{Cell}
 use Rattle.cells.specs.declared.table.Slots.{Slots}
 use Rattle.cells.specs.Wake.{stirred, disagree, wakes}
-use Rattle.cells.proofs.Laws.{disagree-self}
+use Rattle.cells.proofs.Laws.{wakes-splits, disagree-self}
 use Rattle.card.specs.declared.tick.Wires.{Wires}
 use Rattle.card.specs.declared.tick.Turn.{Turn}
 use Rattle.card.specs.Address.{levelAt, slotsRead, mixed, view}
@@ -48,10 +48,10 @@ view-any : (n i o l : ℕ) → view n i o o l ≡ view n 0 o o l
 unfolding view
 view-any n i o l = λ k b. levelAt n (λ j. mixed-any i o j k) (bitAt l) b
 
-wakes-not : (kind : ℕ) (cell : Cell) (edited : Bool) (now last r : Slots) → edited ≡ false → now ≡ r → last ≡ r
+wakes-not : (cell : Cell) (edited : Bool) (now last r : Slots) → edited ≡ false → now ≡ r → last ≡ r
     → stirred (cell .kind) (cell .state) r ≡ false → wakes (cell .kind) (cell .state) edited now last ≡ false
-unfolding wakes
-wakes-not kind cell edited now last r e en el quiet = rw (e, en, el, quiet) (disagree-self (cell .kind) r)
+wakes-not cell edited now last r e en el quiet =
+    wakes-splits (cell .kind) (cell .state) edited now last ∙ rw (e, en, el, quiet) (disagree-self (cell .kind) r)
 
 module _ (n o l : ℕ) (cells : List Cell) (rest : AllRest n (view n 0 o o l) cells) where
   w : Wires
@@ -71,7 +71,7 @@ module _ (n o l : ℕ) (cells : List Cell) (rest : AllRest n (view n 0 o o l) ce
       let any = view-any n i o l in
       let now = ap₂ (λ (f g : ℕ → Bool). slotsRead f g (cell .slots)) (view-same n i b o o l same ∙ any) any in
       let last = ap₂ (λ (f g : ℕ → Bool). slotsRead f g (cell .slots)) any any in
-      rw (wakes-not 0 cell (bitAt 0 i) _ _ r (bit-zero i) now last (rest i h))
+      rw (wakes-not cell (bitAt 0 i) _ _ r (bit-zero i) now last (rest i h))
 
   below-same : (i : ℕ) → i ≤ n → below i ≡ wordOf (bitAt o) i
   unfolding below outputsBelow wordOf

@@ -240,7 +240,7 @@ rowStill w = edged (w .edge) || stillClass (w .class)
 
 -- a type without edge slots is one of them
 pub edgeless-still : (kind : ℕ) → rowOf kind .edge ≡ no-slot → NeverStirred kind
-unfolding NeverStirred stirred rowStill edged stillClass
+unfolding stirred rowStill edged stillClass
 edgeless-still kind e s r =
     let still = ap (λ (edge : Slots). edged edge || stillClass (rowOf kind .class)) (sym e) ∙ every-row rowStill refl kind in
     still-as (rowOf kind .class) s (masked (rowOf kind .used) r) still

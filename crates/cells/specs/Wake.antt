@@ -35,7 +35,7 @@ unfoldable pub stirred : ℕ → State → Slots → Bool
 stirred kind s r = stirredAs (rowOf kind .class) s (masked (rowOf kind .used) r)
 
 -- nothing stirs a cell of the type
-unfoldable pub NeverStirred : ℕ → Type 0
+abbrev pub NeverStirred : ℕ → Type 0
 NeverStirred kind = (s : State) (r : Slots) → stirred kind s r ≡ false
 
 -- in a slot of the set the two readings have other values

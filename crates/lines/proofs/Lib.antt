@@ -1,6 +1,7 @@
 -- The proofs of the line reader.
 pub mod Honest
 pub mod Lists
+pub mod Long
 pub mod Outcomes
 pub mod Reached
 pub mod Replies

@@ -4,14 +4,17 @@ use mathlib.Core.Path.{_≡_, refl, sym, ap, ap₂, _∙_}
 use mathlib.Core.Bool.{Bool, true, false, cond}
 use mathlib.Core.List.{List, [], _∷_, _++_, append-assoc, append-nil}
 use native.Mathlib.Decide.{decLt}
+use native.Mathlib.Nat.{le-refl}
 use native.Mathlib.Numerals.{add-one}
 use native.Mathlib.Omega.{arith}
 use lib.Dec.{eqb, leb, ltb}
 use lib.ListN.{length, getD, take, drop, length-append, length-take, length-drop}
-use lib.Seq.{sets, length-sets, sets-eq, take-all, take-at, take-add, take-append-add, take-take, take-append-le, take-suc, getD-take, getD-drop}
+use lib.Seq.{take-nil, sets, length-sets, sets-eq, take-all, take-at, take-add, take-append-add, take-take, take-append-le, take-suc, getD-take, getD-drop}
 use borrow.Author.Tests.{le-leb, lt-leb, lt-ltb, le-ltb, ne-eqb}
-use Rattle.console.specs.Console.{longestPrint}
-use Rattle.runner.specs.Run.{Course, kept, cut, outputRoom, held, ended, longer, takes, takesAll}
+use Rattle.card.specs.declared.card.Card.{Card}
+use Rattle.console.specs.Console.{longestPrint, Entry, entered}
+use Rattle.console.proofs.Long.{entered-long}
+use Rattle.runner.specs.Run.{Course, kept, cut, outputRoom, held, after, ended, longer, takes, takesAll, keptOf}
 
 -- ---- the output
 
@@ -89,7 +92,18 @@ unfolding takesAll
 takes-append s [] ys = refl
 takes-append s (b ∷ bs) ys = takes-append (takes s b) bs ys
 
--- cut and cut again
+-- bytes without LF make the line longer
+takes-part : (s : Course) (bs : List ℕ) → ((k : ℕ) → k < length bs → getD bs k 0 ≡ 10 → ⊥) → takesAll s bs ≡ longer s bs
+unfolding takesAll
+takes-part s [] none = λ i. record { card = s .card; store = s .store; line = sym (append-nil (s .line)) i; pending = s .pending }
+takes-part s (b ∷ bs) none =
+    let first : b ≡ 10 → ⊥ = none 0 (omega arith) in
+    let ih = takes-part (longer s (b ∷ [])) bs (λ k g. none (suc k) (omega arith)) in
+    rw (ne-eqb b 10 first)
+    (ih ∙ (λ i. record { card = s .card; store = s .store; line = append-assoc (s .line) (b ∷ []) bs i; pending = s .pending }))
+
+-- ---- a line that is cut
+
 cut-cut : (l more : List ℕ) → cut (cut l ++ more) ≡ cut (l ++ more)
 cut-cut l more = go (decLt kept (length l))
   where
@@ -99,18 +113,45 @@ cut-cut l more = go (decLt kept (length l))
         take-at (cut l) more kept e ∙ sym (take-append-le kept l more (omega arith))
     go (no h) = ap (λ (t : List ℕ). cut (t ++ more)) (take-all kept l (omega arith))
 
--- bytes without LF make the line longer
-pub takes-part : (s : Course) (bs : List ℕ) → length (s .line) ≤ kept → ((k : ℕ) → k < length bs → getD bs k 0 ≡ 10 → ⊥) → takesAll s bs ≡ longer s bs
+-- it leaves what the whole line would
+pub entered-cut : (c : Card) (l store : List ℕ) → entered c (cut l) store ≡ entered c l store
+entered-cut c l store = go (decLt kept (length l))
+  where
+    go : Dec (kept < length l) → entered c (cut l) store ≡ entered c l store
+    go (yes h) =
+        let e : length (cut l) ≡ kept = length-take kept l ∙ omega arith in
+        entered-long c (cut l) l store (omega (arith, e)) (omega arith)
+    go (no h) = ap (λ (t : List ℕ). entered c t store) (take-all kept l (omega arith))
+
+ended-kept : (s : Course) → ended (keptOf s) ≡ ended s
+ended-kept s = ap (after s) (entered-cut (s .card) (s .line) (s .store))
+
+kept-longer : (s : Course) (more : List ℕ) → keptOf (longer (keptOf s) more) ≡ keptOf (longer s more)
+kept-longer s more = λ i. record { card = s .card; store = s .store; line = cut-cut (s .line) more i; pending = s .pending }
+
+kept-ended : (s : Course) → keptOf (ended s) ≡ ended s
+kept-ended s = λ i. record { card = ended s .card; store = ended s .store; line = take-nil {A = ℕ} kept i; pending = ended s .pending }
+
+pub kept-short : (s : Course) → length (s .line) ≤ kept → keptOf s ≡ s
+kept-short s h = λ i. record { card = s .card; store = s .store; line = take-all kept (s .line) h i; pending = s .pending }
+
+-- the bytes that follow do the same to a line that was cut
+kept-takes : (s : Course) (bs : List ℕ) → keptOf (takesAll (keptOf s) bs) ≡ keptOf (takesAll s bs)
 unfolding takesAll
-takes-part s [] h none =
-    λ i. record { card = s .card; store = s .store; line = sym (ap cut (append-nil (s .line)) ∙ take-all kept (s .line) h) i; pending = s .pending }
-takes-part s (b ∷ bs) h none =
-    let e = length-take kept (s .line ++ (b ∷ [])) in
-    let short : length (cut (s .line ++ (b ∷ []))) ≤ kept = omega (arith, e) in
-    let first : b ≡ 10 → ⊥ = none 0 (omega arith) in
-    let ih = takes-part (longer s (b ∷ [])) bs short (λ k g. none (suc k) (omega arith)) in
-    rw (ne-eqb b 10 first)
-    (ih ∙ (λ i. record { card = s .card; store = s .store; line = (cut-cut (s .line ++ (b ∷ [])) bs ∙ ap cut (append-assoc (s .line) (b ∷ []) bs)) i; pending = s .pending }))
+kept-takes s [] = λ i. record { card = s .card; store = s .store; line = take-take kept kept (s .line) (le-refl kept) i; pending = s .pending }
+kept-takes s (b ∷ bs) = go (λ x. kept-takes x bs) (eqb b 10)
+  where
+    go : ((x : Course) → keptOf (takesAll (keptOf x) bs) ≡ keptOf (takesAll x bs)) → (lf : Bool)
+        → keptOf (takesAll (cond lf (ended (keptOf s)) (longer (keptOf s) (b ∷ []))) bs) ≡ keptOf (takesAll (cond lf (ended s) (longer s (b ∷ []))) bs)
+    go ih true = ap (λ (x : Course). keptOf (takesAll x bs)) (ended-kept s)
+    go ih false =
+        sym (ih (longer (keptOf s) (b ∷ []))) ∙ ap (λ (x : Course). keptOf (takesAll x bs)) (kept-longer s (b ∷ [])) ∙ ih (longer s (b ∷ []))
+
+-- so a run that takes its input block by block stands where all the bytes at once would have brought it
+pub block-by-block : (s : Course) (xs ys : List ℕ) → keptOf (takesAll (keptOf (takesAll s xs)) ys) ≡ keptOf (takesAll s (xs ++ ys))
+block-by-block s xs ys = kept-takes (takesAll s xs) ys ∙ ap keptOf (sym (takes-append s xs ys))
+
+-- ---- a part of a block
 
 -- the first bytes of a block up to an end: those up to a place, and the part from there
 split : (block : List ℕ) (at end : ℕ) → at ≤ end → take end block ≡ take at block ++ take (end - at) (drop at block)
@@ -120,15 +161,18 @@ split block at end h =
 
 -- a part that ends with an LF, or with the block
 pub block-step : (s₀ s r : Course) (block : List ℕ) (at end n : ℕ) → at ≤ end → end ≤ n → n ≤ length block
-    → ((k : ℕ) → k < end → at ≤ k → getD block k 0 ≡ 10 → ⊥) → (end < n → getD block end 0 ≡ 10) → length (s .line) ≤ kept
-    → s ≡ takesAll s₀ (take at (take n block))
-    → r ≡ cond (ltb end n) (ended (longer s (take (end - at) (drop at block)))) (longer s (take (end - at) (drop at block)))
-    → r ≡ takesAll s₀ (take (end + 1) (take n block))
+    → ((k : ℕ) → k < end → at ≤ k → getD block k 0 ≡ 10 → ⊥) → (end < n → getD block end 0 ≡ 10)
+    → s ≡ keptOf (takesAll s₀ (take at (take n block)))
+    → r ≡ cond (ltb end n) (ended (keptOf (longer s (take (end - at) (drop at block))))) (keptOf (longer s (take (end - at) (drop at block))))
+    → r ≡ keptOf (takesAll s₀ (take (end + 1) (take n block)))
 unfolding takesAll
-block-step s₀ s r block at end n ha he hn none lf hl es er = go (decLt end n)
+block-step s₀ s r block at end n ha he hn none lf es er = go (decLt end n)
   where
     part : List ℕ
     part = take (end - at) (drop at block)
+
+    y : Course
+    y = takesAll s₀ (take at (take n block))
 
     size : length part ≤ end - at
     size =
@@ -141,13 +185,13 @@ block-step s₀ s r block at end n ha he hn none lf hl es er = go (decLt end n)
         let byte = getD-take (end - at) (drop at block) k 0 inside ∙ getD-drop at block k 0 in
         none (at + k) (omega arith) (omega arith) (sym byte ∙ e)
 
-    grown : takesAll (takesAll s₀ (take at (take n block))) part ≡ longer s part
-    grown = ap (λ (x : Course). takesAll x part) (sym es) ∙ takes-part s part hl free
+    grown : keptOf (longer s part) ≡ keptOf (longer y part)
+    grown = ap (λ (x : Course). keptOf (longer x part)) es ∙ kept-longer y part
 
     front : take at (take n block) ≡ take at block
     front = take-take at n block (omega arith)
 
-    go : Dec (end < n) → r ≡ takesAll s₀ (take (end + 1) (take n block))
+    go : Dec (end < n) → r ≡ keptOf (takesAll s₀ (take (end + 1) (take n block)))
     go (yes h) =
         let byte : take (suc end) block ≡ take end block ++ (10 ∷ []) =
         take-suc block end 0 (omega arith) ∙ ap (λ (b : ℕ). take end block ++ (b ∷ [])) (lf h) in
@@ -158,12 +202,12 @@ block-step s₀ s r block at end n ha he hn none lf hl es er = go (decLt end n)
         ∙ ap (λ (t : List ℕ). t ++ (10 ∷ [])) (split block at end ha)
         ∙ append-assoc (take at block) part (10 ∷ [])
         ∙ ap (λ (t : List ℕ). t ++ (part ++ (10 ∷ []))) (sym front) in
-        let all : takesAll s₀ (take (end + 1) (take n block)) ≡ ended (longer s part) =
+        let all : takesAll s₀ (take (end + 1) (take n block)) ≡ ended (longer y part) =
         ap (takesAll s₀) next
         ∙ takes-append s₀ (take at (take n block)) (part ++ (10 ∷ []))
-        ∙ takes-append (takesAll s₀ (take at (take n block))) part (10 ∷ [])
-        ∙ ap (λ (x : Course). takesAll x (10 ∷ [])) grown in
-        (rw (lt-ltb end n h) at er) ∙ sym all
+        ∙ takes-append y part (10 ∷ [])
+        ∙ ap (λ (x : Course). takesAll x (10 ∷ [])) (takes-part y part free) in
+        (rw (lt-ltb end n h) at er) ∙ ap ended grown ∙ ended-kept (longer y part) ∙ sym (ap keptOf all ∙ kept-ended (longer y part))
     go (no h) =
         let last : end ≡ n = omega arith in
         let whole = length-take n block in
@@ -173,4 +217,5 @@ block-step s₀ s r block at end n ha he hn none lf hl es er = go (decLt end n)
         ∙ split block at end ha
         ∙ ap (λ (t : List ℕ). t ++ part) (sym front) in
         let stays : n ≤ end = omega (arith, last) in
-        (rw (le-ltb end n stays) at er) ∙ sym (ap (takesAll s₀) all ∙ takes-append s₀ (take at (take n block)) part ∙ grown)
+        (rw (le-ltb end n stays) at er) ∙ grown
+        ∙ sym (ap keptOf (ap (takesAll s₀) all ∙ takes-append s₀ (take at (take n block)) part ∙ takes-part y part free))

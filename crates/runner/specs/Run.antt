@@ -15,13 +15,6 @@ pub record Course : Type 0 where
   pub line : List ℕ
   pub pending : List ℕ
 
--- the bytes of a line that are kept. A longer line is malformed, and cut to these bytes it still is (law `entered-cut`)
-abbrev pub kept : ℕ
-kept = 96
-
-abbrev pub cut : List ℕ → List ℕ
-cut l = take kept l
-
 -- the bytes that are held back from writing: all, unless the room that is left might not do for a line
 abbrev pub outputRoom : ℕ
 outputRoom = 65536
@@ -37,7 +30,7 @@ abbrev pub ended : Course → Course
 ended s = after s (entered (s .card) (s .line) (s .store))
 
 abbrev pub longer : Course → List ℕ → Course
-longer s more = record { card = s .card; store = s .store; line = cut (s .line ++ more); pending = s .pending }
+longer s more = record { card = s .card; store = s .store; line = s .line ++ more; pending = s .pending }
 
 -- a byte of input, and all of them
 abbrev pub takes : Course → ℕ → Course
@@ -46,6 +39,16 @@ takes s b = cond (eqb b 10) (ended s) (longer s (b ∷ []))
 unfoldable pub takesAll : Course → List ℕ → Course
 takesAll s [] = s
 takesAll s (b ∷ bs) = takesAll (takes s b) bs
+
+-- what is kept of a line that has not ended. A longer one is malformed, and cut to these bytes it still is (law `entered-cut`)
+abbrev pub kept : ℕ
+kept = 96
+
+abbrev pub cut : List ℕ → List ℕ
+cut l = take kept l
+
+abbrev pub keptOf : Course → Course
+keptOf s = record { card = s .card; store = s .store; line = cut (s .line); pending = s .pending }
 
 -- where a run stands, by what it holds: the line and the output are the front of their buffers
 abbrev pub courseOf : Run → (store line out : List ℕ) → Course

@@ -11,7 +11,7 @@ ghost use Prim.Native.Nat.{ℕ, _≤_, _<_, _+_, _-_, min};
 ghost use lib.ListN.{length, take, getD};
 ghost use lib.Seq.{sets};
 ghost use Rattle.console.specs.Console.{longestPrint, entered};
-ghost use Rattle.runner.specs.Run.{cut, held, ended, longer, takesAll, courseOf};
+ghost use Rattle.runner.specs.Run.{held, ended, longer, takesAll, keptOf, courseOf};
 use card::card::Card;
 use console::Entered;
 use libc::STDOUT_FILENO;
@@ -177,7 +177,7 @@ fn take_part(
 ) -> Run
     requires { ⌜ run .len ≤ 96 ⌝ }
     requires { ⌜ run .used ≤ 65536 ⌝ }
-    ensures { λ r. ⌜ courseOf r (now (store .exit)) (now (line .exit)) (now (out .exit)) ≡ cond ends (ended (longer (courseOf run (now (store .entry)) (now (line .entry)) (now (out .entry))) (now (part .entry)))) (longer (courseOf run (now (store .entry)) (now (line .entry)) (now (out .entry))) (now (part .entry))) ⌝ }
+    ensures { λ r. ⌜ courseOf r (now (store .exit)) (now (line .exit)) (now (out .exit)) ≡ cond ends (ended (keptOf (longer (courseOf run (now (store .entry)) (now (line .entry)) (now (out .entry))) (now (part .entry))))) (keptOf (longer (courseOf run (now (store .entry)) (now (line .entry)) (now (out .entry))) (now (part .entry)))) ⌝ }
     ensures { λ r. ⌜ r .len ≤ 96 ⌝ }
     ensures { λ r. ⌜ r .used ≤ 65536 ⌝ }
 {
@@ -207,7 +207,7 @@ fn take_block(
     requires { ⌜ n ≤ length (now block) ⌝ }
     requires { ⌜ run .len ≤ 96 ⌝ }
     requires { ⌜ run .used ≤ 65536 ⌝ }
-    ensures { λ r. ⌜ courseOf r (now (store .exit)) (now (line .exit)) (now (out .exit)) ≡ takesAll (courseOf run (now (store .entry)) (now (line .entry)) (now (out .entry))) (take n (now (block .entry))) ⌝ }
+    ensures { λ r. ⌜ courseOf r (now (store .exit)) (now (line .exit)) (now (out .exit)) ≡ keptOf (takesAll (courseOf run (now (store .entry)) (now (line .entry)) (now (out .entry))) (take n (now (block .entry)))) ⌝ }
     ensures { λ r. ⌜ r .len ≤ 96 ⌝ }
     ensures { λ r. ⌜ r .used ≤ 65536 ⌝ }
 {

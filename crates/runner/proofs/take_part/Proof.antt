@@ -5,7 +5,7 @@ use mathlib.Core.List.{List}
 use native.Mathlib.Omega.{arith}
 use lib.ListN.{take, length}
 use lib.Seq.{sets}
-use Rattle.runner.specs.Run.{Course, courseOf, longer, ended}
+use Rattle.runner.specs.Run.{Course, courseOf, longer, ended, keptOf}
 use Rattle.cells.proofs.Laws.{not-true, not-false}
 use Rattle.runner.proofs.Runs.{add-cut}
 use borrow.Author.Needs.{needs}
@@ -32,7 +32,7 @@ returns-2 c =
     let e = d .add .ensures in
     let line = (λ i. take (e .1 .0 i) (e .0 i)) ∙ add-cut (a .line .now) (a .part .now) (a .run .len) _ (e .1 .1 .1) (search needs) refl in
     let longer-now : courseOf (record { card = a .run .card; len = d .add .result; used = a .run .used; going = a .run .going }) (a .store .now) (d .add .last .0) (a .out .now)
-    ≡ longer (courseOf (a .run) (a .store .now) (a .line .now) (a .out .now)) (a .part .now) =
+    ≡ keptOf (longer (courseOf (a .run) (a .store .now) (a .line .now) (a .out .now)) (a .part .now)) =
     λ i. record { card = a .run .card; store = a .store .now; line = line i; pending = take (a .run .used) (a .out .now) } in
     let w = c .enter .ensures in
     let over = not-false (a .ends) (c .before .before .before .before .if1 .left) in

@@ -2,7 +2,7 @@
 use mathlib.Core.Path.{_≡_, sym, ap, _∙_}
 use Rattle.words.specs.Bits.{bitAt}
 use Rattle.cells.specs.Work.{slotsOf}
-use Rattle.cells.specs.Wake.{stirred, NeverStirred}
+use Rattle.cells.specs.Wake.{stirred}
 use Rattle.cells.proofs.Laws.{not-true}
 use Rattle.cells.proofs.Packed.{slots-place}
 use Rattle.card.specs.Address.{slotsRead}
@@ -14,7 +14,6 @@ has-edges-requires : tie.Need-has-edges-requires
 has-edges-requires c κs = search needs
 
 returns : tie.Need-returns
-unfolding NeverStirred
 returns c h = c .before .has-edges .ensures (not-true _ (c .if1 .taken)) _ _
 
 readings-requires : tie.Need-readings-requires
