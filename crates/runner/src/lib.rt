@@ -10,6 +10,7 @@ ghost use mathlib.Core.Path.{_≡_};
 ghost use Prim.Native.Nat.{ℕ, _≤_, _<_, _+_, _-_, min};
 ghost use lib.ListN.{length, take, getD};
 ghost use lib.Seq.{sets};
+ghost use Rattle.card.specs.Fresh.{fresh};
 ghost use Rattle.console.specs.Console.{longestPrint, entered};
 ghost use Rattle.runner.specs.Run.{held, ended, longer, takesAll, keptOf, courseOf};
 use card::card::Card;
@@ -223,6 +224,7 @@ fn take_block(
 
 // The end of the input, or a read that failed: what has been printed is written already.
 fn stop(run: Run) -> Run
+    ensures { λ r. ⌜ r .card ≡ run .card ⌝ }
     ensures { λ r. ⌜ r .len ≡ run .len ⌝ }
     ensures { λ r. ⌜ r .used ≡ run .used ⌝ }
 {
@@ -259,6 +261,7 @@ fn turn(
 }
 
 fn start() -> Run
+    ensures { λ r. ⌜ r .card ≡ fresh ⌝ }
     ensures { λ r. ⌜ r .len ≡ 0 ⌝ }
     ensures { λ r. ⌜ r .used ≡ 0 ⌝ }
 {
