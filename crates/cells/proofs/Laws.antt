@@ -10,9 +10,9 @@ use Rattle.cells.specs.declared.table.Row.{Row}
 use Rattle.cells.specs.declared.table.Class.{Class}
 use Rattle.cells.specs.declared.table.Class.the-variants.{Nothing, Constant, Lookup, And2, Or2, Xor2, And4, Or4, DFlop, SyncDFlop, ClearDFlop, Jk, OneShot, Delay}
 use Rattle.cells.specs.declared.cell.State.{State}
-use Rattle.cells.specs.Table.{rowOf, masked, levelSlots, slots, no-slot}
+use Rattle.cells.specs.Table.{rowOf, masked, levelSlots, anySlot, slots, no-slot}
 use Rattle.cells.specs.Work.{constantOut, trigger, taken, nextCount, nextPulse, countAfter, pulseAfter, keeping, holding, counting, shown, workAs, workOut}
-use Rattle.cells.specs.Wake.{timerStirred, stirredAs, stirred, NeverStirred, differ, disagreeOn, disagree, wakes}
+use Rattle.cells.specs.Wake.{timerStirred, stirredAs, stirred, hasEdges, NeverStirred, differ, disagreeOn, disagree, wakes}
 use Rattle.cells.proofs.Rows.{and-left, and-right, every-row}
 
 pub or-left : (a b : Bool) → (a || b) ≡ false → a ≡ false
@@ -232,17 +232,14 @@ still-as Jk s r h = absurd (false≢true h)
 still-as (OneShot t) s r h = absurd (false≢true h)
 still-as (Delay t) s r h = absurd (false≢true h)
 
-edged : Slots → Bool
-edged e = (e .x || e .y) || (e .z || e .f)
-
 rowStill : Row → Bool
-rowStill w = edged (w .edge) || stillClass (w .class)
+rowStill w = anySlot (w .edge) || stillClass (w .class)
 
 -- a type without edge slots is one of them
-pub edgeless-still : (kind : ℕ) → rowOf kind .edge ≡ no-slot → NeverStirred kind
-unfolding stirred rowStill edged stillClass
+pub edgeless-still : (kind : ℕ) → hasEdges kind ≡ false → NeverStirred kind
+unfolding stirred rowStill stillClass
 edgeless-still kind e s r =
-    let still = ap (λ (edge : Slots). edged edge || stillClass (rowOf kind .class)) (sym e) ∙ every-row rowStill refl kind in
+    let still = ap (λ (edges : Bool). edges || stillClass (rowOf kind .class)) (sym e) ∙ every-row rowStill refl kind in
     still-as (rowOf kind .class) s (masked (rowOf kind .used) r) still
 
 -- ---- when a cell wakes

@@ -10,7 +10,7 @@ use Rattle.words.specs.Bits.{bitAt, bitNumber, wordOf}
 use Rattle.words.proofs.Laws.{bit-and, bit-xor, built-of-bits}
 use Rattle.cells.specs.declared.table.Slots.{Slots}
 use Rattle.cells.specs.declared.table.Row.{Row}
-use Rattle.cells.specs.Table.{slots, no-slot, masked, levelSlots}
+use Rattle.cells.specs.Table.{slots, no-slot, masked, levelSlots, anySlot}
 use Rattle.cells.specs.Work.{placeOf, slotsOf}
 use Rattle.cells.specs.Wake.{disagreeOn}
 
@@ -38,6 +38,9 @@ four false false false false = (refl, refl)
 pub slots-place : (r : Slots) → slotsOf (placeOf r) ≡ r
 slots-place r = four (r .x) (r .y) (r .z) (r .f) .0
 
+pub any-place : (s : Slots) → anySlot s ≡ not (eqb (placeOf s) 0)
+any-place s = four (s .x) (s .y) (s .z) (s .f) .1
+
 one-bit : (b : Bool) → bitNumber b ≤ 1
 one-bit true = omega arith
 one-bit false = omega arith
@@ -51,8 +54,11 @@ place-lt r =
     omega (arith, x, y, z, f)
 
 -- a set that the table's column holds packed
-pub column : (s : Slots) (p : ℕ) → p ≡ placeOf s → (slotsOf p ≡ s) × (p < 16)
-column s p e = (ap slotsOf e ∙ slots-place s, rw e (place-lt s))
+pub column : (s : Slots) (p : ℕ) → p ≡ placeOf s → (p ≡ placeOf s) × (p < 16)
+column s p e = (e, rw e (place-lt s))
+
+pub set-of : (s : Slots) (p : ℕ) → p ≡ placeOf s → slotsOf p ≡ s
+set-of s p e = ap slotsOf e ∙ slots-place s
 
 pub slots-none : slotsOf 0 ≡ no-slot
 unfolding slotsOf bitAt
@@ -78,7 +84,7 @@ slots-level w u e eu ee =
     flip k h = bit-xor e 15 k ∙ ap (λ (b : Bool). not (Bool·beq (bitAt e k) b)) h ∙ beq-true (bitAt e k)
 
 -- and what is unpacked was packed
-place-slots : (x : ℕ) → x < 16 → placeOf (slotsOf x) ≡ x
+pub place-slots : (x : ℕ) → x < 16 → placeOf (slotsOf x) ≡ x
 unfolding slotsOf wordOf
 place-slots x h =
     let built = built-of-bits x 4 h in

@@ -1,7 +1,7 @@
 -- Document 01, "Cells": the table by cell type.
 -- A slot set and the readings of the slots are both `Slots`: one bit for each of X, Y, Z, F.
 use Prim.Native.Nat.{ℕ}
-use mathlib.Core.Bool.{Bool, true, false, not, _&&_, cond}
+use mathlib.Core.Bool.{Bool, true, false, not, _&&_, _||_, cond}
 use mathlib.Core.List.{List, [], _∷_}
 use mathlib.Core.Option.{Option, none, some}
 use lib.Dec.{eqb}
@@ -128,6 +128,10 @@ rowOf n = rowIn n lines
 -- the readings of the slots of a set; a slot outside it reads low
 abbrev pub masked : Slots → Slots → Slots
 masked s r = slots (s .x && r .x) (s .y && r .y) (s .z && r .z) (s .f && r .f)
+
+-- some slot is in the set
+abbrev pub anySlot : Slots → Bool
+anySlot s = (s .x || s .y) || (s .z || s .f)
 
 -- the level slots: the used slots that are no edge slots
 abbrev pub levelSlots : Row → Slots

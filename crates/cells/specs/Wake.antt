@@ -7,7 +7,7 @@ use Rattle.cells.specs.declared.table.Slots.{Slots}
 use Rattle.cells.specs.declared.table.Class.{Class}
 use Rattle.cells.specs.declared.table.Class.the-variants.{Nothing, Constant, Lookup, And2, Or2, Xor2, And4, Or4, DFlop, SyncDFlop, ClearDFlop, Jk, OneShot, Delay}
 use Rattle.cells.specs.declared.cell.State.{State}
-use Rattle.cells.specs.Table.{rowOf, masked, levelSlots}
+use Rattle.cells.specs.Table.{rowOf, masked, levelSlots, anySlot}
 use Rattle.cells.specs.Work.{trigger}
 
 -- "a timer's trigger is high; a timer's clock is high while its count is above 0 or its pulse is on"
@@ -33,6 +33,10 @@ stirredAs (Delay t) s r = timerStirred s r
 
 unfoldable pub stirred : ℕ → State → Slots → Bool
 stirred kind s r = stirredAs (rowOf kind .class) s (masked (rowOf kind .used) r)
+
+-- the type has edge slots
+abbrev pub hasEdges : ℕ → Bool
+hasEdges kind = anySlot (rowOf kind .edge)
 
 -- nothing stirs a cell of the type
 abbrev pub NeverStirred : ℕ → Type 0

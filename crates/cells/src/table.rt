@@ -243,7 +243,7 @@ fn wide(b: u8) -> u32
 
 // The slots that a type uses, packed; past the table none.
 pub fn used_of(kind: u8) -> u32
-    ensures { λ u. ⌜ (slotsOf u ≡ rowOf kind .used) × (u < 16) ⌝ }
+    ensures { λ u. ⌜ (u ≡ placeOf (rowOf kind .used)) × (u < 16) ⌝ }
 {
     let n = kind as usize;
     if n < 19 { wide(USED[n]) } else { 0 }
@@ -251,7 +251,7 @@ pub fn used_of(kind: u8) -> u32
 
 // Its edge slots, packed.
 pub fn edge_of(kind: u8) -> u32
-    ensures { λ e. ⌜ slotsOf e ≡ rowOf kind .edge ⌝ }
+    ensures { λ e. ⌜ (e ≡ placeOf (rowOf kind .edge)) × (e < 16) ⌝ }
 {
     let n = kind as usize;
     if n < 19 { wide(EDGE[n]) } else { 0 }
@@ -289,7 +289,7 @@ pub fn row_of(kind: u8) -> Row
 
 // The used slots of a type that are no edge slots, packed.
 pub fn level_slots(kind: u8) -> u32
-    ensures { λ m. ⌜ (slotsOf m ≡ levelSlots (rowOf kind)) × (m < 16) ⌝ }
+    ensures { λ m. ⌜ (m ≡ placeOf (levelSlots (rowOf kind))) × (m < 16) ⌝ }
 {
     let used = used_of(kind);
     used & (edge_of(kind) ^ 15)

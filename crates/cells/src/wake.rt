@@ -1,8 +1,7 @@
 // Whether a quick tick works out a cell.
-ghost use mathlib.Core.Bool.{false};
 ghost use mathlib.Core.Path.{_≡_};
 ghost use Rattle.cells.specs.Wake;
-ghost use Rattle.cells.specs.Wake.{timerStirred, stirredAs, NeverStirred};
+ghost use Rattle.cells.specs.Wake.{timerStirred, stirredAs, hasEdges};
 ghost use Rattle.cells.specs.Work.{slotsOf};
 use crate::cell::State;
 use crate::table::Class;
@@ -50,9 +49,9 @@ pub fn stirred(kind: u8, s: State, now: u32) -> bool
     stirred_as(class_of(kind), s, unpacked(used_of(kind) & now))
 }
 
-// Whether a type has edge slots. One that has none is never stirred.
+// Whether a type has edge slots. One that has none is never stirred (law `edgeless-still`).
 pub fn has_edges(kind: u8) -> bool
-    ensures { λ q. ⌜ (q ≡ false → NeverStirred kind) ⌝ }
+    ensures { λ q. ⌜ q ≡ hasEdges kind ⌝ }
 {
     edge_of(kind) != 0
 }

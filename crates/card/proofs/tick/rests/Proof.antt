@@ -3,7 +3,7 @@ use mathlib.Core.Path.{_≡_, sym, ap, _∙_}
 use Rattle.words.specs.Bits.{bitAt}
 use Rattle.cells.specs.Work.{slotsOf}
 use Rattle.cells.specs.Wake.{stirred}
-use Rattle.cells.proofs.Laws.{not-true}
+use Rattle.cells.proofs.Laws.{not-true, edgeless-still}
 use Rattle.cells.proofs.Packed.{slots-place}
 use Rattle.card.specs.Address.{slotsRead}
 use borrow.Author.Needs.{needs}
@@ -14,7 +14,9 @@ has-edges-requires : tie.Need-has-edges-requires
 has-edges-requires c κs = search needs
 
 returns : tie.Need-returns
-returns c h = c .before .has-edges .ensures (not-true _ (c .if1 .taken)) _ _
+returns c h =
+    let e = c .before .has-edges in
+    edgeless-still (c .before .before .args .cell .kind) (sym (e .ensures) ∙ not-true _ (c .if1 .taken)) _ _
 
 readings-requires : tie.Need-readings-requires
 readings-requires c κs = search needs

@@ -9,7 +9,7 @@ use Rattle.cells.specs.declared.table.Row.{Row}
 use Rattle.cells.specs.Table.{rowOf, typeCount}
 use Rattle.cells.specs.Work.{placeOf}
 use Rattle.cells.proofs.Rows.{past-table}
-use Rattle.cells.proofs.Packed.{column, slots-none}
+use Rattle.cells.proofs.Packed.{column}
 use Rattle.cells.proofs.table.edge_of.Statement.{statement}
 use Rattle.cells.proofs.table.edge_of.Tie as tie
 
@@ -23,10 +23,10 @@ returns : tie.Need-returns
 unfolding listed rowOf
 returns c =
     let n = c .before .before .args .kind in
-    column (rowOf n .edge) _ (c .wide .ensures ∙ listed-at (λ k. placeOf (rowOf k .edge)) typeCount n 0 (search needs)) .0
+    column (rowOf n .edge) _ (c .wide .ensures ∙ listed-at (λ k. placeOf (rowOf k .edge)) typeCount n 0 (search needs))
 
 returns-2 : tie.Need-returns-2
-returns-2 c = slots-none ∙ sym (ap (λ (r : Row). r .edge) (past-table (c .before .args .kind) (search needs)))
+returns-2 c = (sym (ap (λ (r : Row). placeOf (r .edge)) (past-table (c .before .args .kind) (search needs))), omega arith)
 
 pub edge-of-spec : {M : Type 1} → statement M
 edge-of-spec = tie.close (tie.spec array-read-wide wide-requires returns returns-2)

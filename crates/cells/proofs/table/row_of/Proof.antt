@@ -8,6 +8,7 @@ use Rattle.words.proofs.Listed.{listed-at}
 use Rattle.cells.specs.declared.table.Kept.the-variants.{Stateless}
 use Rattle.cells.specs.Table.{rowOf, typeCount}
 use Rattle.cells.proofs.Rows.{past-table}
+use Rattle.cells.proofs.Packed.{set-of}
 use borrow.Author.Needs.{needs}
 use Rattle.cells.proofs.table.row_of.Statement.{statement}
 use Rattle.cells.proofs.table.row_of.Tie as tie
@@ -46,8 +47,8 @@ returns c =
     let u = e .before .before in
     let n = u .before .before .before .args .kind in
     let h : n < typeCount = search needs in
-    let used = u .unpacked .ensures ∙ u .before .used-of .ensures .0 in
-    let edge = e .unpacked2 .ensures ∙ e .before .edge-of .ensures in
+    let used = u .unpacked .ensures ∙ set-of _ _ (u .before .used-of .ensures .0) in
+    let edge = e .unpacked2 .ensures ∙ set-of _ _ (e .before .edge-of .ensures .0) in
     λ i. record {
       used = used i;
       edge = edge i;
@@ -62,8 +63,8 @@ returns-2 c =
     let e = c .before in
     let u = e .before .before in
     let past = sym (past-table (u .before .before .before .args .kind) (search needs)) in
-    let used = u .unpacked .ensures ∙ u .before .used-of .ensures .0 in
-    let edge = e .unpacked2 .ensures ∙ e .before .edge-of .ensures in
+    let used = u .unpacked .ensures ∙ set-of _ _ (u .before .used-of .ensures .0) in
+    let edge = e .unpacked2 .ensures ∙ set-of _ _ (e .before .edge-of .ensures .0) in
     λ i. record {
       used = used i;
       edge = edge i;

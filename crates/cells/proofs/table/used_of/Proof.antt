@@ -9,7 +9,7 @@ use Rattle.cells.specs.declared.table.Row.{Row}
 use Rattle.cells.specs.Table.{rowOf, typeCount}
 use Rattle.cells.specs.Work.{placeOf}
 use Rattle.cells.proofs.Rows.{past-table}
-use Rattle.cells.proofs.Packed.{column, slots-none}
+use Rattle.cells.proofs.Packed.{column}
 use Rattle.cells.proofs.table.used_of.Statement.{statement}
 use Rattle.cells.proofs.table.used_of.Tie as tie
 
@@ -26,7 +26,7 @@ returns c =
     column (rowOf n .used) _ (c .wide .ensures ∙ listed-at (λ k. placeOf (rowOf k .used)) typeCount n 0 (search needs))
 
 returns-2 : tie.Need-returns-2
-returns-2 c = (slots-none ∙ sym (ap (λ (r : Row). r .used) (past-table (c .before .args .kind) (search needs))), omega arith)
+returns-2 c = (sym (ap (λ (r : Row). placeOf (r .used)) (past-table (c .before .args .kind) (search needs))), omega arith)
 
 pub used-of-spec : {M : Type 1} → statement M
 used-of-spec = tie.close (tie.spec array-read-wide wide-requires returns returns-2)

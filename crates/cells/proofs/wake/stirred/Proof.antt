@@ -2,10 +2,10 @@
 use mathlib.Core.Path.{ap, ap₂, _∙_}
 use Rattle.cells.specs.declared.table.Slots.{Slots}
 use Rattle.cells.specs.declared.table.Class.{Class}
-use Rattle.cells.specs.Table.{masked}
+use Rattle.cells.specs.Table.{rowOf, masked}
 use Rattle.cells.specs.Work.{slotsOf}
 use Rattle.cells.specs.Wake.{stirredAs, stirred}
-use Rattle.cells.proofs.Packed.{slots-and}
+use Rattle.cells.proofs.Packed.{slots-and, set-of}
 use borrow.Author.Needs.{needs}
 use Rattle.cells.proofs.wake.stirred.Statement.{statement}
 use Rattle.cells.proofs.wake.stirred.Tie as tie
@@ -28,9 +28,10 @@ returns c =
     let p = c .before in
     let a = p .before .before .before .args in
     let used = p .before .used-of in
+    let mask = set-of (rowOf (a .kind) .used) (used .result) (used .ensures .0) in
     c .stirred-as .ensures
     ∙ ap₂ (λ (k : Class) (r : Slots). stirredAs k (a .s) r) (p .before .before .class-of .ensures)
-    (p .unpacked .ensures ∙ slots-and (used .result) (a .now) ∙ ap (λ (u : Slots). masked u (slotsOf (a .now))) (used .ensures .0))
+    (p .unpacked .ensures ∙ slots-and (used .result) (a .now) ∙ ap (λ (u : Slots). masked u (slotsOf (a .now))) mask)
 
 pub stirred-spec : {M : Type 1} → statement M
 stirred-spec =

@@ -2,9 +2,9 @@
 use mathlib.Core.Path.{ap, ap₂, _∙_}
 use Rattle.cells.specs.declared.table.Slots.{Slots}
 use Rattle.cells.specs.declared.table.Class.{Class}
-use Rattle.cells.specs.Table.{masked}
+use Rattle.cells.specs.Table.{rowOf, masked}
 use Rattle.cells.specs.Work.{slotsOf, workAs, workOut}
-use Rattle.cells.proofs.Packed.{slots-and}
+use Rattle.cells.proofs.Packed.{slots-and, set-of}
 use borrow.Author.Needs.{needs}
 use Rattle.cells.proofs.work.work.Statement.{statement}
 use Rattle.cells.proofs.work.work.Tie as tie
@@ -23,9 +23,10 @@ unfolding workOut
 returns c =
     let used = c .before .used-of in
     let a = c .before .before .before .args in
+    let mask = set-of (rowOf (a .kind) .used) (used .result) (used .ensures .0) in
     c .work-as .ensures
     ∙ ap₂ (λ (k : Class) (r : Slots). workAs k (a .config) (a .s) r) (c .before .before .class-of .ensures)
-    (slots-and (used .result) (a .r) ∙ ap (λ (u : Slots). masked u (slotsOf (a .r))) (used .ensures .0))
+    (slots-and (used .result) (a .r) ∙ ap (λ (u : Slots). masked u (slotsOf (a .r))) mask)
 
 pub work-spec : {M : Type 1} → statement M
 work-spec = tie.close (tie.spec class-of-requires used-of-requires work-as-requires returns)
