@@ -21,7 +21,7 @@ use Rattle.card.specs.Edits.{atCell, atConnector, withSettings, withCell
 use Rattle.card.specs.Presets.{presetCell, has, cellAfter, editedAfter, preset}
 use Rattle.card.specs.Record.{poweredUp}
 use Rattle.card.specs.Settled.{remembered, Keeps, Settled}
-use Rattle.card.specs.Exempt.{Edit}
+use Rattle.card.specs.Untouched.{Edit}
 
 -- what a reader has read is the same where the memory is
 remembered-same : (n i : ℕ) (c d : Card) (s : List ℕ) → Edit n c d → remembered n i d s ≡ remembered n i c s

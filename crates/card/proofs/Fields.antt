@@ -155,6 +155,10 @@ four (a ∷ b ∷ c ∷ []) e = absurd (omega arith)
 four (a ∷ b ∷ c ∷ d ∷ []) e = refl
 four (a ∷ b ∷ c ∷ d ∷ x ∷ xs) e = absurd (omega arith)
 
+-- four elements replaced, one after the other, are the whole of a list of four
+pub replaced : (s : List ℕ) (w x y z : ℕ) → length s ≡ 4 → set (set (set (set s 0 w) 1 x) 2 y) 3 z ≡ w ∷ x ∷ y ∷ z ∷ []
+replaced s w x y z h = ap (λ (l : List ℕ). set (set (set (set l 0 w) 1 x) 2 y) 3 z) (sym (four s h))
+
 -- two bytes in a row
 two : (l : List ℕ) (k : ℕ) → k + 1 < length l → take 2 (drop k l) ≡ getD l k 0 ∷ getD l (k + 1) 0 ∷ []
 two l k h =

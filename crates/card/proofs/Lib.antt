@@ -1,4 +1,5 @@
 -- The proofs of the card: laws that several functions or the layer above cite.
+pub mod ChangeLaws
 pub mod Counts
 pub mod EditLaws
 pub mod Fields

@@ -162,19 +162,17 @@ stored edge v = cond (edge && ltb v edgeAddress) (v + edgeAddress) v
 abbrev pub wiredSlot : Bool → Bool → ℕ → ℕ → ℕ
 wiredSlot given edge v old = cond given (stored edge v) old
 
+abbrev pub wiredSlots : Slots → Slots → List ℕ → List ℕ → List ℕ
+wiredSlots given edge v old =
+    wiredSlot (given .x) (edge .x) (getD v 0 0) (getD old 0 0)
+    ∷ wiredSlot (given .y) (edge .y) (getD v 1 0) (getD old 1 0)
+    ∷ wiredSlot (given .z) (edge .z) (getD v 2 0) (getD old 2 0)
+    ∷ wiredSlot (given .f) (edge .f) (getD v 3 0) (getD old 3 0)
+    ∷ []
+
 unfoldable pub wired : Cell → Slots → List ℕ → Cell
 wired cell given v =
-    record {
-      kind = cell .kind;
-      config = cell .config;
-      slots =
-          wiredSlot (given .x) (rowOf (cell .kind) .edge .x) (getD v 0 0) (getD (cell .slots) 0 0)
-          ∷ wiredSlot (given .y) (rowOf (cell .kind) .edge .y) (getD v 1 0) (getD (cell .slots) 1 0)
-          ∷ wiredSlot (given .z) (rowOf (cell .kind) .edge .z) (getD v 2 0) (getD (cell .slots) 2 0)
-          ∷ wiredSlot (given .f) (rowOf (cell .kind) .edge .f) (getD v 3 0) (getD (cell .slots) 3 0)
-          ∷ [];
-      state = cell .state;
-    }
+    record { kind = cell .kind; config = cell .config; slots = wiredSlots given (rowOf (cell .kind) .edge) v (cell .slots); state = cell .state }
 
 unfoldable pub setSlots : ℕ → Card → Slots → List ℕ → Card
 setSlots n c given v = putCell n c (wired (currentCell n c) given v)

@@ -8,7 +8,9 @@ pub mod Valid
 pub mod Edits
 pub mod Presets
 pub mod PresetRows
+pub mod Context
+pub mod Change
 pub mod Record
 pub mod Settled
-pub mod Exempt
+pub mod Untouched
 pub mod Examples

@@ -4,8 +4,8 @@ ghost use mathlib.Core.Path.{_≡_};
 ghost use Prim.Native.Nat.{_<_};
 ghost use Rattle.card.specs.Address.{cellCount};
 ghost use Rattle.card.specs.Edits;
-ghost use Rattle.card.specs.Edits.{currentCell, currentConnector, putCell, putConnector, setTrigger, configuredState, statedAs, wiredSlot, bitState, countState, clearedCell};
-ghost use Rattle.card.specs.Edits.{setType, setConfig, setState, setSlots, setConnectorType, setSource, blankSlot};
+ghost use Rattle.card.specs.Edits.{atCell, currentCell, currentConnector, putCell, putConnector, setTrigger, configuredState, statedAs, wiredSlot, bitState, countState, clearedCell};
+ghost use Rattle.card.specs.Edits.{setType, setConfig, setState, wiredSlots, setSlots, setConnectorType, setSource, blankSlot};
 use crate::card::Card;
 use crate::card::Connector;
 use cells::cell::Cell;
@@ -20,6 +20,13 @@ const CLEAR: State = State {
     count: Pulses(0),
     pulse: false,
 };
+
+// Whether the pointer stands at a cell.
+pub fn at_cell(card: Card) -> bool
+    ensures { λ q. ⌜ q ≡ atCell cellCount card ⌝ }
+{
+    (1 <= card.pointer) & (card.pointer < 17)
+}
 
 // The cell at the pointer.
 pub fn current_cell(card: Card) -> Cell
@@ -240,6 +247,18 @@ fn wired_slot(given: bool, edge: bool, v: u8, old: u8) -> u8
     }
 }
 
+// The four slots, one element replaced after the other.
+fn wired_slots(old: [u8; 4], given: Slots, edge: Slots, v: [u8; 4]) -> [u8; 4]
+    ensures { λ r. ⌜ r ≡ wiredSlots given edge v old ⌝ }
+{
+    let mut slots = old;
+    slots[0] = wired_slot(given.x, edge.x, v[0], old[0]);
+    slots[1] = wired_slot(given.y, edge.y, v[1], old[1]);
+    slots[2] = wired_slot(given.z, edge.z, v[2], old[2]);
+    slots[3] = wired_slot(given.f, edge.f, v[3], old[3]);
+    slots
+}
+
 pub fn set_slots(card: Card, given: Slots, v: [u8; 4]) -> Card
     ensures { λ r. ⌜ r ≡ setSlots cellCount card given v ⌝ }
 {
@@ -247,12 +266,7 @@ pub fn set_slots(card: Card, given: Slots, v: [u8; 4]) -> Card
     let row = row_of(cell.kind);
     let edge = row.edge;
     let old = cell.slots;
-    let slots = [
-        wired_slot(given.x, edge.x, v[0], old[0]),
-        wired_slot(given.y, edge.y, v[1], old[1]),
-        wired_slot(given.z, edge.z, v[2], old[2]),
-        wired_slot(given.f, edge.f, v[3], old[3]),
-    ];
+    let slots = wired_slots(old, given, edge, v);
     let mut next = cell;
     next.slots = slots;
     put_cell(card, next)

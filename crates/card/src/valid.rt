@@ -62,7 +62,7 @@ pub fn bad_address(a: u32) -> bool
 }
 
 // 13: the type of BNC1 makes it an output while the trigger comes in by it.
-pub fn front_driven(trigger: u8, kind: u8) -> bool
+pub fn front_driven(trigger: u8, kind: u32) -> bool
     ensures { λ r. ⌜ r ≡ frontDriven trigger kind ⌝ }
 {
     (trigger == 4) & ((kind == 1) | (kind == 2))
@@ -138,7 +138,7 @@ pub fn valid_settings(trigger: u8, cells: [Cell; 16], connectors: [Connector; 16
     ensures { λ r. ⌜ r ≡ valid cellCount trigger cells connectors ⌝ }
 {
     let front = connectors[0];
-    let clock = !bad_clock(trigger as u32) & !front_driven(trigger, front.kind);
+    let clock = !bad_clock(trigger as u32) & !front_driven(trigger, front.kind as u32);
     clock & (valid_cells(cells) & valid_connectors(connectors))
 }
 

@@ -16,7 +16,7 @@ use Rattle.card.specs.declared.card.Card.{Card}
 use Rattle.card.specs.declared.card.Connector.{Connector}
 use Rattle.card.specs.Address.{cellCount, firstCell}
 use Rattle.card.specs.Edits.{atCell, atConnector, withCell, withConnector, putCell, putConnector, move, setTrigger, home, setType, setConfig, setState, setSlots, setConnectorType, setSource}
-use Rattle.card.specs.Exempt.{Edit}
+use Rattle.card.specs.Untouched.{Edit}
 use Rattle.card.specs.Fresh.{fresh}
 use Rattle.card.specs.Presets.{has, presetCell, editedAfter, preset}
 use Rattle.card.specs.Record.{configWidth, loadNumber, loaded}

@@ -14,7 +14,7 @@ use Rattle.card.specs.Fresh.{fresh}
 use Rattle.card.specs.Record.{configWidth, loaded, loadNumber}
 use Rattle.card.specs.Tick
 use Rattle.card.specs.Settled.{Settled, AlikeTicks}
-use Rattle.card.specs.Exempt.{Edit}
+use Rattle.card.specs.Untouched.{Edit}
 use Rattle.card.proofs.Sleep.{fresh-settled, tick-settled, same-ticks}
 use Rattle.card.proofs.EditLaws.{edit-settled, no-edit, move-edit, trigger-edit, home-edit, type-edit, config-edit, state-edit, slots-edit, connector-type-edit, source-edit, preset-edit, powered-settled}
 use Rattle.lines.specs.declared.grammar.Command.{Command}

@@ -14,6 +14,9 @@ array-copy-out-front c = search needs
 bad-clock-requires : tie.Need-bad-clock-requires
 bad-clock-requires c κs = search needs
 
+cast-front-driven : tie.Need-cast-front-driven
+cast-front-driven c = search needs
+
 front-driven-requires : tie.Need-front-driven-requires
 front-driven-requires c κs = search needs
 
@@ -26,10 +29,12 @@ valid-connectors-requires c κs = search needs
 returns : tie.Need-returns
 unfolding valid
 returns c =
-    let a = c .before .before .before .before .before .args in
+    let f = c .before .before in
+    let b = f .before .before in
+    let a = b .before .before .args in
     let sixteen : length (a .cells) ≡ cellCount = search needs in
     let others : length (a .t3) ≡ connectorCount = search needs in
-    rw (c .before .before .before .bad-clock .ensures, c .before .before .front-driven .ensures, c .before .valid-cells .ensures, c .valid-connectors .ensures, sixteen, others, and-true)
+    rw (b .bad-clock .ensures, f .front-driven .ensures, c .before .valid-cells .ensures, c .valid-connectors .ensures, sixteen, others, and-true)
 
 pub valid-settings-spec : {M : Type 1} → statement M
 valid-settings-spec =
@@ -37,6 +42,7 @@ valid-settings-spec =
     (tie.spec
     array-copy-out-front
     bad-clock-requires
+    cast-front-driven
     front-driven-requires
     valid-cells-requires
     valid-connectors-requires

@@ -1,0 +1,20 @@
+-- `card::context::context_of` meets its contract: each part by the call that gives it.
+use borrow.Author.Needs.{needs}
+use Rattle.card.proofs.context.context_of.Statement.{statement}
+use Rattle.card.proofs.context.context_of.Tie as tie
+
+current-cell-requires : tie.Need-current-cell-requires
+current-cell-requires c κs = search needs
+
+current-connector-requires : tie.Need-current-connector-requires
+current-connector-requires c κs = search needs
+
+at-cell-requires : tie.Need-at-cell-requires
+at-cell-requires c κs = search needs
+
+returns : tie.Need-returns
+returns c = rw (c .at-cell .ensures, c .before .current-connector .ensures, c .before .before .current-cell .ensures)
+
+pub context-of-spec : {M : Type 1} → statement M
+context-of-spec =
+    tie.close (tie.spec current-cell-requires current-connector-requires at-cell-requires returns)

@@ -1,0 +1,66 @@
+-- Document 01, "Lines": what a line goes by before it changes anything, what its reads give, and row 13 of "When the card says no".
+use Prim.Native.Nat.{ℕ, _/_, _%_}
+use mathlib.Core.Bool.{Bool, _&&_, cond}
+use lib.Dec.{eqb, ltb}
+use lib.ListN.{getD}
+use Rattle.words.specs.Bits.{bitNumber}
+use Rattle.cells.specs.declared.table.Kept.{Kept}
+use Rattle.cells.specs.declared.table.Kept.the-variants.{Stateless, Bit, Count}
+use Rattle.cells.specs.declared.cell.State.{State}
+use Rattle.cells.specs.Table.{rowOf}
+use Rattle.card.specs.declared.card.Card.{Card}
+use Rattle.card.specs.declared.context.Context.{Context}
+use Rattle.card.specs.Address.{firstConnector}
+use Rattle.card.specs.Edits.{atCell, currentCell, currentConnector}
+use Rattle.card.specs.Presets.{setsFront}
+use Rattle.card.specs.Valid.{frontTrigger, frontDriven}
+
+-- where the pointer stands and what is there, the trigger source, and the words "as of the last tick"
+abbrev pub contextOf : ℕ → Card → Context
+contextOf n c =
+    record {
+      pointer = c .pointer;
+      celled = atCell n c;
+      trigger = c .trigger;
+      cell = currentCell n c;
+      connector = currentConnector c;
+      levels = c .levels;
+      outputs = c .outputs;
+    }
+
+-- ---- what reads give
+
+-- "`36CCA p?` reads Y, Z or F": the type; the configuration of a cell or the source of a connector; the state
+abbrev pub typeRead : Context → ℕ
+typeRead x = cond (x .celled) (x .cell .kind) (x .connector .kind)
+
+abbrev pub configRead : Context → ℕ
+configRead x = cond (x .celled) (x .cell .config) (x .connector .source)
+
+-- a flip-flop's bit, a timer's count
+unfoldable pub stateAs : Kept → State → ℕ
+stateAs Stateless s = 0
+stateAs Bit s = bitNumber (s .bit)
+stateAs Count s = s .count .0
+
+abbrev pub stateRead : Context → ℕ
+stateRead x = stateAs (rowOf (x .cell .kind) .kept) (x .cell .state)
+
+-- "`36CCB p?`", the slots counted from X; there are four
+abbrev pub slotRead : Context → ℕ → ℕ
+slotRead x i = cond (ltb i 4) (getD (x .cell .slots) i 0) 0
+
+-- "`36RDADC X?` front levels, `Y?` backplane": the bits 0-7 and 8-15 of the levels
+abbrev pub frontRead : Context → ℕ
+frontRead x = x .levels % 256
+
+abbrev pub backRead : Context → ℕ
+backRead x = x .levels / 256
+
+-- ---- 13: "a line makes BNC1 an output while trigger is 4"
+
+abbrev pub drivesFront : Context → ℕ → Bool
+drivesFront x v = eqb (x .pointer) firstConnector && frontDriven (x .trigger) v
+
+abbrev pub presetDrives : Context → ℕ → Bool
+presetDrives x v = setsFront v && eqb (x .trigger) frontTrigger

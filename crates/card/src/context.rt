@@ -1,0 +1,127 @@
+// What a line goes by, and what its reads give: where the pointer stands and what is there, the trigger source, the words of the last tick.
+ghost use mathlib.Core.Path.{_≡_};
+ghost use Rattle.card.specs.Address.{cellCount};
+ghost use Rattle.card.specs.Context.{contextOf, typeRead, configRead, stateAs, stateRead, slotRead, frontRead, backRead};
+ghost use Rattle.card.specs.Context.{drivesFront, presetDrives};
+use crate::card::Card;
+use crate::card::Connector;
+use crate::edits::at_cell;
+use crate::edits::current_cell;
+use crate::edits::current_connector;
+use crate::presets::sets_front;
+use crate::valid::front_driven;
+use cells::cell::Cell;
+use cells::cell::State;
+use cells::table::Kept;
+use cells::table::row_of;
+
+// A small part of the card: no line looks at more before it changes something. `celled` says that the pointer stands at a cell.
+pub struct Context {
+    pub pointer: u8,
+    pub celled: bool,
+    pub trigger: u8,
+    pub cell: Cell,
+    pub connector: Connector,
+    pub levels: u16,
+    pub outputs: u16,
+}
+
+pub fn context_of(card: Card) -> Context
+    ensures { λ r. ⌜ r ≡ contextOf cellCount card ⌝ }
+{
+    let cell = current_cell(card);
+    let connector = current_connector(card);
+    Context {
+        pointer: card.pointer,
+        celled: at_cell(card),
+        trigger: card.trigger,
+        cell: cell,
+        connector: connector,
+        levels: card.levels,
+        outputs: card.outputs,
+    }
+}
+
+// The type at the pointer.
+pub fn read_type(x: Context) -> u16
+    ensures { λ v. ⌜ v ≡ typeRead x ⌝ }
+{
+    let cell = x.cell;
+    let connector = x.connector;
+    if x.celled {
+        cell.kind as u16
+    } else {
+        connector.kind as u16
+    }
+}
+
+// The configuration of the cell, or the source of the connector, at the pointer.
+pub fn read_config(x: Context) -> u16
+    ensures { λ v. ⌜ v ≡ configRead x ⌝ }
+{
+    let cell = x.cell;
+    let connector = x.connector;
+    if x.celled {
+        cell.config
+    } else {
+        connector.source as u16
+    }
+}
+
+fn state_as(kept: Kept, s: State) -> u16
+    ensures { λ v. ⌜ v ≡ stateAs kept s ⌝ }
+{
+    let count = s.count;
+    match kept {
+        Kept::Stateless => 0,
+        Kept::Bit => if s.bit { 1 } else { 0 },
+        Kept::Count => count.0,
+    }
+}
+
+// The state of the cell at the pointer: a flip-flop's bit, a timer's count, 0 where it keeps none.
+pub fn read_state(x: Context) -> u16
+    ensures { λ v. ⌜ v ≡ stateRead x ⌝ }
+{
+    let cell = x.cell;
+    let row = row_of(cell.kind);
+    let kept = row.kept;
+    let s = cell.state;
+    state_as(kept, s)
+}
+
+// What slot number i of the cell at the pointer holds, X being 0; there is none from 4 on, and its answer is 0.
+pub fn read_slot(x: Context, i: usize) -> u16
+    ensures { λ v. ⌜ v ≡ slotRead x i ⌝ }
+{
+    let cell = x.cell;
+    let slots = cell.slots;
+    if i < 4 { slots[i] as u16 } else { 0 }
+}
+
+// The levels of the front connectors, and of the backplane, as of the last tick.
+pub fn read_front(x: Context) -> u16
+    ensures { λ v. ⌜ v ≡ frontRead x ⌝ }
+{
+    x.levels % 256
+}
+
+pub fn read_back(x: Context) -> u16
+    ensures { λ v. ⌜ v ≡ backRead x ⌝ }
+{
+    x.levels / 256
+}
+
+// 13: the pointer stands at BNC1, and this type would make it an output while it brings the trigger.
+pub fn drives_front(x: Context, v: u32) -> bool
+    ensures { λ q. ⌜ q ≡ drivesFront x v ⌝ }
+{
+    (x.pointer == 33) & front_driven(x.trigger, v)
+}
+
+// 13: the preset makes BNC1 an output while it brings the trigger.
+pub fn preset_drives(x: Context, v: u32) -> bool
+    ensures { λ q. ⌜ q ≡ presetDrives x v ⌝ }
+{
+    sets_front(v) & (x.trigger == 4)
+}
