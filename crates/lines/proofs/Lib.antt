@@ -2,7 +2,7 @@
 pub mod Honest
 pub mod Lists
 pub mod Long
-pub mod Outcomes
+pub mod Decisions
 pub mod Reached
 pub mod Replies
 pub mod Words

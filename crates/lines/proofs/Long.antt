@@ -7,12 +7,12 @@ use lib.Dec.{eqb, leb, ltb}
 use lib.ListN.{length}
 use borrow.Author.Tests.{lt-leb}
 use Rattle.card.specs.declared.card.Card.{Card}
+use Rattle.card.specs.Context.{contextOf}
 use Rattle.card.specs.Record.{configWidth, savedTo}
-use Rattle.lines.specs.declared.outcome.Outcome.{Outcome}
 use Rattle.lines.specs.declared.grammar.Parsed.{Parsed}
 use Rattle.lines.specs.declared.grammar.Parsed.the-variants.{Malformed}
 use Rattle.lines.specs.Grammar.{longestLine, parse}
-use Rattle.lines.specs.Line.{shortestReply, refused, outcomeFor, replyOf, lineOutcome, lineReply, storeAfter}
+use Rattle.lines.specs.Line.{Outcome, outcomeOf, shortestReply, refused, decisionFor, lineDecision, replyOf, lineOutcome, lineReply, storeAfter}
 
 pub parse-long : (t : List ℕ) → longestLine < length t → parse t ≡ Malformed
 unfolding parse
@@ -20,14 +20,15 @@ parse-long t h = rw (lt-leb (length t) longestLine h, and-false (leb 1 (length t
 
 module _ (n : ℕ) (c : Card) (t u : List ℕ) (same : parse t ≡ parse u) where
   pub outcome-same : (reply store : ℕ) → lineOutcome n c t reply store ≡ lineOutcome n c u reply store
-  unfolding lineOutcome
-  outcome-same reply store = ap (λ (p : Parsed). cond (ltb reply shortestReply) (refused c 1) (outcomeFor n c store p)) same
+  unfolding lineOutcome lineDecision
+  outcome-same reply store =
+      ap (λ (p : Parsed). outcomeOf n c (cond (ltb reply shortestReply) (refused 1) (decisionFor n (contextOf n c) store p))) same
 
   pub reply-same : (reply store : ℕ) → lineReply n c t reply store ≡ lineReply n c u reply store
   unfolding lineReply
-  reply-same reply store = ap (λ (o : Outcome). cond (ltb reply shortestReply) [] (replyOf (o .k) (o .gives))) (outcome-same reply store)
+  reply-same reply store = ap (λ (o : Outcome). cond (ltb reply shortestReply) [] (replyOf (o .k) (o .response))) (outcome-same reply store)
 
   pub store-same : (reply : ℕ) (store : List ℕ) → storeAfter n c t reply store ≡ storeAfter n c u reply store
   unfolding storeAfter
   store-same reply store =
-      ap (λ (o : Outcome). cond (eqb (o .k) 0 && o .gives .saves) (savedTo n configWidth c store) store) (outcome-same reply (length store))
+      ap (λ (o : Outcome). cond (eqb (o .k) 0 && o .response .saves) (savedTo n configWidth c store) store) (outcome-same reply (length store))

@@ -129,6 +129,6 @@ pub record-loads : (calls : List Call) → loadNumber cellCount configWidth (rec
 record-loads calls = load-accepts cellCount configWidth config-fits (end fresh calls) (fresh-reached-valid calls)
 
 pub saved-loads : (calls : List Call) (text : List ℕ) (reply store : ℕ) → let o = lineOutcome cellCount (end fresh calls) text reply store in
-    (eqb (o .k) 0 && o .gives .saves) ≡ true → loadNumber cellCount configWidth (savedBytes (end fresh calls) text reply store) ≡ 0
+    (eqb (o .k) 0 && o .response .saves) ≡ true → loadNumber cellCount configWidth (savedBytes (end fresh calls) text reply store) ≡ 0
 unfolding savedBytes
 saved-loads calls text reply store e = rw e (record-loads calls)

@@ -13,9 +13,10 @@ use Rattle.text.specs.Decimal.{decimal, maxDigits}
 use Rattle.text.proofs.DecimalLaws.{decimal-length}
 use Rattle.text.proofs.DigitLaws.{sets-append}
 use Rattle.card.specs.declared.card.Card.{Card}
-use Rattle.lines.specs.declared.outcome.Outcome.{Outcome}
-use Rattle.lines.specs.Line.{shortestReply, ending, refusalText, replyOf, lineOutcome, lineReply}
-use Rattle.lines.specs.declared.outcome.Gives.{Gives}
+use Rattle.card.specs.Context.{contextOf}
+use Rattle.lines.specs.declared.decision.Response.{Response}
+use Rattle.lines.specs.declared.decision.Decision.{Decision}
+use Rattle.lines.specs.Line.{shortestReply, ending, refusalText, lineDecision, replyOf, lineOutcome, lineReply}
 
 -- a word, a number and an ending, stored one behind the other
 pub stored : (l a b r w d e : List ℕ) (at end : ℕ) → a ≡ sets l 0 w → at ≡ 0 + length w → b ≡ sets a at d → end ≡ at + length d
@@ -26,11 +27,11 @@ stored l a b r w d e at end ea eat eb eend er =
 pub stored-length : (w d e : List ℕ) (at end r : ℕ) → at ≡ 0 + length w → end ≡ at + length d → r ≡ end + length e → r ≡ length (w ++ (d ++ e))
 stored-length w d e at end r ea ee er = simp (length-append, length-append) (omega arith)
 
--- a reply buffer that has room gets the reply to the outcome
-pub reply-is : (n : ℕ) (c : Card) (text : List ℕ) (reply store : ℕ) (o : Outcome) → shortestReply ≤ reply → o ≡ lineOutcome n c text reply store
-    → replyOf (o .k) (o .gives) ≡ lineReply n c text reply store
-unfolding lineReply
-reply-is n c text reply store o h e = rw (le-ltb reply shortestReply h) (ap (λ (x : Outcome). replyOf (x .k) (x .gives)) e)
+-- a reply buffer that has room gets the reply to the decision
+pub reply-is : (n : ℕ) (c : Card) (text : List ℕ) (reply store : ℕ) (d : Decision) → shortestReply ≤ reply
+    → d ≡ lineDecision n (contextOf n c) text reply store → replyOf (d .k) (d .response) ≡ lineReply n c text reply store
+unfolding lineOutcome lineReply
+reply-is n c text reply store d h e = rw (le-ltb reply shortestReply h) (ap (λ (x : Decision). replyOf (x .k) (x .response)) e)
 
 -- a reply with a number below 100000 has at most ten bytes, so 16 are room enough
 number-short : (n : ℕ) → n < 10 ^ maxDigits → length (decimal n ++ ending) ≤ 7
@@ -38,11 +39,11 @@ number-short n h =
     let d = decimal-length n maxDigits (lit≤ tt) h in
     simp length-append (omega arith)
 
-pub reply-short : (k : ℕ) (g : Gives) → k < 10 ^ maxDigits → g .value < 10 ^ maxDigits → length (replyOf k g) ≤ shortestReply
+pub reply-short : (k : ℕ) (r : Response) → k < 10 ^ maxDigits → r .value < 10 ^ maxDigits → length (replyOf k r) ≤ shortestReply
 unfolding replyOf
-reply-short k g hk hg = go (eqb k 0) (g .number)
+reply-short k r hk hr = go (eqb k 0) (r .number)
   where
-    go : (a b : Bool) → length (cond a (58 ∷ 65 ∷ cond b (32 ∷ decimal (g .value)) [] ++ ending) (refusalText k)) ≤ shortestReply
-    go true true = let d = number-short (g .value) hg in omega arith
+    go : (a b : Bool) → length (cond a (58 ∷ 65 ∷ cond b (32 ∷ decimal (r .value)) [] ++ ending) (refusalText k)) ≤ shortestReply
+    go true true = let d = number-short (r .value) hr in omega arith
     go true false = lit≤ tt
     go false b = let d = number-short k hk in omega arith

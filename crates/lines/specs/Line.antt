@@ -1,143 +1,162 @@
 -- Document 01, "Lines": what a line answers, what it does to the card, and what it leaves in the two lent buffers.
-use Prim.Native.Nat.{ℕ, _/_, _%_}
+use Prim.Native.Nat.{ℕ}
 use mathlib.Core.Bool.{Bool, true, false, _&&_, cond}
 use mathlib.Core.List.{List, [], _∷_, _++_}
 use lib.Dec.{eqb, ltb}
-use lib.ListN.{length, getD}
+use lib.ListN.{length}
 use lib.Seq.{sets}
-use Rattle.words.specs.Bits.{bitNumber}
 use Rattle.text.specs.Decimal.{decimal}
-use Rattle.cells.specs.declared.table.Kept.{Kept}
-use Rattle.cells.specs.declared.table.Kept.the-variants.{Stateless, Bit, Count}
-use Rattle.cells.specs.declared.cell.State.{State}
-use Rattle.cells.specs.Table.{rowOf}
 use Rattle.card.specs.declared.card.Card.{Card}
-use Rattle.card.specs.Edits.{atCell, currentCell, currentConnector, move, setTrigger, home, setType, setConfig, setState, setSlots, setConnectorType, setSource}
-use Rattle.card.specs.Presets.{preset}
+use Rattle.card.specs.declared.change.Change.{Change}
+use Rattle.card.specs.declared.change.Change.the-variants as Changes
+use Rattle.card.specs.declared.change.Wires.{Wires}
+use Rattle.card.specs.declared.context.Context.{Context}
+use Rattle.card.specs.Change.{changed}
+use Rattle.card.specs.Context.{contextOf, typeRead, configRead, stateRead, slotRead, frontRead, backRead}
 use Rattle.card.specs.Record.{configWidth, savedTo}
+use Rattle.lines.specs.declared.grammar.Pairs.{Pairs}
 use Rattle.lines.specs.declared.grammar.Slot.{Slot}
 use Rattle.lines.specs.declared.grammar.Slot.the-variants.{X, Y, Z, F, NoSlot}
 use Rattle.lines.specs.declared.grammar.Command.{Command}
 use Rattle.lines.specs.declared.grammar.Command.the-variants.{Move, Where, Trigger, Home, Preset, SetKind, SetConfig, SetState, GetKind, GetConfig, GetState, SetSlots, GetSlot, Front, Back, Cells, Save}
 use Rattle.lines.specs.declared.grammar.Parsed.{Parsed}
 use Rattle.lines.specs.declared.grammar.Parsed.the-variants.{Malformed, Elsewhere, Here}
-use Rattle.lines.specs.declared.outcome.Gives.{Gives}
-use Rattle.lines.specs.declared.outcome.Outcome.{Outcome}
+use Rattle.lines.specs.declared.decision.Response.{Response}
+use Rattle.lines.specs.declared.decision.Decision.{Decision}
+use Rattle.lines.specs.declared.line.Answered.{Answered}
 use Rattle.lines.specs.Grammar.{parse}
-use Rattle.lines.specs.Refusal.{kindAt, refusal}
+use Rattle.lines.specs.Refusal.{refusal}
 
--- ---- what a command does to the card; reads and `36SS Z` change nothing in it
+-- ---- what an accepted command changes; reads and `36SS Z` change nothing in the card
 
-unfoldable pub obeyed : ℕ → Card → Command → Card
-obeyed n c (Move v) = move c v
-obeyed n c Where = c
-obeyed n c (Trigger v) = setTrigger c v
-obeyed n c Home = home n c
-obeyed n c (Preset v) = preset n c v
-obeyed n c (SetKind v) = cond (atCell n c) (setType n c v) (setConnectorType c v)
-obeyed n c (SetConfig v) = cond (atCell n c) (setConfig n c v) (setSource c v)
-obeyed n c (SetState v) = setState n c v
-obeyed n c GetKind = c
-obeyed n c GetConfig = c
-obeyed n c GetState = c
-obeyed n c (SetSlots p) = setSlots n c (p .given) (p .x ∷ p .y ∷ p .z ∷ p .f ∷ [])
-obeyed n c (GetSlot s) = c
-obeyed n c Front = c
-obeyed n c Back = c
-obeyed n c Cells = c
-obeyed n c Save = c
+-- the slots that are given, each with its address
+abbrev pub wireOf : Bool → ℕ → ℕ
+wireOf given v = cond given v 0
 
--- ---- what a command gives: nothing, a number, or the record
-
-abbrev pub nothing : Gives
-nothing = record { number = false; value = 0; saves = false }
-
-abbrev pub gives : ℕ → Gives
-gives v = record { number = true; value = v; saves = false }
-
-abbrev pub givesRecord : Gives
-givesRecord = record { number = false; value = 0; saves = true }
-
--- a flip-flop's bit, a timer's count
-unfoldable pub stateValue : Kept → State → ℕ
-stateValue Stateless s = 0
-stateValue Bit s = bitNumber (s .bit)
-stateValue Count s = s .count .0
-
-unfoldable pub slotValue : Slot → List ℕ → ℕ
-slotValue X s = getD s 0 0
-slotValue Y s = getD s 1 0
-slotValue Z s = getD s 2 0
-slotValue F s = getD s 3 0
-slotValue NoSlot s = 0
-
--- "`36RDADC X?` front levels, `Y?` backplane, `Z?` cells, as of the last tick"
-unfoldable pub given : ℕ → Card → Command → Gives
-given n c (Move v) = nothing
-given n c Where = gives (c .pointer)
-given n c (Trigger v) = nothing
-given n c Home = nothing
-given n c (Preset v) = nothing
-given n c (SetKind v) = nothing
-given n c (SetConfig v) = nothing
-given n c (SetState v) = nothing
-given n c GetKind = gives (cond (atCell n c) (kindAt n c) (currentConnector c .kind))
-given n c GetConfig = gives (cond (atCell n c) (currentCell n c .config) (currentConnector c .source))
-given n c GetState = gives (stateValue (rowOf (kindAt n c) .kept) (currentCell n c .state))
-given n c (SetSlots p) = nothing
-given n c (GetSlot s) = gives (slotValue s (currentCell n c .slots))
-given n c Front = gives (c .levels % 256)
-given n c Back = gives (c .levels / 256)
-given n c Cells = gives (c .outputs)
-given n c Save = givesRecord
-
--- ---- a command obeyed or refused
-
--- the number, the card (a refused command changes nothing in it), and what is given
-unfoldable pub outcome : ℕ → Card → ℕ → Command → Outcome
-outcome n c store command =
+abbrev pub wiresOf : Pairs → Wires
+wiresOf p =
     record {
-      k = refusal n c store command;
-      card = cond (eqb (refusal n c store command) 0) (obeyed n c command) c;
-      gives = given n c command;
+      given = p .given;
+      x = wireOf (p .given .x) (p .x);
+      y = wireOf (p .given .y) (p .y);
+      z = wireOf (p .given .z) (p .z);
+      f = wireOf (p .given .f) (p .f);
     }
 
-abbrev pub refused : Card → ℕ → Outcome
-refused c k = record { k = k; card = c; gives = nothing }
+unfoldable pub changeFor : Context → Command → Change
+changeFor x (Move v) = Changes.Pointer v
+changeFor x Where = Changes.Nothing
+changeFor x (Trigger v) = Changes.Trigger v
+changeFor x Home = Changes.Home
+changeFor x (Preset v) = Changes.Preset v
+changeFor x (SetKind v) = cond (x .celled) (Changes.Kind v) (Changes.ConnectorKind v)
+changeFor x (SetConfig v) = cond (x .celled) (Changes.Config v) (Changes.Source v)
+changeFor x (SetState v) = Changes.State v
+changeFor x GetKind = Changes.Nothing
+changeFor x GetConfig = Changes.Nothing
+changeFor x GetState = Changes.Nothing
+changeFor x (SetSlots p) = Changes.Slots (wiresOf p)
+changeFor x (GetSlot s) = Changes.Nothing
+changeFor x Front = Changes.Nothing
+changeFor x Back = Changes.Nothing
+changeFor x Cells = Changes.Nothing
+changeFor x Save = Changes.Nothing
+
+-- ---- the response to a command: nothing, a number, or the record
+
+abbrev pub silent : Response
+silent = record { number = false; value = 0; saves = false }
+
+abbrev pub number : ℕ → Response
+number v = record { number = true; value = v; saves = false }
+
+abbrev pub saving : Response
+saving = record { number = false; value = 0; saves = true }
+
+-- a slot's place among the four
+unfoldable pub slotIndex : Slot → ℕ
+slotIndex X = 0
+slotIndex Y = 1
+slotIndex Z = 2
+slotIndex F = 3
+slotIndex NoSlot = 4
+
+unfoldable pub responseTo : Context → Command → Response
+responseTo x (Move v) = silent
+responseTo x Where = number (x .pointer)
+responseTo x (Trigger v) = silent
+responseTo x Home = silent
+responseTo x (Preset v) = silent
+responseTo x (SetKind v) = silent
+responseTo x (SetConfig v) = silent
+responseTo x (SetState v) = silent
+responseTo x GetKind = number (typeRead x)
+responseTo x GetConfig = number (configRead x)
+responseTo x GetState = number (stateRead x)
+responseTo x (SetSlots p) = silent
+responseTo x (GetSlot s) = number (slotRead x (slotIndex s))
+responseTo x Front = number (frontRead x)
+responseTo x Back = number (backRead x)
+responseTo x Cells = number (x .outputs)
+responseTo x Save = saving
+
+-- ---- a line obeyed or refused
+
+-- the number, the change (a refused command makes none), and the response
+abbrev pub decided : ℕ → Change → Response → Decision
+decided k change response = record { k = k; change = cond (eqb k 0) change Changes.Nothing; response = response }
+
+unfoldable pub decision : ℕ → Context → ℕ → Command → Decision
+decision n x store command = decided (refusal n x store command) (changeFor x command) (responseTo x command)
+
+abbrev pub refused : ℕ → Decision
+refused k = record { k = k; change = Changes.Nothing; response = silent }
 
 -- "2: line of another form or length", "3: two digits, not 36, before a card command"
-unfoldable pub outcomeFor : ℕ → Card → ℕ → Parsed → Outcome
-outcomeFor n c store Malformed = refused c 2
-outcomeFor n c store Elsewhere = refused c 3
-outcomeFor n c store (Here command) = outcome n c store command
-
--- ---- the answer to a line
+unfoldable pub decisionFor : ℕ → Context → ℕ → Parsed → Decision
+decisionFor n x store Malformed = refused 2
+decisionFor n x store Elsewhere = refused 3
+decisionFor n x store (Here command) = decision n x store command
 
 -- "1: reply under 16 bytes"
 abbrev pub shortestReply : ℕ
 shortestReply = 16
 
--- what a line comes to, by the lengths of the two buffers: under 16 bytes of reply, nothing at all
+-- by the lengths of the two buffers: under 16 bytes of reply, nothing at all
+unfoldable pub lineDecision : ℕ → Context → List ℕ → ℕ → ℕ → Decision
+lineDecision n x text reply store = cond (ltb reply shortestReply) (refused 1) (decisionFor n x store (parse text))
+
+-- what a line comes to: its number, the card, and the response
+pub record Outcome : Type 0 where
+  pub k : ℕ
+  pub card : Card
+  pub response : Response
+
+abbrev pub outcomeOf : ℕ → Card → Decision → Outcome
+outcomeOf n c d = record { k = d .k; card = changed n c (d .change); response = d .response }
+
 unfoldable pub lineOutcome : ℕ → Card → List ℕ → ℕ → ℕ → Outcome
-lineOutcome n c text reply store = cond (ltb reply shortestReply) (refused c 1) (outcomeFor n c store (parse text))
+lineOutcome n c text reply store = outcomeOf n c (lineDecision n (contextOf n c) text reply store)
+
+-- ---- the answer to a line
 
 -- CR LF
 abbrev pub ending : List ℕ
 ending = 13 ∷ 10 ∷ []
 
 -- "The reply is `:A` or `:A n`, refused `:N-k`, each with CR LF"
-abbrev pub acceptance : Gives → List ℕ
-acceptance g = 58 ∷ 65 ∷ cond (g .number) (32 ∷ decimal (g .value)) [] ++ ending
+abbrev pub acceptance : Response → List ℕ
+acceptance r = 58 ∷ 65 ∷ cond (r .number) (32 ∷ decimal (r .value)) [] ++ ending
 
 abbrev pub refusalText : ℕ → List ℕ
 refusalText k = 58 ∷ 78 ∷ 45 ∷ decimal k ++ ending
 
-unfoldable pub replyOf : ℕ → Gives → List ℕ
-replyOf k g = cond (eqb k 0) (acceptance g) (refusalText k)
+unfoldable pub replyOf : ℕ → Response → List ℕ
+replyOf k r = cond (eqb k 0) (acceptance r) (refusalText k)
 
 -- a reply buffer under 16 bytes gets no reply
 unfoldable pub lineReply : ℕ → Card → List ℕ → ℕ → ℕ → List ℕ
-lineReply n c text reply store = cond (ltb reply shortestReply) [] (replyOf (lineOutcome n c text reply store .k) (lineOutcome n c text reply store .gives))
+lineReply n c text reply store = cond (ltb reply shortestReply) [] (replyOf (lineOutcome n c text reply store .k) (lineOutcome n c text reply store .response))
 
 -- "at the front of the reply buffer": beyond the reply the buffer is as it was
 unfoldable pub replyAfter : ℕ → Card → List ℕ → List ℕ → ℕ → List ℕ
@@ -146,5 +165,27 @@ replyAfter n c text reply store = sets reply 0 (lineReply n c text (length reply
 -- "`36SS Z` writes the record to the front of the store"; a refused line, and any other, leaves the store as it was
 unfoldable pub storeAfter : ℕ → Card → List ℕ → ℕ → List ℕ → List ℕ
 storeAfter n c text reply store =
-    cond (eqb (lineOutcome n c text reply (length store) .k) 0 && lineOutcome n c text reply (length store) .gives .saves)
+    cond (eqb (lineOutcome n c text reply (length store) .k) 0 && lineOutcome n c text reply (length store) .response .saves)
     (savedTo n configWidth c store) store
+
+-- all that a line answers and leaves: its number, the reply's length, the card, and the two buffers
+pub record LineResult : Type 0 where
+  pub k : ℕ
+  pub len : ℕ
+  pub card : Card
+  pub reply : List ℕ
+  pub store : List ℕ
+
+abbrev pub lineResult : ℕ → Card → (text reply store : List ℕ) → LineResult
+lineResult n c text reply store =
+    record {
+      k = lineOutcome n c text (length reply) (length store) .k;
+      len = length (lineReply n c text (length reply) (length store));
+      card = lineOutcome n c text (length reply) (length store) .card;
+      reply = replyAfter n c text reply (length store);
+      store = storeAfter n c text (length reply) store;
+    }
+
+-- what the call gave, beside the buffers as it left them
+abbrev pub resultOf : Answered → (reply store : List ℕ) → LineResult
+resultOf r reply store = record { k = r .k; len = r .len; card = r .card; reply = reply; store = store }

@@ -4,12 +4,11 @@ use mathlib.Core.Bool.{Bool, true, false, _&&_, _||_, not, cond}
 use lib.Dec.{eqb, ltb}
 use Rattle.cells.specs.declared.table.Slots.{Slots}
 use Rattle.cells.specs.Table.{slots}
-use Rattle.card.specs.declared.card.Card.{Card}
-use Rattle.card.specs.Address.{firstConnector}
-use Rattle.card.specs.Edits.{atCell, currentCell}
-use Rattle.card.specs.Presets.{offered, setsFront}
+use Rattle.card.specs.declared.context.Context.{Context}
+use Rattle.card.specs.Context.{drivesFront, presetDrives}
+use Rattle.card.specs.Presets.{offered}
 use Rattle.card.specs.Record.{configWidth, recordLength}
-use Rattle.card.specs.Valid.{badPlace, badCellType, badConnectorType, badClock, badConfig, noConfig, unusedSlot, badAddress, badState, noState, frontDriven, frontTrigger}
+use Rattle.card.specs.Valid.{badPlace, badCellType, badConnectorType, badClock, badConfig, noConfig, unusedSlot, badAddress, badState, noState}
 use Rattle.lines.specs.declared.grammar.Pairs.{Pairs}
 use Rattle.lines.specs.declared.grammar.Slot.{Slot}
 use Rattle.lines.specs.declared.grammar.Slot.the-variants.{X, Y, Z, F, NoSlot}
@@ -49,37 +48,29 @@ alone Z = slots false false true false
 alone F = slots false false false true
 alone NoSlot = slots false false false false
 
--- 13: "a line makes BNC1 an output while trigger is 4"
-abbrev pub drivesFront : Card → ℕ → Bool
-drivesFront c v = eqb (c .pointer) firstConnector && frontDriven (c .trigger) v
+-- a command that gives one number v: 4, else k where the test of v holds
+abbrev pub judged : ℕ → Bool → ℕ → ℕ
+judged v bad k = orElse (when (tooLarge v) 4) (when bad k)
 
--- the type of the cell at the pointer
-abbrev pub kindAt : ℕ → Card → ℕ
-kindAt n c = currentCell n c .kind
-
--- the rows of the table that a command can meet, lowest number first; "reads meet 6, 9, 10 and 12 as writes do"
-unfoldable pub refusal : ℕ → Card → ℕ → Command → ℕ
-refusal n c store (Move v) = orElse (when (tooLarge v) 4) (when (badPlace n v) 5)
-refusal n c store Where = 0
-refusal n c store (Trigger v) = orElse (when (tooLarge v) 4) (when (badClock v) 7)
-refusal n c store Home = 0
-refusal n c store (Preset v) =
-    orElse (when (tooLarge v) 4) (orElse (when (not (offered v)) 8) (when (setsFront v && eqb (c .trigger) frontTrigger) 13))
-refusal n c store (SetKind v) =
-    cond (atCell n c) (orElse (when (tooLarge v) 4) (when (badCellType v) 7))
-    (orElse (when (tooLarge v) 4) (orElse (when (badConnectorType v) 7) (when (drivesFront c v) 13)))
-refusal n c store (SetConfig v) =
-    cond (atCell n c) (orElse (when (tooLarge v) 4) (when (badConfig (kindAt n c) v) 9))
-    (orElse (when (tooLarge v) 4) (when (badAddress n v) 11))
-refusal n c store (SetState v) = orElse (when (tooLarge v) 4) (orElse (when (not (atCell n c)) 6) (when (badState (kindAt n c) v) 12))
-refusal n c store GetKind = 0
-refusal n c store GetConfig = when (atCell n c && noConfig (kindAt n c)) 9
-refusal n c store GetState = orElse (when (not (atCell n c)) 6) (when (noState (kindAt n c)) 12)
-refusal n c store (SetSlots p) =
-    orElse (when (anyTooLarge p) 4)
-    (orElse (when (not (atCell n c)) 6) (orElse (when (unusedSlot (kindAt n c) (p .given)) 10) (when (anyBadAddress n p) 11)))
-refusal n c store (GetSlot s) = orElse (when (not (atCell n c)) 6) (when (unusedSlot (kindAt n c) (alone s)) 10)
-refusal n c store Front = 0
-refusal n c store Back = 0
-refusal n c store Cells = 0
-refusal n c store Save = when (ltb store (recordLength n configWidth)) 1
+-- the rows of the table that a command can meet, lowest number first; "Reads meet 6, 9, 10 and 12 as writes do"
+unfoldable pub refusal : ℕ → Context → ℕ → Command → ℕ
+refusal n x store (Move v) = judged v (badPlace n v) 5
+refusal n x store Where = 0
+refusal n x store (Trigger v) = judged v (badClock v) 7
+refusal n x store Home = 0
+refusal n x store (Preset v) = orElse (judged v (not (offered v)) 8) (when (presetDrives x v) 13)
+refusal n x store (SetKind v) =
+    cond (x .celled) (judged v (badCellType v) 7) (orElse (judged v (badConnectorType v) 7) (when (drivesFront x v) 13))
+refusal n x store (SetConfig v) = cond (x .celled) (judged v (badConfig (x .cell .kind) v) 9) (judged v (badAddress n v) 11)
+refusal n x store (SetState v) = orElse (judged v (not (x .celled)) 6) (when (badState (x .cell .kind) v) 12)
+refusal n x store GetKind = 0
+refusal n x store GetConfig = when (x .celled && noConfig (x .cell .kind)) 9
+refusal n x store GetState = orElse (when (not (x .celled)) 6) (when (noState (x .cell .kind)) 12)
+refusal n x store (SetSlots p) =
+    orElse (orElse (when (anyTooLarge p) 4) (when (not (x .celled)) 6))
+    (orElse (when (unusedSlot (x .cell .kind) (p .given)) 10) (when (anyBadAddress n p) 11))
+refusal n x store (GetSlot s) = orElse (when (not (x .celled)) 6) (when (unusedSlot (x .cell .kind) (alone s)) 10)
+refusal n x store Front = 0
+refusal n x store Back = 0
+refusal n x store Cells = 0
+refusal n x store Save = when (ltb store (recordLength n configWidth)) 1

@@ -1,4 +1,6 @@
 // The line reader: grammar, refusals, replies, and what a line does to the card.
+pub mod decision;
 pub mod grammar;
 pub mod line;
-pub mod outcome;
+pub mod reads;
+pub mod writes;

@@ -1,4 +1,5 @@
 // The public call of the line reader: a line obeyed or refused, its reply written, the record saved.
+ghost use mathlib.Core.Bool.{cond};
 ghost use mathlib.Core.List.{_++_};
 ghost use mathlib.Core.Path.{_≡_};
 ghost use Prim.Native.Nat.{_≤_, _<_, _^_};
@@ -6,10 +7,11 @@ ghost use lib.ListN.{length};
 ghost use lib.Seq.{sets};
 ghost use Rattle.text.specs.Decimal.{decimal, maxDigits};
 ghost use Rattle.card.specs.Address.{cellCount};
-ghost use Rattle.lines.specs.Line.{ending, replyOf, lineOutcome, lineReply, replyAfter, storeAfter};
+ghost use Rattle.card.specs.Record.{configWidth, savedTo};
+ghost use Rattle.lines.specs.Line.{ending, replyOf, shortestReply, lineResult, resultOf};
+use crate::decision::Response;
+use crate::decision::decide_for;
 use crate::grammar::parse_line;
-use crate::outcome::Gives;
-use crate::outcome::outcome_for;
 use card::card::Card;
 
 // The answer to a line: the card, 0 or the number of the refusal, and the reply's length.
@@ -35,28 +37,35 @@ fn put_number(reply: &mut [u8], word: &[u8], v: u32) -> usize
 }
 
 // The reply to a line.
-fn put_reply(reply: &mut [u8], k: u8, g: Gives) -> usize
+fn put_reply(reply: &mut [u8], k: u8, r: Response) -> usize
     requires { ⌜ 16 ≤ length (now reply) ⌝ }
-    ensures { λ r. ⌜ now (reply .exit) ≡ sets (now (reply .entry)) 0 (replyOf k g) ⌝ }
-    ensures { λ r. ⌜ r ≡ length (replyOf k g) ⌝ }
-    ensures { λ r. ⌜ r ≤ 16 ⌝ }
+    ensures { λ n. ⌜ now (reply .exit) ≡ sets (now (reply .entry)) 0 (replyOf k r) ⌝ }
+    ensures { λ n. ⌜ n ≡ length (replyOf k r) ⌝ }
+    ensures { λ n. ⌜ n ≤ 16 ⌝ }
 {
     if k == 0 {
-        if g.number {
-            return put_number(reply, b":A ", g.value as u32);
+        if r.number {
+            return put_number(reply, b":A ", r.value as u32);
         }
         return text::copy(reply, 0, b":A\r\n");
     }
     put_number(reply, b":N-", k as u32)
 }
 
+// Saves the record, where that was asked.
+fn save_if(asked: bool, card: Card, store: &mut [u8])
+    ensures { λ _. ⌜ now (store .exit) ≡ cond asked (savedTo cellCount configWidth card (now (store .entry))) (now (store .entry)) ⌝ }
+{
+    if asked {
+        card::record::save(card, store);
+    }
+}
+
+// A line to the card. The reply is written to the front of its buffer, which needs 16 bytes, and `36SS Z` writes the record to the front of
+// the store; beyond these both are as they were. A refused line gives its number and leaves the card.
 pub fn line(card: Card, text: &[u8], reply: &mut [u8], store: &mut [u8]) -> Answered
-    ensures { λ r. ⌜ r .card ≡ lineOutcome cellCount card (now (text .entry)) (length (now (reply .entry))) (length (now (store .entry))) .card ⌝ }
-    ensures { λ r. ⌜ r .k ≡ lineOutcome cellCount card (now (text .entry)) (length (now (reply .entry))) (length (now (store .entry))) .k ⌝ }
-    ensures { λ r. ⌜ r .len ≡ length (lineReply cellCount card (now (text .entry)) (length (now (reply .entry))) (length (now (store .entry)))) ⌝ }
-    ensures { λ r. ⌜ now (reply .exit) ≡ replyAfter cellCount card (now (text .entry)) (now (reply .entry)) (length (now (store .entry))) ⌝ }
-    ensures { λ r. ⌜ now (store .exit) ≡ storeAfter cellCount card (now (text .entry)) (length (now (reply .entry))) (now (store .entry)) ⌝ }
-    ensures { λ r. ⌜ r .len ≤ 16 ⌝ }
+    ensures { λ r. ⌜ resultOf r (now (reply .exit)) (now (store .exit)) ≡ lineResult cellCount card (now (text .entry)) (now (reply .entry)) (now (store .entry)) ⌝ }
+    ensures { λ r. ⌜ r .len ≤ shortestReply ⌝ }
 {
     if reply.len() < 16 {
         return Answered {
@@ -65,21 +74,15 @@ pub fn line(card: Card, text: &[u8], reply: &mut [u8], store: &mut [u8]) -> Answ
             len: 0,
         };
     }
-    let o = outcome_for(card, store.len(), parse_line(text));
-    let k = o.k;
-    let g = o.gives;
-    let next = o.card;
-    let len = put_reply(reply, k, g);
-    if (k == 0) & g.saves {
-        card::record::save(card, store);
-        return Answered {
-            card: next,
-            k: k,
-            len: len,
-        };
-    }
+    let x = card::context::context_of(card);
+    let d = decide_for(x, store.len(), parse_line(text));
+    let k = d.k;
+    let response = d.response;
+    let change = d.change;
+    let len = put_reply(reply, k, response);
+    save_if((k == 0) & response.saves, card, store);
     Answered {
-        card: next,
+        card: card::change::apply(card, change),
         k: k,
         len: len,
     }

@@ -2,12 +2,13 @@
 ghost use mathlib.Core.Bool.{true, false};
 ghost use mathlib.Core.Path.{_≡_};
 ghost use Prim.Native.Nat.{_≤_};
-ghost use lib.ListN.{length};
 ghost use Rattle.card.specs.Address.{cellCount};
 ghost use Rattle.card.specs.Fresh;
+ghost use Rattle.card.specs.Record.{configWidth, loadNumber, loaded};
 ghost use Rattle.card.specs.Tick.{tick};
-ghost use Rattle.lines.specs.Line.{lineOutcome, lineReply, replyAfter, storeAfter};
+ghost use Rattle.lines.specs.Line.{shortestReply, lineResult, resultOf};
 use card::card::Card;
+use card::record::Loaded;
 use card::tick::Ticked;
 use lines::line::Answered;
 
@@ -35,6 +36,15 @@ pub extern "C" fn trigger_quick_tick(card: Card, code: u8, sample: u16) -> Ticke
     card::tick::quick_tick(card, code, sample)
 }
 
+// A load of any bytes: the card powers up with them, and a refused load leaves it as it was.
+#[no_mangle]
+pub extern "C" fn trigger_load(card: Card, bytes: &[u8]) -> Loaded
+    ensures { λ r. ⌜ r .card ≡ loaded cellCount configWidth card (now (bytes .entry)) ⌝ }
+    ensures { λ r. ⌜ r .k ≡ loadNumber cellCount configWidth (now (bytes .entry)) ⌝ }
+{
+    card::record::load(card, bytes)
+}
+
 // A line obeyed or refused, its reply written, the record saved.
 #[no_mangle]
 pub extern "C" fn trigger_line(
@@ -43,12 +53,8 @@ pub extern "C" fn trigger_line(
     reply: &mut [u8],
     store: &mut [u8],
 ) -> Answered
-    ensures { λ r. ⌜ r .card ≡ lineOutcome cellCount card (now (text .entry)) (length (now (reply .entry))) (length (now (store .entry))) .card ⌝ }
-    ensures { λ r. ⌜ r .k ≡ lineOutcome cellCount card (now (text .entry)) (length (now (reply .entry))) (length (now (store .entry))) .k ⌝ }
-    ensures { λ r. ⌜ r .len ≡ length (lineReply cellCount card (now (text .entry)) (length (now (reply .entry))) (length (now (store .entry)))) ⌝ }
-    ensures { λ r. ⌜ now (reply .exit) ≡ replyAfter cellCount card (now (text .entry)) (now (reply .entry)) (length (now (store .entry))) ⌝ }
-    ensures { λ r. ⌜ now (store .exit) ≡ storeAfter cellCount card (now (text .entry)) (length (now (reply .entry))) (now (store .entry)) ⌝ }
-    ensures { λ r. ⌜ r .len ≤ 16 ⌝ }
+    ensures { λ r. ⌜ resultOf r (now (reply .exit)) (now (store .exit)) ≡ lineResult cellCount card (now (text .entry)) (now (reply .entry)) (now (store .entry)) ⌝ }
+    ensures { λ r. ⌜ r .len ≤ shortestReply ⌝ }
 {
     lines::line::line(card, text, reply, store)
 }

@@ -1,0 +1,68 @@
+-- `lines::writes::to_config` meets its contract: a configuration or a source, which fits where it is read.
+use mathlib.Core.Path.{_≡_, ap, _∙_}
+use native.Mathlib.Nat.{mod-eq-of-lt}
+use Rattle.card.specs.declared.change.Change.the-variants.{Config, Source}
+use Rattle.lines.specs.Refusal.{refusal}
+use Rattle.lines.specs.Line.{changeFor, responseTo, decision}
+use Rattle.lines.specs.Line.{silent}
+use Rattle.lines.proofs.Decisions.{judged-none, same-decided, number-fits, address-fits}
+use Prim.Native.Nat.{_%_}
+use Rattle.card.specs.Valid.{badConfig}
+use Rattle.lines.specs.Refusal.{judged}
+use borrow.Author.Needs.{needs}
+use Rattle.lines.proofs.writes.to_config.Statement.{statement}
+use Rattle.lines.proofs.writes.to_config.Tie as tie
+
+bad-config-requires : tie.Need-bad-config-requires
+bad-config-requires c κs = search needs
+
+judged-requires : tie.Need-judged-requires
+judged-requires c κs = search needs
+
+low16-requires : tie.Need-low16-requires
+low16-requires c κs = search needs
+
+write-requires : tie.Need-write-requires
+write-requires c κs = search needs
+
+returns : tie.Need-returns
+unfolding decision refusal changeFor responseTo
+returns c =
+    let a = c .before .before .before .before .before .before .args in
+    let v = a .v in
+    let bad = badConfig (a .x .cell .kind) v in
+    let fits : judged v bad 9 ≡ 0 → Config (v % 65536) ≡ Config v = λ z. ap Config (mod-eq-of-lt (number-fits v (judged-none v bad 8 z .0))) in
+    rw (c .before .before .before .before .if1 .taken) (cc (same-decided (judged v bad 9) (Config (v % 65536)) (Config v) silent fits))
+
+bad-address-requires : tie.Need-bad-address-requires
+bad-address-requires c κs = search needs
+
+judged-requires-2 : tie.Need-judged-requires-2
+judged-requires-2 c κs = search needs
+
+low8-requires : tie.Need-low8-requires
+low8-requires c κs = search needs
+
+write-requires-2 : tie.Need-write-requires-2
+write-requires-2 c κs = search needs
+
+returns-2 : tie.Need-returns-2
+unfolding decision refusal changeFor responseTo
+returns-2 c =
+    let v = c .before .before .before .before .before .before .args .v in
+    rw (c .before .before .before .before .if1 .left) (cc (same-decided _ (Source _) (Source v) silent (λ z. ap Source (mod-eq-of-lt (address-fits v (judged-none v _ 10 z .1))))))
+
+pub to-config-spec : {M : Type 1} → statement M
+to-config-spec =
+    tie.close
+    (tie.spec
+    bad-config-requires
+    judged-requires
+    low16-requires
+    write-requires
+    returns
+    bad-address-requires
+    judged-requires-2
+    low8-requires
+    write-requires-2
+    returns-2)

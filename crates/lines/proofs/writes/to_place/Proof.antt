@@ -1,0 +1,30 @@
+-- `lines::writes::to_place` meets its contract: the change is read only where its number fits.
+use mathlib.Core.Path.{_≡_, ap, _∙_}
+use native.Mathlib.Nat.{mod-eq-of-lt}
+use Rattle.card.specs.declared.change.Change.the-variants.{Pointer}
+use Rattle.lines.specs.Line.{silent}
+use Rattle.lines.proofs.Decisions.{judged-none, same-decided, place-fits}
+use borrow.Author.Needs.{needs}
+use Rattle.lines.proofs.writes.to_place.Statement.{statement}
+use Rattle.lines.proofs.writes.to_place.Tie as tie
+
+bad-place-requires : tie.Need-bad-place-requires
+bad-place-requires c κs = search needs
+
+judged-requires : tie.Need-judged-requires
+judged-requires c κs = search needs
+
+low8-requires : tie.Need-low8-requires
+low8-requires c κs = search needs
+
+write-requires : tie.Need-write-requires
+write-requires c κs = search needs
+
+returns : tie.Need-returns
+returns c =
+    let v = c .before .before .before .before .args .v in
+    cc (same-decided _ (Pointer _) (Pointer v) silent (λ z. ap Pointer (mod-eq-of-lt (place-fits v (judged-none v _ 4 z .1)))))
+
+pub to-place-spec : {M : Type 1} → statement M
+to-place-spec =
+    tie.close (tie.spec bad-place-requires judged-requires low8-requires write-requires returns)

@@ -1,0 +1,59 @@
+-- `lines::writes::to_slots` meets its contract: the addresses that are given, which fit where they are read.
+use mathlib.Core.Path.{_≡_, ap, _∙_}
+use native.Mathlib.Nat.{mod-eq-of-lt}
+use Rattle.card.specs.declared.change.Change.the-variants.{Slots}
+use Rattle.lines.specs.Refusal.{refusal}
+use Rattle.lines.specs.Line.{changeFor, responseTo, decision}
+use Rattle.lines.proofs.Decisions.{last-none, none-of, same-decided, wires-fit}
+use mathlib.Core.Bool.{not}
+use Rattle.card.specs.Address.{cellCount}
+use Rattle.card.specs.Valid.{unusedSlot}
+use Rattle.lines.specs.declared.grammar.Command.the-variants.{SetSlots}
+use Rattle.lines.specs.Refusal.{when, orElse, anyTooLarge, anyBadAddress}
+use Rattle.lines.specs.Line.{silent, wiresOf}
+use Rattle.lines.proofs.Decisions.{cutWires}
+use borrow.Author.Needs.{needs}
+use Rattle.lines.proofs.writes.to_slots.Statement.{statement}
+use Rattle.lines.proofs.writes.to_slots.Tie as tie
+
+wire-requires : tie.Need-wire-requires
+wire-requires c κs = search needs
+
+wire-requires-2 : tie.Need-wire-requires-2
+wire-requires-2 c κs = search needs
+
+wire-requires-3 : tie.Need-wire-requires-3
+wire-requires-3 c κs = search needs
+
+wire-requires-4 : tie.Need-wire-requires-4
+wire-requires-4 c κs = search needs
+
+slots-number-requires : tie.Need-slots-number-requires
+slots-number-requires c κs = search needs
+
+write-requires : tie.Need-write-requires
+write-requires c κs = search needs
+
+returns : tie.Need-returns
+unfolding decision refusal changeFor responseTo
+returns c =
+    let p = c .before .before .before .before .before .before .before .args .p in
+    let x = c .before .before .before .before .before .before .before .args .x in
+    let k = refusal cellCount x 0 (SetSlots p) in
+    let first = orElse (when (anyTooLarge p) 4) (when (not (x .celled)) 6) in
+    let unused = when (unusedSlot (x .cell .kind) (p .given)) 10 in
+    let fits : k ≡ 0 → Slots (cutWires p) ≡ Slots (wiresOf p) = λ z.
+    ap Slots (wires-fit p (last-none unused (anyBadAddress cellCount p) 10 (none-of first _ z .1))) in
+    cc (same-decided k (Slots (cutWires p)) (Slots (wiresOf p)) silent fits)
+
+pub to-slots-spec : {M : Type 1} → statement M
+to-slots-spec =
+    tie.close
+    (tie.spec
+    wire-requires
+    wire-requires-2
+    wire-requires-3
+    wire-requires-4
+    slots-number-requires
+    write-requires
+    returns)

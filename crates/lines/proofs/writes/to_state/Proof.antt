@@ -1,0 +1,57 @@
+-- `lines::writes::to_state` meets its contract: a state, which fits where it is read.
+use mathlib.Core.Path.{_≡_, ap, _∙_}
+use native.Mathlib.Nat.{mod-eq-of-lt}
+use Rattle.card.specs.declared.change.Change.the-variants.{State}
+use Rattle.lines.specs.Refusal.{refusal}
+use Rattle.lines.specs.Line.{changeFor, responseTo, decision}
+use Rattle.lines.specs.Refusal.{judged}
+use Rattle.lines.specs.Line.{silent}
+use Rattle.lines.proofs.Decisions.{none-of, judged-none, same-decided, number-fits}
+use Prim.Native.Nat.{_%_}
+use mathlib.Core.Bool.{not}
+use Rattle.card.specs.Valid.{badState}
+use Rattle.lines.specs.Refusal.{when, orElse}
+use borrow.Author.Needs.{needs}
+use Rattle.lines.proofs.writes.to_state.Statement.{statement}
+use Rattle.lines.proofs.writes.to_state.Tie as tie
+
+judged-requires : tie.Need-judged-requires
+judged-requires c κs = search needs
+
+bad-state-requires : tie.Need-bad-state-requires
+bad-state-requires c κs = search needs
+
+when-requires : tie.Need-when-requires
+when-requires c κs = search needs
+
+or-else-requires : tie.Need-or-else-requires
+or-else-requires c κs = search needs
+
+low16-requires : tie.Need-low16-requires
+low16-requires c κs = search needs
+
+write-requires : tie.Need-write-requires
+write-requires c κs = search needs
+
+returns : tie.Need-returns
+unfolding decision refusal changeFor responseTo
+returns c =
+    let a = c .before .before .before .before .before .before .before .before .args in
+    let v = a .v in
+    let first = judged v (not (a .x .celled)) 6 in
+    let k = orElse first (when (badState (a .x .cell .kind) v) 12) in
+    let fits : k ≡ 0 → State (v % 65536) ≡ State v = λ z.
+    ap State (mod-eq-of-lt (number-fits v (judged-none v (not (a .x .celled)) 5 (none-of first _ z .0) .0))) in
+    cc (same-decided k (State (v % 65536)) (State v) silent fits)
+
+pub to-state-spec : {M : Type 1} → statement M
+to-state-spec =
+    tie.close
+    (tie.spec
+    judged-requires
+    bad-state-requires
+    when-requires
+    or-else-requires
+    low16-requires
+    write-requires
+    returns)

@@ -1,0 +1,143 @@
+// What a line comes to, by a small part of the card: the number of its refusal, the change that it makes, and the response.
+ghost use mathlib.Core.Path.{_≡_};
+ghost use Prim.Native.Nat.{_%_};
+ghost use Rattle.card.specs.Address.{cellCount};
+ghost use Rattle.lines.specs.Refusal;
+ghost use Rattle.lines.specs.Refusal.{orElse, tooLarge};
+ghost use Rattle.lines.specs.Line;
+ghost use Rattle.lines.specs.Line.{silent, decided, decision, decisionFor};
+use crate::grammar::Command;
+use crate::grammar::Parsed;
+use crate::reads;
+use crate::writes;
+use card::change::Change;
+use card::context::Context;
+
+// The response to a command: nothing, a number, or the record that it saves.
+pub struct Response {
+    pub number: bool,
+    pub value: u16,
+    pub saves: bool,
+}
+
+// 0 or the number of the refusal, the change that is then to be made, and the response.
+pub struct Decision {
+    pub k: u8,
+    pub change: Change,
+    pub response: Response,
+}
+
+const SILENT: Response = Response {
+    number: false,
+    value: 0,
+    saves: false,
+};
+
+// A number, where the test holds.
+pub fn when(test: bool, k: u8) -> u8
+    ensures { λ r. ⌜ r ≡ Refusal.when test k ⌝ }
+{
+    if test { k } else { 0 }
+}
+
+// The first of two numbers, else the second.
+pub fn or_else(a: u8, b: u8) -> u8
+    ensures { λ r. ⌜ r ≡ orElse a b ⌝ }
+{
+    if a == 0 { b } else { a }
+}
+
+// 4: more than a line's number may be.
+pub fn too_large(v: u32) -> bool
+    ensures { λ q. ⌜ q ≡ tooLarge v ⌝ }
+{
+    65535 < v
+}
+
+// A command that gives one number: 4, else k where the test of it holds.
+pub fn judged(v: u32, bad: bool, k: u8) -> u8
+    ensures { λ r. ⌜ r ≡ Refusal.judged v bad k ⌝ }
+{
+    or_else(when(too_large(v), 4), when(bad, k))
+}
+
+// A write: the change where no number applies, else none.
+pub fn write(k: u8, change: Change) -> Decision
+    ensures { λ d. ⌜ d ≡ decided k change silent ⌝ }
+{
+    let response = SILENT;
+    if k == 0 {
+        return Decision {
+            k: k,
+            change: change,
+            response: response,
+        };
+    }
+    Decision {
+        k: k,
+        change: Change::Nothing,
+        response: response,
+    }
+}
+
+// A read: no change.
+pub fn read(k: u8, v: u16) -> Decision
+    ensures { λ d. ⌜ d ≡ record { k = k; change = Change.Nothing; response = Line.number v } ⌝ }
+{
+    Decision {
+        k: k,
+        change: Change::Nothing,
+        response: Response {
+            number: true,
+            value: v,
+            saves: false,
+        },
+    }
+}
+
+fn refused(k: u8) -> Decision
+    ensures { λ d. ⌜ d ≡ Line.refused k ⌝ }
+{
+    let response = SILENT;
+    Decision {
+        k: k,
+        change: Change::Nothing,
+        response: response,
+    }
+}
+
+// What a command comes to.
+fn decide(x: Context, store: usize, command: Command) -> Decision
+    ensures { λ d. ⌜ d ≡ decision cellCount x store command ⌝ }
+{
+    match command {
+        Command::Move(v) => writes::to_place(v),
+        Command::Where => read(0, x.pointer as u16),
+        Command::Trigger(v) => writes::to_trigger(v),
+        Command::Home => write(0, Change::Home),
+        Command::Preset(v) => writes::to_preset(x, v),
+        Command::SetKind(v) => writes::to_kind(x, v),
+        Command::SetConfig(v) => writes::to_config(x, v),
+        Command::SetState(v) => writes::to_state(x, v),
+        Command::GetKind => read(0, card::context::read_type(x)),
+        Command::GetConfig => reads::config(x),
+        Command::GetState => reads::state(x),
+        Command::SetSlots(p) => writes::to_slots(x, p),
+        Command::GetSlot(s) => reads::slot(x, s),
+        Command::Front => read(0, card::context::read_front(x)),
+        Command::Back => read(0, card::context::read_back(x)),
+        Command::Cells => read(0, x.outputs),
+        Command::Save => reads::save(store),
+    }
+}
+
+// What a parsed line comes to.
+pub fn decide_for(x: Context, store: usize, p: Parsed) -> Decision
+    ensures { λ d. ⌜ d ≡ decisionFor cellCount x store p ⌝ }
+{
+    match p {
+        Parsed::Malformed => refused(2),
+        Parsed::Elsewhere => refused(3),
+        Parsed::Here(command) => decide(x, store, command),
+    }
+}
