@@ -1,9 +1,10 @@
--- The card's memory is honest: over every list its edits are those that the calls made since the last tick that ran, and its words are those of
--- the last ticks.
-use Prim.Native.Nat.{ℕ, _-_, _^_, _<_}
-use mathlib.Core.Path.{_≡_, refl, sym, ap, _∙_}
+-- The card's memory is honest: over every list its edits are those that the calls made since the last tick that ran, and what it remembers is
+-- what that tick read. So who wakes in a quick tick goes by the calls.
+use Prim.Native.Nat.{ℕ, _-_, _^_, _≤_, _<_}
+use mathlib.Core.Path.{_≡_, refl, sym, ap, ap₂, _∙_}
 use mathlib.Core.Bool.{Bool, true, false, _&&_, _||_, cond, or-false, or-true}
 use mathlib.Core.List.{List, [], _∷_}
+use native.Mathlib.Nat.{le-of-lt}
 use native.Mathlib.Decide.{ℕ-discrete}
 use lib.Dec.{eqb, ltb}
 use lib.ListN.{length, getD}
@@ -11,6 +12,7 @@ use borrow.Author.Tests.{eq-eqb, ne-eqb}
 use Rattle.words.specs.Bits.{bitAt, withBit, wordOf}
 use Rattle.words.proofs.Laws.{bit-zero, bit-ones, bit-built, bit-with-same, bit-with-other}
 use Rattle.cells.specs.declared.cell.Cell.{Cell}
+use Rattle.cells.specs.declared.table.Slots.{Slots}
 use Rattle.cells.specs.Wake.{wakes}
 use Rattle.card.specs.declared.card.Card.{Card}
 use Rattle.card.specs.declared.card.Connector.{Connector}
@@ -20,7 +22,10 @@ use Rattle.card.specs.Exempt.{Edit}
 use Rattle.card.specs.Fresh.{fresh}
 use Rattle.card.specs.Presets.{has, presetCell, editedAfter, preset}
 use Rattle.card.specs.Record.{configWidth, loadNumber, loaded}
+use Rattle.card.specs.Settled.{remembered}
 use Rattle.card.specs.Tick
+use Rattle.card.proofs.EditLaws.{remembered-same}
+use Rattle.card.proofs.Sleep.{quick-set, remembers, recalls, started-low}
 use Rattle.lines.specs.declared.grammar.Command.{Command}
 use Rattle.lines.specs.declared.grammar.Command.the-variants.{Move, Where, Trigger, Home, Preset, SetKind, SetConfig, SetState, GetKind, GetConfig, GetState, SetSlots, GetSlot, Front, Back, Cells, Save}
 use Rattle.lines.specs.declared.grammar.Parsed.{Parsed}
@@ -30,8 +35,7 @@ use Rattle.lines.specs.Refusal.{refusal}
 use Rattle.lines.specs.Line.{obeyed, outcome, outcomeFor, refused, shortestReply, lineOutcome}
 use Rattle.lines.specs.Calls.{Call, after, end}
 use Rattle.lines.specs.Calls.Call.{line, load, tick}
-use Rattle.lines.specs.History.{pointed, editsCell, parsedEdits, editedNext, editedSince, Last, low, lastNext, lastSince, memoryOf}
-use Rattle.card.proofs.Sleep.{quick-set}
+use Rattle.lines.specs.History.{pointed, editsCell, parsedEdits, editedNext, editedSince, Readings, lowReadings, readNext, readSince, WhoWakes, Last, low, lastNext, lastSince, memoryOf}
 use Rattle.lines.proofs.Lists.{line-edit}
 
 -- ---- edits
@@ -167,22 +171,52 @@ unfolding end lastSince
 last-honest c [] = refl
 last-honest c (call ∷ calls) = last-honest (after c call) calls ∙ ap (lastSince (after c call) calls) (call-last c call)
 
+-- ---- readings
+
+-- before the first tick everything counts as low
+low-fresh : (i : ℕ) → remembered cellCount i fresh ≡ lowReadings
+unfolding fresh lowReadings
+low-fresh i = started-low cellCount i 0 _ _ 0
+
+-- after a call the memory says what the last tick that ran read, as the calls say it
+pub call-read : (c : Card) (call : Call) (i : ℕ) → i ≤ cellCount → remembered cellCount i (after c call) ≡ readNext c call i (remembered cellCount i c)
+unfolding after readNext lowReadings loaded Tick.tick
+call-read c (line text reply store) i h =
+    λ k s. remembered-same cellCount i c _ s (line-edit cellCount c text (length reply) (length store)) k
+call-read c (load bytes) i h = go (eqb (loadNumber cellCount configWidth bytes) 0) _ (started-low cellCount i _ _ _ _)
+  where
+    go : (b : Bool) (d : Card) → remembered cellCount i d ≡ lowReadings
+        → remembered cellCount i (cond b d c) ≡ cond b lowReadings (remembered cellCount i c)
+    go true d e = e
+    go false d e = refl
+call-read c (tick full code sample) i h = go (eqb code (c .trigger))
+  where
+    go : (b : Bool) → let t = cond b (Tick.ticked cellCount full c sample) (Tick.idle c) in
+        remembered cellCount i (t .card) ≡ cond (t .answer .ran) (Tick.readIn cellCount full c sample i) (remembered cellCount i c)
+    go true = λ k s. remembers cellCount full c sample i s h k
+    go false = refl
+
+-- over every list
+pub read-honest : (c : Card) (calls : List Call) (i : ℕ) → i ≤ cellCount
+    → remembered cellCount i (end c calls) ≡ readSince c calls i (remembered cellCount i c)
+unfolding end readSince
+read-honest c [] i h = refl
+read-honest c (call ∷ calls) i h = read-honest (after c call) calls i h ∙ ap (readSince (after c call) calls i) (call-read c call i h)
+
+-- from a fresh card
+pub read-from-fresh : (calls : List Call) (i : ℕ) → i ≤ cellCount → remembered cellCount i (end fresh calls) ≡ readSince fresh calls i lowReadings
+read-from-fresh calls i h = read-honest fresh calls i h ∙ ap (readSince fresh calls i) (low-fresh i)
+
 -- ---- the woken set of a quick tick, said of the list
 
--- in a quick tick behind any list of calls, a cell wakes where the calls edited it since the last tick that ran, or where its readings meet the
--- rules against what that tick read
-pub woken-said : (calls : List Call) (sample i : ℕ) → i < cellCount
-    → let c = end fresh calls in
-    let w = Tick.wiresOf c (Tick.lines cellCount c sample .levels) in
-    let cell = getD (c .cells) i Tick.noCell in
-    let below = Tick.outputsBelow cellCount false (c .cells) (c .edited) w i in
-    bitAt (Tick.turnedIn cellCount false c (Tick.lines cellCount c sample .levels) .woken) i
-    ≡ wakes (cell .kind) (cell .state) (editedSince fresh calls i false) (Tick.readNow cellCount i w below (cell .slots)) (Tick.readLast cellCount i w (cell .slots))
-unfolding Tick.named
-woken-said calls sample i h =
+pub who-wakes : WhoWakes
+unfolding WhoWakes Tick.named Tick.tick
+who-wakes calls code sample i h own =
     let c = end fresh calls in
-    let w = Tick.wiresOf c (Tick.lines cellCount c sample .levels) in
+    let levels = Tick.lines cellCount c sample .levels in
     let cell = getD (c .cells) i Tick.noCell in
-    quick-set cellCount (c .cells) (c .edited) w i h
-    ∙ ap (λ (e : Bool). wakes (cell .kind) (cell .state) e (Tick.readNow cellCount i w (Tick.outputsBelow cellCount false (c .cells) (c .edited) w i) (cell .slots)) (Tick.readLast cellCount i w (cell .slots)))
-    (edited-from-fresh calls i h)
+    let now = Tick.readIn cellCount false c sample i (cell .slots) in
+    let read = read-from-fresh calls i (le-of-lt h) in
+    let last = recalls cellCount i c levels (cell .slots) ∙ ap (λ (r : Readings). r (cell .slots)) read in
+    let said = ap₂ (λ (e : Bool) (r : Slots). wakes (cell .kind) (cell .state) e now r) (edited-from-fresh calls i h) last in
+    rw (eq-eqb code (c .trigger) own) (quick-set cellCount (c .cells) (c .edited) (Tick.wiresOf c levels) i h ∙ said)

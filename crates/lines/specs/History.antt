@@ -1,23 +1,30 @@
 -- Document 01, "Lists of calls": ""Who wakes" goes by the calls made since the last tick that ran, or since the start, and by what that tick
--- read." What a list of calls has edited, and what its last ticks were, said of the calls and not of the card's own fields.
-use Prim.Native.Nat.{ℕ, _-_}
+-- read." What a list of calls has edited, what its last tick read and what its last ticks were, said of the calls and not of the card's own
+-- fields; and who wakes behind it.
+use Prim.Native.Nat.{ℕ, _-_, _<_}
+use mathlib.Core.Path.{_≡_}
 use mathlib.Core.Bool.{Bool, true, false, _&&_, _||_, cond}
 use mathlib.Core.List.{List, [], _∷_}
 use lib.Dec.{eqb}
-use lib.ListN.{length}
+use lib.ListN.{length, getD}
+use Rattle.words.specs.Bits.{bitAt}
+use Rattle.cells.specs.declared.table.Slots.{Slots}
+use Rattle.cells.specs.Wake.{wakes}
 use Rattle.card.specs.declared.card.Card.{Card}
-use Rattle.card.specs.Address.{cellCount, firstCell}
+use Rattle.card.specs.Address.{cellCount, firstCell, slotsRead}
 use Rattle.card.specs.Edits.{atCell}
+use Rattle.card.specs.Fresh.{fresh}
 use Rattle.card.specs.Presets.{has, presetCell}
 use Rattle.card.specs.Record.{configWidth, loadNumber}
 use Rattle.card.specs.Tick
+use Rattle.card.specs.Tick.{readIn}
 use Rattle.lines.specs.declared.grammar.Command.{Command}
 use Rattle.lines.specs.declared.grammar.Command.the-variants.{Move, Where, Trigger, Home, Preset, SetKind, SetConfig, SetState, GetKind, GetConfig, GetState, SetSlots, GetSlot, Front, Back, Cells, Save}
 use Rattle.lines.specs.declared.grammar.Parsed.{Parsed}
 use Rattle.lines.specs.declared.grammar.Parsed.the-variants.{Malformed, Elsewhere, Here}
 use Rattle.lines.specs.Grammar.{parse}
 use Rattle.lines.specs.Line.{lineOutcome}
-use Rattle.lines.specs.Calls.{Call, after}
+use Rattle.lines.specs.Calls.{Call, after, end}
 use Rattle.lines.specs.Calls.Call.{line, load, tick}
 
 -- ---- which cells are edited
@@ -62,6 +69,41 @@ editedNext c (tick full code sample) i was = cond (Tick.tick cellCount full c co
 unfoldable pub editedSince : Card → List Call → ℕ → Bool → Bool
 editedSince c [] i was = was
 editedSince c (call ∷ calls) i was = editedSince (after c call) calls i (editedNext c call i was)
+
+-- ---- what the last tick that ran read
+
+-- the readings of four slots by their addresses: slots may be wired anew after the tick
+abbrev pub Readings : Type 0
+Readings = List ℕ → Slots
+
+-- "Everything before the first tick counts as low": every level, and every level before it
+unfoldable pub lowReadings : Readings
+lowReadings = slotsRead (λ b. false) (λ b. false)
+
+-- after a call: a tick that ran is the last that read; an accepted load starts anew; nothing else counts
+unfoldable pub readNext : Card → Call → ℕ → Readings → Readings
+readNext c (line text reply store) i was = was
+readNext c (load bytes) i was = cond (eqb (loadNumber cellCount configWidth bytes) 0) lowReadings was
+readNext c (tick full code sample) i was =
+    cond (Tick.tick cellCount full c code sample .answer .ran) (readIn cellCount full c sample i) was
+
+-- what a reader in position i read in the last tick that ran
+unfoldable pub readSince : Card → List Call → ℕ → Readings → Readings
+readSince c [] i was = was
+readSince c (call ∷ calls) i was = readSince (after c call) calls i (readNext c call i was)
+
+-- ---- "Who wakes", said of a list
+
+-- behind any list of calls from a fresh card, the set that a quick tick on the card's own clock answers has a cell exactly where the rules hold
+-- of the calls since the last tick that ran, or since the start, of what the cell's slots read now, and of what they read in that tick
+unfoldable pub WhoWakes : Type 0
+WhoWakes = (calls : List Call) (code sample i : ℕ) → i < cellCount
+    → let c = end fresh calls in
+    let cell = getD (c .cells) i Tick.noCell in
+    code ≡ c .trigger
+    → bitAt (Tick.tick cellCount false c code sample .answer .woken) i
+    ≡ wakes (cell .kind) (cell .state) (editedSince fresh calls i false) (readIn cellCount false c sample i (cell .slots))
+    (readSince fresh calls i lowReadings (cell .slots))
 
 -- ---- what the last ticks were
 
