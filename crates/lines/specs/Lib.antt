@@ -5,4 +5,5 @@ pub mod Line
 pub mod Calls
 pub mod Demand3
 pub mod Examples
+pub mod Box
 pub mod History
