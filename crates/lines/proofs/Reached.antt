@@ -1,5 +1,5 @@
 -- Every card that a list of calls reaches from a valid one is valid, by one induction: accepted edits, loads and ticks keep validity, and refused
--- calls the card. So the record of a reached card loads.
+-- calls the card.
 use Prim.Native.Nat.{ℕ, suc}
 use mathlib.Core.Path.{_≡_, refl}
 use mathlib.Core.Bool.{Bool, true, false, not, _&&_, cond}
@@ -12,9 +12,9 @@ use Rattle.card.specs.Address.{cellCount}
 use Rattle.card.specs.Edits.{atCell}
 use Rattle.card.specs.Fresh.{fresh}
 use Rattle.card.specs.Presets.{offered, setsFront}
-use Rattle.card.specs.Record.{configWidth, recordOf, loadNumber, loaded}
+use Rattle.card.specs.Record.{configWidth, loadNumber, loaded}
 use Rattle.card.specs.Valid.{frontTrigger, badCellType, badConnectorType, badClock, badConfig, unusedSlot, badAddress, validCard}
-use Rattle.card.proofs.Records.{config-fits, load-refused, loaded-valid, load-accepts, fresh-valid}
+use Rattle.card.proofs.Records.{load-refused, loaded-valid, fresh-valid}
 use Rattle.card.proofs.ValidLaws.{valid-move, valid-trigger, valid-home, valid-type, valid-config, valid-state, valid-slots, valid-connector-type, valid-source, valid-preset, valid-tick}
 use Rattle.lines.specs.declared.grammar.Command.{Command}
 use Rattle.lines.specs.declared.grammar.Command.the-variants.{Move, Where, Trigger, Home, Preset, SetKind, SetConfig, SetState, GetKind, GetConfig, GetState, SetSlots, GetSlot, Front, Back, Cells, Save}
@@ -23,7 +23,7 @@ use Rattle.lines.specs.declared.grammar.Parsed.the-variants.{Malformed, 
 use Rattle.lines.specs.Grammar.{parse}
 use Rattle.lines.specs.Refusal.{when, orElse, tooLarge, anyTooLarge, anyBadAddress, drivesFront, kindAt, refusal}
 use Rattle.lines.specs.Line.{obeyed, outcome, outcomeFor, refused, shortestReply, lineOutcome}
-use Rattle.lines.specs.Calls.{Call, savedBytes, after, end}
+use Rattle.lines.specs.Calls.{Call, after, end}
 use Rattle.lines.specs.Calls.Call.{line, load, tick}
 use Rattle.lines.proofs.Outcomes.{none-of, when-none}
 
@@ -123,12 +123,3 @@ reached-valid c (call ∷ calls) ok = reached-valid (after c call) calls (call-v
 
 pub fresh-reached-valid : (calls : List Call) → validCard cellCount (end fresh calls) ≡ true
 fresh-reached-valid calls = reached-valid fresh calls fresh-valid
-
--- so its record is accepted by a load, and so are the bytes of a line on it that saves
-pub record-loads : (calls : List Call) → loadNumber cellCount configWidth (recordOf configWidth (end fresh calls)) ≡ 0
-record-loads calls = load-accepts cellCount configWidth config-fits (end fresh calls) (fresh-reached-valid calls)
-
-pub saved-loads : (calls : List Call) (text : List ℕ) (reply store : ℕ) → let o = lineOutcome cellCount (end fresh calls) text reply store in
-    (eqb (o .k) 0 && o .gives .saves) ≡ true → loadNumber cellCount configWidth (savedBytes (end fresh calls) text reply store) ≡ 0
-unfolding savedBytes
-saved-loads calls text reply store e = rw e (record-loads calls)

@@ -12,14 +12,13 @@ use Rattle.words.specs.Listed.{listed}
 use Rattle.text.specs.Digits.{valueBy}
 use Rattle.text.specs.Decimal.{isDigit, digitsOf, leads, plain, numberIn, numberAt}
 use Rattle.text.specs.Written.{bytesOf}
-use Rattle.cells.specs.declared.cell.State.{State}
 use Rattle.cells.specs.declared.cell.Worked.{Worked}
 use Rattle.cells.specs.Table.{slots, rowOf}
 use Rattle.cells.specs.Work.{slotsOf, taken, workAs, workOut}
 use Rattle.cells.specs.Wake.{stirredAs, stirred, disagree, wakes}
 use Rattle.card.specs.Address.{cellCount, levelAt, readsLevels, reads, slotsRead, mixed, view}
 use Rattle.card.specs.Connectors.{linesOf}
-use Rattle.card.specs.Edits.{withPointer, bitState, move, currentCell, currentConnector, putCell, putConnector, typed, setType, configuredState, configured, setConfig, wired, setSlots, setSource}
+use Rattle.card.specs.Edits.{bitState, move, currentCell, currentConnector, putCell, putConnector, typed, setType, configuredState, configured, setConfig, wired, setSlots, setSource}
 use Rattle.card.specs.Fresh.{clearState, fresh}
 use Rattle.card.specs.Presets.{numbers, table, settingOf, offered}
 use Rattle.card.specs.Tick.{readNow, readLast, named, turnAt, outputsBelow, turned, tick}

@@ -1,0 +1,118 @@
+-- Save and load are inverse: a line that saves has room for the record, the record of a reached card loads, and a loaded card saves as its bytes.
+use Prim.Native.Nat.{ℕ, _≤_}
+use mathlib.Core.Path.{_≡_, refl, sym, ap, _∙_}
+use mathlib.Core.Bool.{Bool, true, false, _&&_, cond, true≢false}
+use mathlib.Core.List.{List, _++_}
+use lib.Dec.{eqb, ltb}
+use lib.ListN.{length, drop}
+use borrow.Author.Tests.{eq-eqb, le-ltb, ltb-false}
+use Rattle.text.specs.Decimal.{isDigit}
+use Rattle.text.specs.Written.{bytesOf}
+use Rattle.card.specs.declared.card.Card.{Card}
+use Rattle.card.specs.Address.{cellCount}
+use Rattle.card.specs.Fresh.{fresh}
+use Rattle.card.specs.Record.{configWidth, recordLength, recordOf, loaded}
+use Rattle.card.specs.Valid.{validCard}
+use Rattle.card.proofs.Records.{config-fits, valid-length, saved-front, load-accepts}
+use Rattle.card.proofs.Records
+use Rattle.lines.specs.declared.grammar.Command.{Command}
+use Rattle.lines.specs.declared.grammar.Command.the-variants.{Move, Where, Trigger, Home, Preset, SetKind, SetConfig, SetState, GetKind, GetConfig, GetState, SetSlots, GetSlot, Front, Back, Cells, Save}
+use Rattle.lines.specs.declared.grammar.Parsed.{Parsed}
+use Rattle.lines.specs.declared.grammar.Parsed.the-variants.{Malformed, Elsewhere, Here}
+use Rattle.lines.specs.Grammar.{isWord, isWhole, cardForm, plainForm, addressed, parse}
+use Rattle.lines.specs.Refusal.{refusal}
+use Rattle.lines.specs.Line.{given, outcome, outcomeFor, refused, shortestReply, lineOutcome, storeAfter}
+use Rattle.lines.specs.Calls.{savedBytes, end}
+use Rattle.lines.specs.SaveLoad.{wholeRecord, Saves, Restored, Written, SaveLoad}
+use Rattle.lines.proofs.Outcomes.{when-none}
+use Rattle.lines.proofs.Reached.{fresh-reached-valid}
+
+-- ---- a line that saves
+
+-- has room for the record: of all commands only `36SS Z` gives it
+command-room : (n : ℕ) (c : Card) (store : ℕ) (command : Command) → given n c command .saves ≡ true → refusal n c store command ≡ 0
+    → recordLength n configWidth ≤ store
+unfolding given refusal
+command-room n c store (Move v) g e = absurd (true≢false (sym g))
+command-room n c store Where g e = absurd (true≢false (sym g))
+command-room n c store (Trigger v) g e = absurd (true≢false (sym g))
+command-room n c store Home g e = absurd (true≢false (sym g))
+command-room n c store (Preset v) g e = absurd (true≢false (sym g))
+command-room n c store (SetKind v) g e = absurd (true≢false (sym g))
+command-room n c store (SetConfig v) g e = absurd (true≢false (sym g))
+command-room n c store (SetState v) g e = absurd (true≢false (sym g))
+command-room n c store GetKind g e = absurd (true≢false (sym g))
+command-room n c store GetConfig g e = absurd (true≢false (sym g))
+command-room n c store GetState g e = absurd (true≢false (sym g))
+command-room n c store (SetSlots p) g e = absurd (true≢false (sym g))
+command-room n c store (GetSlot s) g e = absurd (true≢false (sym g))
+command-room n c store Front g e = absurd (true≢false (sym g))
+command-room n c store Back g e = absurd (true≢false (sym g))
+command-room n c store Cells g e = absurd (true≢false (sym g))
+command-room n c store Save g e = ltb-false store (recordLength n configWidth) (when-none (ltb store (recordLength n configWidth)) 0 e)
+
+room : (c : Card) (b : Bool) (store : ℕ) (p : Parsed) → let o = cond b (refused c 1) (outcomeFor cellCount c store p) in
+    o .k ≡ 0 → o .gives .saves ≡ true → wholeRecord ≤ store
+unfolding outcomeFor outcome
+room c true store p e g = absurd (true≢false (sym g))
+room c false store Malformed e g = absurd (true≢false (sym g))
+room c false store Elsewhere e g = absurd (true≢false (sym g))
+room c false store (Here command) e g = command-room cellCount c store command g e
+
+save-room : (c : Card) (text : List ℕ) (reply store : ℕ) → Saves c text reply store → wholeRecord ≤ store
+unfolding lineOutcome
+save-room c text reply store s = room c (ltb reply shortestReply) store (parse text) (s .accepted) (s .saves)
+
+module _ (c : Card) (text : List ℕ) (reply store : ℕ) (s : Saves c text reply store) where
+  both : (eqb (lineOutcome cellCount c text reply store .k) 0 && lineOutcome cellCount c text reply store .gives .saves) ≡ true
+  both = rw (eq-eqb (lineOutcome cellCount c text reply store .k) 0 (s .accepted)) (s .saves)
+
+  -- what it writes is the record
+  bytes-are : savedBytes c text reply store ≡ recordOf configWidth c
+  unfolding savedBytes
+  bytes-are = rw both
+
+store-is : (c : Card) (text reply store : List ℕ) → validCard cellCount c ≡ true → Saves c text (length reply) (length store)
+    → storeAfter cellCount c text (length reply) store ≡ recordOf configWidth c ++ drop wholeRecord store
+unfolding storeAfter
+store-is c text reply store ok s =
+    rw (both c text (length reply) (length store) s)
+    (saved-front cellCount configWidth c store ok (save-room c text (length reply) (length store) s))
+
+-- ---- the theorem
+
+parses : parse (bytesOf "36SS Z") ≡ Here Save
+unfolding bytesOf isDigit isWord isWhole cardForm plainForm addressed parse
+parses = refl
+
+line-saves : (c : Card) (reply store : ℕ) → shortestReply ≤ reply → wholeRecord ≤ store → Saves c (bytesOf "36SS Z") reply store
+unfolding lineOutcome outcomeFor outcome given refusal
+line-saves c reply store hr hs =
+    record {
+      accepted = rw (le-ltb reply shortestReply hr, parses, le-ltb store wholeRecord hs);
+      saves = rw (le-ltb reply shortestReply hr, parses);
+    }
+
+restored : (c : Card) → validCard cellCount c ≡ true → (d : Card) → Restored c (loaded cellCount configWidth d (recordOf configWidth c))
+restored c ok d =
+    let e = Records.load-save cellCount configWidth config-fits c ok d in
+    record { trigger = ap (λ (x : Card). x .trigger) e; cells = ap (λ (x : Card). x .cells) e; connectors = ap (λ (x : Card). x .connectors) e }
+
+written : (c : Card) (text reply store : List ℕ) → validCard cellCount c ≡ true → Saves c text (length reply) (length store)
+    → Written c (savedBytes c text (length reply) (length store)) store (storeAfter cellCount c text (length reply) store)
+written c text reply store ok s =
+    rw (bytes-are c text (length reply) (length store) s)
+    (record {
+      sized = valid-length cellCount configWidth c ok;
+      front = store-is c text reply store ok s;
+      loads = load-accepts cellCount configWidth config-fits c ok;
+      restored = restored c ok;
+    })
+
+pub save-load : SaveLoad
+save-load =
+    record {
+      saves = line-saves;
+      save-load = λ calls text reply store s. written (end fresh calls) text reply store (fresh-reached-valid calls) s;
+      load-save = λ d bytes text reply store ok s. bytes-are _ text reply store s ∙ Records.save-load cellCount configWidth d bytes ok;
+    }
