@@ -29,34 +29,37 @@ use Rattle.lines.proofs.Reached.{fresh-reached-valid}
 
 -- ---- a line that saves
 
--- has room for the record: of all commands only `36SS Z` gives it
+never : {A : Type 0} → false ≡ true → A
+never e = absurd (true≢false (sym e))
+
+-- it has room for the record: of all commands only `36SS Z` gives it
 command-room : (n : ℕ) (c : Card) (store : ℕ) (command : Command) → given n c command .saves ≡ true → refusal n c store command ≡ 0
     → recordLength n configWidth ≤ store
 unfolding given refusal
-command-room n c store (Move v) g e = absurd (true≢false (sym g))
-command-room n c store Where g e = absurd (true≢false (sym g))
-command-room n c store (Trigger v) g e = absurd (true≢false (sym g))
-command-room n c store Home g e = absurd (true≢false (sym g))
-command-room n c store (Preset v) g e = absurd (true≢false (sym g))
-command-room n c store (SetKind v) g e = absurd (true≢false (sym g))
-command-room n c store (SetConfig v) g e = absurd (true≢false (sym g))
-command-room n c store (SetState v) g e = absurd (true≢false (sym g))
-command-room n c store GetKind g e = absurd (true≢false (sym g))
-command-room n c store GetConfig g e = absurd (true≢false (sym g))
-command-room n c store GetState g e = absurd (true≢false (sym g))
-command-room n c store (SetSlots p) g e = absurd (true≢false (sym g))
-command-room n c store (GetSlot s) g e = absurd (true≢false (sym g))
-command-room n c store Front g e = absurd (true≢false (sym g))
-command-room n c store Back g e = absurd (true≢false (sym g))
-command-room n c store Cells g e = absurd (true≢false (sym g))
+command-room n c store (Move v) g e = never g
+command-room n c store Where g e = never g
+command-room n c store (Trigger v) g e = never g
+command-room n c store Home g e = never g
+command-room n c store (Preset v) g e = never g
+command-room n c store (SetKind v) g e = never g
+command-room n c store (SetConfig v) g e = never g
+command-room n c store (SetState v) g e = never g
+command-room n c store GetKind g e = never g
+command-room n c store GetConfig g e = never g
+command-room n c store GetState g e = never g
+command-room n c store (SetSlots p) g e = never g
+command-room n c store (GetSlot s) g e = never g
+command-room n c store Front g e = never g
+command-room n c store Back g e = never g
+command-room n c store Cells g e = never g
 command-room n c store Save g e = ltb-false store (recordLength n configWidth) (when-none (ltb store (recordLength n configWidth)) 0 e)
 
 room : (c : Card) (b : Bool) (store : ℕ) (p : Parsed) → let o = cond b (refused c 1) (outcomeFor cellCount c store p) in
     o .k ≡ 0 → o .gives .saves ≡ true → wholeRecord ≤ store
 unfolding outcomeFor outcome
-room c true store p e g = absurd (true≢false (sym g))
-room c false store Malformed e g = absurd (true≢false (sym g))
-room c false store Elsewhere e g = absurd (true≢false (sym g))
+room c true store p e g = never g
+room c false store Malformed e g = never g
+room c false store Elsewhere e g = never g
 room c false store (Here command) e g = command-room cellCount c store command g e
 
 save-room : (c : Card) (text : List ℕ) (reply store : ℕ) → Saves c text reply store → wholeRecord ≤ store
