@@ -24,7 +24,7 @@ use Rattle.card.specs.Settled.{remembered, Keeps, Settled}
 use Rattle.card.specs.Untouched.{Edit}
 
 -- what a reader has read is the same where the memory is
-remembered-same : (n i : ℕ) (c d : Card) (s : List ℕ) → Edit n c d → remembered n i d s ≡ remembered n i c s
+pub remembered-same : (n i : ℕ) (c d : Card) (s : List ℕ) → Edit n c d → remembered n i d s ≡ remembered n i c s
 unfolding remembered
 remembered-same n i c d s e = rw (e .outputs, e .outputs2, e .outputs3, e .levels, e .levels2)
 

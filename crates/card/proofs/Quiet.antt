@@ -2,12 +2,11 @@
 -- readers then have, a quick tick leaves every cell and every output as it was.
 use Prim.Native.Nat.{ℕ, zero, suc, _+_, _*_, _^_, _≤_, _<_}
 use mathlib.Core.Path.{_≡_, refl, sym, ap, ap₂, _∙_}
-use mathlib.Core.Bool.{Bool, true, false, _||_, cond}
+use mathlib.Core.Bool.{Bool, true, false, _||_}
 use mathlib.Core.List.{List, map, map-id}
 use mathlib.Core.Logic.{_⊎_, inl, inr}
 use native.Mathlib.Nat.{le-refl, le-of-lt, le-of-suc-le-suc, eq-or-lt-of-le}
 use native.Mathlib.Numerals.{add-one}
-use lib.Dec.{ltb}
 use lib.ListN.{getD, length}
 use lib.Pow.{pow-pos}
 use Rattle.words.specs.Bits.{bitAt, bitNumber, wordOf}
@@ -24,6 +23,7 @@ use Rattle.card.specs.Address.{levelAt, slotsRead, mixed, view}
 use Rattle.card.specs.Tick.{noCell, readNow, readLast, workedTurn, sleptTurn, named, turnAt, outputsBelow, turnOf, cellAfter, wokeAt, turned}
 use Rattle.card.specs.Quiet.{steadyWires, AllRest, sleptAll}
 use Rattle.card.proofs.Sleep.{view-same}
+use Rattle.card.proofs.Views.{mixed-one}
 
 -- one cell more rests
 pub rest-next : (k : ℕ) (v : ℕ → Bool) (cells : List Cell) → AllRest k v cells
@@ -35,14 +35,9 @@ rest-next k v cells rest last i h = go (eq-or-lt-of-le (le-of-suc-le-suc (rw (ad
     go (inl e) = rw e last
     go (inr l) = rest i l
 
-cond-same : (b x : Bool) → cond b x x ≡ x
-cond-same true x = refl
-cond-same false x = refl
-
 -- every position sees the one view
 mixed-any : (i o j : ℕ) → mixed i o o j ≡ mixed 0 o o j
-unfolding mixed
-mixed-any i o j = cond-same (ltb j i) (bitAt o j) ∙ sym (cond-same (ltb j 0) (bitAt o j))
+mixed-any i o j = mixed-one i o j ∙ sym (mixed-one 0 o j)
 
 view-any : (n i o l : ℕ) → view n i o o l ≡ view n 0 o o l
 unfolding view

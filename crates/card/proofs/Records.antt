@@ -8,7 +8,7 @@ use native.Mathlib.Nat.{zero-add, le-of-lt, lt-of-le-of-lt, le-trans, mul-le-mul
 use native.Mathlib.Omega.{arith}
 use lib.Dec.{leb, eqb, lit<}
 use lib.ListN.{length, getD, take, drop, length-append, length-map, List·getD-append, List·getD-map}
-use lib.Seq.{take-at, drop-at, drop-drop, drop-append-le, getD-drop, getD-append-add, ext-getD}
+use lib.Seq.{take-at, drop-at, drop-drop, drop-append-le, getD-drop, getD-append-add, ext-getD, sets-eq}
 use borrow.Author.Tests.{le-ltb, leb-true, eqb-true}
 use Rattle.words.proofs.Listed.{length-listed, listed-at}
 use Rattle.cells.specs.declared.table.Row.{Row}
@@ -25,7 +25,7 @@ use Rattle.card.specs.Valid.{permittedBase, badClock, frontDriven, badCe
 use Rattle.card.specs.Record.{bigEndian, bigValue, triggerField, cellField, connectorField, fieldsFrom, encode, configWidth, triggerLength, cellLength, connectorLength, recordLength, triggerIn, cellIn, connectorIn, cellsIn, connectorsIn, recordOf, sameBytes, loadNumber, poweredUp, loaded, savedTo}
 use Rattle.card.specs.Edits.{clearedCell}
 use Rattle.card.proofs.Settings.{every-at, every-map, Sound, split}
-use Rattle.card.proofs.Fields.{fields-length, field-at, fields-map, length-big, big-read, sets-all, four, same-refl, same-sound, same-not}
+use Rattle.card.proofs.Fields.{fields-length, field-at, fields-map, length-big, big-read, four, same-refl, same-sound, same-not}
 
 -- ---- the fields of a record
 
@@ -297,12 +297,14 @@ valid-length n width c ok =
     record-length n width c (cell-count n (c .trigger) (c .cells) (c .connectors) ok) (four-slots n (c .trigger) (c .cells) (c .connectors) ok)
     (connector-count n (c .trigger) (c .cells) (c .connectors) ok)
 
--- a store of the record's length holds the record after a save, and nothing else
-pub saved-whole : (n width : ℕ) (c : Card) (store : List ℕ) → validCard n c ≡ true → length store ≡ recordLength n width
-    → savedTo n width c store ≡ recordOf width c
+-- a store that has room holds the record at its front after a save, and beyond it what it held
+pub saved-front : (n width : ℕ) (c : Card) (store : List ℕ) → validCard n c ≡ true → recordLength n width ≤ length store
+    → savedTo n width c store ≡ recordOf width c ++ drop (recordLength n width) store
 unfolding savedTo
-saved-whole n width c store ok e =
-    rw (le-ltb (length store) (recordLength n width) (omega arith)) (sets-all store (recordOf width c) (valid-length n width c ok ∙ sym e))
+saved-front n width c store ok room =
+    let sized = valid-length n width c ok in
+    rw (le-ltb (length store) (recordLength n width) room)
+    (sets-eq (recordOf width c) store 0 (omega arith) ∙ ap (λ (k : ℕ). recordOf width c ++ drop k store) (zero-add (length (recordOf width c)) ∙ sized))
 
 -- the record of a valid card is accepted, and gives its settings
 module _ (n width : ℕ) (wide : largestConfig < 256 ^ width) (c : Card) (ok : validCard n c ≡ true) where

@@ -22,14 +22,16 @@ use Rattle.cells.specs.Work.{keeping, workOut}
 use Rattle.cells.specs.Wake.{stirred, disagree, wakes}
 use Rattle.cells.proofs.Laws.{again, constant-works, sleeps, disagree-sym, disagree-trans}
 use Rattle.card.specs.declared.card.Card.{Card}
+use Rattle.card.specs.declared.card.Connector.{Connector}
 use Rattle.card.specs.declared.tick.Wires.{Wires}
 use Rattle.card.specs.declared.tick.Turn.{Turn}
 use Rattle.card.specs.declared.tick.Ticked.{Ticked}
 use Rattle.card.specs.Address.{cellCount, levelAt, slotsRead, mixed, view}
-use Rattle.card.specs.Fresh.{fresh, clearState, freshCell}
-use Rattle.card.specs.Tick.{noCell, readNow, readLast, withState, workedTurn, sleptTurn, named, turnAt, outputsBelow, turnOf, cellAfter, wokeAt, turned, wiresOf, lines, cardAfter, turnedIn, ticked, idle, tick}
+use Rattle.card.specs.Fresh.{fresh, clearState, freshCell, started}
+use Rattle.card.specs.Tick.{noCell, readNow, readLast, withState, workedTurn, sleptTurn, named, turnAt, outputsBelow, turnOf, cellAfter, wokeAt, turned, wiresOf, lines, cardAfter, readIn, turnedIn, ticked, idle, tick}
 use Rattle.card.specs.Settled.{remembered, Keeps, Settled, AlikeTicks}
 use Rattle.card.specs.Examples.{unsettled, wrong-stays, wrong-goes}
+use Rattle.card.proofs.Views.{view-low}
 use Rattle.card.proofs.Ticks.{outAt, outputs-built}
 
 -- ---- what a reader sees of the outputs
@@ -95,8 +97,7 @@ quick-set n cells edited w i h =
 
 -- after a tick that ran, the memory says of each reader what it read in it: cells and connectors, levels and edges
 pub remembers : (n : ℕ) (full : Bool) (c : Card) (sample i : ℕ) (s : List ℕ) → i ≤ n
-    → let w = wiresOf c (lines n c sample .levels) in
-    remembered n i (ticked n full c sample .card) s ≡ readNow n i w (outputsBelow n full (c .cells) (c .edited) w i) s
+    → remembered n i (ticked n full c sample .card) s ≡ readIn n full c sample i s
 unfolding remembered turned readNow
 remembers n full c sample i s h =
     read-whole n full (c .cells) (c .edited) (wiresOf c (lines n c sample .levels)) n i s h
@@ -105,6 +106,12 @@ remembers n full c sample i s h =
 pub recalls : (n i : ℕ) (c : Card) (levels : ℕ) (s : List ℕ) → readLast n i (wiresOf c levels) s ≡ remembered n i c s
 unfolding readLast remembered
 recalls n i c levels s = refl
+
+-- a card that powers up remembers that every level was low
+pub started-low : (n i trigger : ℕ) (cells : List Cell) (connectors : List Connector) (edited : ℕ)
+    → remembered n i (started trigger cells connectors edited) ≡ slotsRead (λ b. false) (λ b. false)
+unfolding remembered
+started-low n i trigger cells connectors edited = λ k s. slotsRead (view-low n i k) (view-low n i k) s
 
 -- ---- settled cards
 

@@ -18,7 +18,7 @@ use Rattle.words.proofs.Laws.{bit-zero, bit-above, bit-ones, bit-low, bit-high,
 use Rattle.cells.specs.Work.{placeOf, slotsOf}
 use Rattle.cells.proofs.Rows.{and-left, and-right}
 use Rattle.cells.proofs.Packed.{slots-place}
-use Rattle.card.specs.Address.{connectorCount, firstConnector, among, levelAt, baseOf, readsLevels, reads, slotsRead, mixed, view}
+use Rattle.card.specs.Address.{connectorCount, firstCell, firstConnector, among, levelAt, baseOf, readsLevels, reads, slotsRead, mixed, view}
 
 -- ---- the word of a view
 
@@ -132,6 +132,30 @@ view-word n i below others levels w hn hb ho hl e =
     let bits : (b : ℕ) → b < 64 → bitAt word b ≡ view n i below others levels b = λ b h.
     level-bit n m levels hn hm hl (omega arith) b ∙ (λ k. levelAt n (λ j. mix-bit i below others j k) (bitAt levels) b) in
     e ∙ sym (built-of-bits word 64 (omega arith)) ∙ built-same (bitAt word) (view n i below others levels) 64 bits
+
+-- ---- views of one word
+
+cond-same : (b x : Bool) → cond b x x ≡ x
+cond-same true x = refl
+cond-same false x = refl
+
+-- where two ticks had the same cell word, a reader in any position sees that word
+pub mixed-one : (i o j : ℕ) → mixed i o o j ≡ bitAt o j
+unfolding mixed
+mixed-one i o j = cond-same (ltb j i) (bitAt o j)
+
+-- where all words are low, so is every base
+level-low : (n b : ℕ) → levelAt n (λ j. false) (λ k. false) b ≡ false
+unfolding levelAt
+level-low n b =
+    ap (λ (x : Bool). cond (among firstCell n b) false x) (cond-same (among firstConnector connectorCount b) false) ∙ cond-same (among firstCell n b) false
+
+pub view-low : (n i : ℕ) → view n i 0 0 0 ≡ (λ b. false)
+unfolding view
+view-low n i =
+    let cells : mixed i 0 0 ≡ (λ j. false) = λ k j. (mixed-one i 0 j ∙ bit-zero j) k in
+    let levels : bitAt 0 ≡ (λ j. false) = λ k j. bit-zero j k in
+    ap₂ (levelAt n) cells levels ∙ (λ k b. level-low n b k)
 
 -- ---- reading an address
 

@@ -1,23 +1,22 @@
--- Document 01's examples of addresses and ticks, as one table by computation: what the definitions give, beside what the document says.
+-- Ticks that document 01 describes in words, as one table by computation: what the definitions give, beside what they should. And a card whose
+-- quick and full ticks differ.
 use Prim.Native.Nat.{ℕ}
 use mathlib.Core.Path.{_≡_, refl}
-use mathlib.Core.Bool.{Bool, true, false}
+use mathlib.Core.Bool.{true, false}
 use mathlib.Core.List.{List, [], _∷_, _++_, map}
 use lib.Count.{ones, onesIn}
 use lib.ListN.{set}
-use Rattle.words.specs.Bits.{bitAt, bitNumber, wordOf}
+use Rattle.words.specs.Bits.{bitAt, wordOf}
 use Rattle.words.specs.Listed.{listed}
 use Rattle.cells.specs.declared.cell.Cell.{Cell}
 use Rattle.cells.specs.Table.{rowOf}
 use Rattle.cells.specs.Work.{taken, workAs, workOut}
 use Rattle.cells.specs.Wake.{stirredAs, stirred, disagree, wakes}
 use Rattle.card.specs.declared.card.Card.{Card}
-use Rattle.card.specs.declared.card.Connector.{Connector}
 use Rattle.card.specs.declared.tick.Answer.{Answer}
-use Rattle.card.specs.declared.tick.Ticked.{Ticked}
 use Rattle.card.specs.Address.{cellCount, levelAt, readsLevels, reads, slotsRead, mixed, view}
-use Rattle.card.specs.Connectors.{pushPull, linesOf}
-use Rattle.card.specs.Fresh.{clearState, fresh, freshCell, freshConnectors}
+use Rattle.card.specs.Connectors.{linesOf}
+use Rattle.card.specs.Fresh.{clearState, fresh}
 use Rattle.card.specs.Tick.{readNow, readLast, named, turnAt, outputsBelow, turned, tick}
 
 -- ---- the cards
@@ -25,14 +24,14 @@ use Rattle.card.specs.Tick.{readNow, readLast, named, turnAt, outputsBel
 abbrev pub cellOf : ℕ → ℕ → List ℕ → Cell
 cellOf kind config slots = record { kind = kind; config = config; slots = slots; state = clearState }
 
--- a fresh card with these cells first, these connectors, this cell word and these edits
-abbrev pub card : List Cell → List Connector → ℕ → ℕ → Card
-card cells connectors outputs edited =
+-- a fresh card with these cells, this cell word in every tick so far, and these edits
+abbrev pub card : List Cell → ℕ → ℕ → Card
+card cells outputs edited =
     record {
       pointer = 1;
       trigger = 0;
       cells = cells;
-      connectors = connectors;
+      connectors = fresh .connectors;
       edited = edited;
       driven = 0;
       outputs = outputs;
@@ -45,24 +44,20 @@ card cells connectors outputs edited =
 twoCells : Cell → Cell → List Cell
 twoCells a b = set (set (fresh .cells) 0 a) 1 b
 
--- document 01's run: cell 1 a one-shot of duration 2 at the rise of TTL0, its clock in every tick; BNC3 from cell 1
-runCard : Card
-runCard = card (set (fresh .cells) 0 (cellOf 14 2 (169 ∷ 192 ∷ 0 ∷ 0 ∷ []))) (set (fresh .connectors) 2 (record { kind = pushPull; source = 1 })) 0 1
-
 -- cell 1 follows TTL0 (address 41), and cell 2 is an AND2 on the rise of cell 1 (129) and an input that is always high (64)
 edgeCard : Card
-edgeCard = card (twoCells (cellOf 6 0 (41 ∷ 0 ∷ 0 ∷ 0 ∷ [])) (cellOf 5 0 (129 ∷ 64 ∷ 0 ∷ 0 ∷ []))) (fresh .connectors) 0 3
+edgeCard = card (twoCells (cellOf 6 0 (41 ∷ 0 ∷ 0 ∷ 0 ∷ [])) (cellOf 5 0 (129 ∷ 64 ∷ 0 ∷ 0 ∷ []))) 0 3
 
 -- cell 2 follows cell 1, which follows TTL0; and the other way round
 upward : Card
-upward = card (twoCells (cellOf 6 0 (41 ∷ 0 ∷ 0 ∷ 0 ∷ [])) (cellOf 6 0 (1 ∷ 0 ∷ 0 ∷ 0 ∷ []))) (fresh .connectors) 0 3
+upward = card (twoCells (cellOf 6 0 (41 ∷ 0 ∷ 0 ∷ 0 ∷ [])) (cellOf 6 0 (1 ∷ 0 ∷ 0 ∷ 0 ∷ []))) 0 3
 
 downward : Card
-downward = card (twoCells (cellOf 6 0 (2 ∷ 0 ∷ 0 ∷ 0 ∷ [])) (cellOf 6 0 (41 ∷ 0 ∷ 0 ∷ 0 ∷ []))) (fresh .connectors) 0 3
+downward = card (twoCells (cellOf 6 0 (2 ∷ 0 ∷ 0 ∷ 0 ∷ [])) (cellOf 6 0 (41 ∷ 0 ∷ 0 ∷ 0 ∷ []))) 0 3
 
 -- a card that is not settled: nobody edited cell 1, an AND2 of two low inputs, and its output is high
 unfoldable pub unsettled : Card
-unsettled = card (set (fresh .cells) 0 (cellOf 5 0 (0 ∷ 0 ∷ 0 ∷ 0 ∷ []))) (fresh .connectors) 1 0
+unsettled = card (set (fresh .cells) 0 (cellOf 5 0 (0 ∷ 0 ∷ 0 ∷ 0 ∷ []))) 1 0
 
 -- ---- their ticks
 
@@ -74,32 +69,18 @@ quick : Card → List ℕ → List ℕ
 quick c [] = []
 quick c (s ∷ ss) = answered (tick cellCount false c 0 s .answer) ++ quick (tick cellCount false c 0 s .card) ss
 
--- an address where every line rises, and where every line falls
-rising : ℕ → List ℕ
-rising a = bitNumber (reads (view cellCount 0 0 65535 65535) (view cellCount 0 0 0 0) a) ∷ []
-
-falling : ℕ → List ℕ
-falling a = bitNumber (reads (view cellCount 0 0 0 0) (view cellCount 0 0 65535 65535) a) ∷ []
-
 -- given, expected
 abbrev table : List (List ℕ × List ℕ)
 table =
-    -- "192 is high in every tick, 128 never"
-    (rising 192, 1 ∷ [])
-    ∷ (falling 192, 1 ∷ [])
-    ∷ (rising 128, 0 ∷ [])
-    ∷ (falling 128, 0 ∷ [])
-    -- the four quick ticks of "One run"
-    ∷ (quick runCard (256 ∷ 256 ∷ 256 ∷ 256 ∷ []), 0 ∷ 1 ∷ 1 ∷ 1 ∷ 4 ∷ 1 ∷ 1 ∷ 1 ∷ 4 ∷ 0 ∷ 1 ∷ 1 ∷ 0 ∷ 0 ∷ 0 ∷ 0 ∷ [])
     -- the AND2 goes up with the edge and down after it, in quick ticks
-    ∷ (quick edgeCard (0 ∷ 256 ∷ 256 ∷ []), 0 ∷ 0 ∷ 3 ∷ 2 ∷ 0 ∷ 3 ∷ 3 ∷ 2 ∷ 0 ∷ 1 ∷ 2 ∷ 1 ∷ [])
+    (quick edgeCard (0 ∷ 256 ∷ 256 ∷ []), 0 ∷ 0 ∷ 3 ∷ 2 ∷ 0 ∷ 3 ∷ 3 ∷ 2 ∷ 0 ∷ 1 ∷ 2 ∷ 1 ∷ [])
     -- cell 2 sees cell 1 of this tick, and cell 1 sees cell 2 of the last
     ∷ (quick upward (256 ∷ 256 ∷ []), 0 ∷ 3 ∷ 3 ∷ 2 ∷ 0 ∷ 3 ∷ 0 ∷ 0 ∷ [])
     ∷ (quick downward (256 ∷ 256 ∷ []), 0 ∷ 2 ∷ 3 ∷ 2 ∷ 0 ∷ 3 ∷ 1 ∷ 1 ∷ [])
     ∷ []
 
 examples : map (λ (e : List ℕ × List ℕ). e .0) table ≡ map (λ (e : List ℕ × List ℕ). e .1) table
-unfolding twoCells runCard edgeCard upward downward answered quick rising falling ones onesIn bitAt wordOf listed rowOf taken workAs workOut stirredAs stirred disagree wakes fresh levelAt readsLevels reads slotsRead mixed view linesOf readNow readLast named turnAt outputsBelow turned tick
+unfolding twoCells edgeCard upward downward answered quick ones onesIn bitAt wordOf listed rowOf taken workAs workOut stirredAs stirred disagree wakes fresh levelAt readsLevels reads slotsRead mixed view linesOf readNow readLast named turnAt outputsBelow turned tick
 examples = refl
 
 -- a wrong output of a sleeping gate stays in a quick tick and goes in a full one

@@ -1,4 +1,3 @@
 pub mod Table
 pub mod Work
 pub mod Wake
-pub mod Examples

@@ -1,12 +1,11 @@
 -- Laws of decisions: what an accepted command rules out, and that its numbers fit.
-use Prim.Native.Nat.{ℕ, zero, suc, _≤_, _<_, _%_}
-use mathlib.Core.Path.{_≡_, refl, sym, ap, _∙_}
-use mathlib.Core.Bool.{Bool, true, false, not, _&&_, _||_, cond}
+use Prim.Native.Nat.{ℕ, zero, suc, _<_, _%_}
+use mathlib.Core.Path.{_≡_, refl, sym, ap}
+use mathlib.Core.Bool.{Bool, true, false, _&&_, _||_, cond}
 use native.Mathlib.Nat.{mod-eq-of-lt}
 use native.Mathlib.Omega.{arith}
-use lib.Dec.{eqb, ltb, leb, eqb·suc-zero}
-use borrow.Author.Tests.{ltb-false, leb-false, not-false, eq-eqb, ne-eqb}
-use Rattle.cells.specs.declared.table.Slots.{Slots}
+use lib.Dec.{eqb, eqb·suc-zero}
+use borrow.Author.Tests.{ltb-false, leb-false, not-false}
 use Rattle.cells.specs.Table.{slots}
 use Rattle.cells.proofs.Laws.{or-left, or-right}
 use Rattle.card.specs.declared.change.Change.{Change}

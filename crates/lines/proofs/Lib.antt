@@ -5,4 +5,5 @@ pub mod Long
 pub mod Decisions
 pub mod Reached
 pub mod Replies
+pub mod SaveLoad
 pub mod Words

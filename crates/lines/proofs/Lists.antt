@@ -7,26 +7,25 @@ use mathlib.Core.List.{List, [], _∷_}
 use lib.Dec.{eqb, ltb}
 use lib.ListN.{length}
 use Rattle.card.specs.declared.card.Card.{Card}
-use Rattle.card.specs.declared.tick.Answer.{Answer}
 use Rattle.card.specs.Address.{cellCount}
-use Rattle.card.specs.Edits.{atCell}
+use Rattle.card.specs.declared.change.Change.the-variants.{Nothing}
+use Rattle.card.specs.declared.context.Context.{Context}
+use Rattle.card.specs.Change.{changed}
+use Rattle.card.specs.Context.{contextOf}
 use Rattle.card.specs.Fresh.{fresh}
 use Rattle.card.specs.Record.{configWidth, loaded, loadNumber}
 use Rattle.card.specs.Tick
 use Rattle.card.specs.Settled.{Settled, AlikeTicks}
 use Rattle.card.specs.Untouched.{Edit}
 use Rattle.card.proofs.Sleep.{fresh-settled, tick-settled, same-ticks}
-use Rattle.card.proofs.EditLaws.{edit-settled, no-edit, move-edit, trigger-edit, home-edit, type-edit, config-edit, state-edit, slots-edit, connector-type-edit, source-edit, preset-edit, powered-settled}
-use Rattle.lines.specs.declared.grammar.Command.{Command}
-use Rattle.lines.specs.declared.grammar.Command.the-variants.{Move, Where, Trigger, Home, Preset, SetKind, SetConfig, SetState, GetKind, GetConfig, GetState, SetSlots, GetSlot, Front, Back, Cells, Save}
+use Rattle.card.proofs.ChangeLaws.{changed-edit}
+use Rattle.card.proofs.EditLaws.{edit-settled, powered-settled}
 use Rattle.lines.specs.declared.grammar.Parsed.{Parsed}
 use Rattle.lines.specs.declared.grammar.Parsed.the-variants.{Malformed, Elsewhere, Here}
 use Rattle.lines.specs.Grammar.{parse}
-use Rattle.lines.specs.Refusal.{refusal}
-use Rattle.lines.specs.Line.{obeyed, outcome, outcomeFor, shortestReply, lineOutcome}
-use Rattle.lines.specs.Calls.{Call, Reply, savedBytes, after, answer, end, answers}
+use Rattle.lines.specs.Line.{decision, decisionFor, refused, shortestReply, lineDecision, lineChange, lineOutcome}
+use Rattle.lines.specs.Calls.{Call, after, answer, end, answers}
 use Rattle.lines.specs.Calls.Call.{line, load, tick}
-use Rattle.lines.specs.Calls.Reply.{lineReply, loadReply, tickReply}
 use Rattle.lines.specs.Demand3.{SameCall, SameCalls, AlikeReply, AlikeReplies, Demand3}
 use Rattle.lines.specs.Demand3.SameCall.{same-line, same-load, same-tick}
 use Rattle.lines.specs.Demand3.SameCalls.{no-calls, more-calls}
@@ -35,59 +34,25 @@ use Rattle.lines.specs.Demand3.AlikeReplies.{no-replies, more-replies}
 
 -- ---- one line
 
-pick-edit : (n : ℕ) (c d e : Card) (b : Bool) → Edit n c d → Edit n c e → Edit n c (cond b d e)
-pick-edit n c d e true p q = p
-pick-edit n c d e false p q = q
-
--- every command is an edit of the card
-obeyed-edit : (n : ℕ) (c : Card) (command : Command) → Edit n c (obeyed n c command)
-unfolding obeyed
-obeyed-edit n c (Move v) = move-edit n c v
-obeyed-edit n c Where = no-edit n c
-obeyed-edit n c (Trigger v) = trigger-edit n c v
-obeyed-edit n c Home = home-edit n c
-obeyed-edit n c (Preset v) = preset-edit n c v
-obeyed-edit n c (SetKind v) = pick-edit n c _ _ (atCell n c) (type-edit n c v) (connector-type-edit n c v)
-obeyed-edit n c (SetConfig v) = pick-edit n c _ _ (atCell n c) (config-edit n c v) (source-edit n c v)
-obeyed-edit n c (SetState v) = state-edit n c v
-obeyed-edit n c GetKind = no-edit n c
-obeyed-edit n c GetConfig = no-edit n c
-obeyed-edit n c GetState = no-edit n c
-obeyed-edit n c (SetSlots p) = slots-edit n c (p .given) _
-obeyed-edit n c (GetSlot s) = no-edit n c
-obeyed-edit n c Front = no-edit n c
-obeyed-edit n c Back = no-edit n c
-obeyed-edit n c Cells = no-edit n c
-obeyed-edit n c Save = no-edit n c
-
-for-edit : (n : ℕ) (c : Card) (store : ℕ) (p : Parsed) → Edit n c (outcomeFor n c store p .card)
-unfolding outcomeFor outcome
-for-edit n c store Malformed = no-edit n c
-for-edit n c store Elsewhere = no-edit n c
-for-edit n c store (Here command) = pick-edit n c _ _ (eqb (refusal n c store command) 0) (obeyed-edit n c command) (no-edit n c)
-
-short-edit : (n : ℕ) (c : Card) (b : Bool) (k store : ℕ) (p : Parsed) → Edit n c (cond b (Rattle.lines.specs.Line.refused c k) (outcomeFor n c store p) .card)
-short-edit n c true k store p = no-edit n c
-short-edit n c false k store p = for-edit n c store p
-
 -- accepted or refused, a line is an edit
 pub line-edit : (n : ℕ) (c : Card) (text : List ℕ) (reply store : ℕ) → Edit n c (lineOutcome n c text reply store .card)
 unfolding lineOutcome
-line-edit n c text reply store = short-edit n c (ltb reply shortestReply) 1 store (parse text)
+line-edit n c text reply store = changed-edit n c (lineChange n c text reply store)
 
--- a refused line gives back the same card
-short-kept : (n : ℕ) (c : Card) (b : Bool) (store : ℕ) (p : Parsed) → let o = cond b (Rattle.lines.specs.Line.refused c 1) (outcomeFor n c store p) in
-    eqb (o .k) 0 ≡ false → o .card ≡ c
-unfolding outcomeFor outcome
-short-kept n c true store p e = refl
-short-kept n c false store Malformed e = refl
-short-kept n c false store Elsewhere e = refl
-short-kept n c false store (Here command) e = rw e
+-- a line that is refused changes nothing
+short-nothing : (n : ℕ) (x : Context) (b : Bool) (store : ℕ) (p : Parsed) → let d = cond b (refused 1) (decisionFor n x store p) in
+    eqb (d .k) 0 ≡ false → d .change ≡ Nothing
+unfolding decisionFor decision
+short-nothing n x true store p e = refl
+short-nothing n x false store Malformed e = refl
+short-nothing n x false store Elsewhere e = refl
+short-nothing n x false store (Here command) e = rw e
 
 pub refused-kept : (n : ℕ) (c : Card) (text : List ℕ) (reply store : ℕ) → eqb (lineOutcome n c text reply store .k) 0 ≡ false
     → lineOutcome n c text reply store .card ≡ c
-unfolding lineOutcome
-refused-kept n c text reply store e = short-kept n c (ltb reply shortestReply) store (parse text) e
+unfolding changed lineDecision lineOutcome
+refused-kept n c text reply store e =
+    ap (changed n c) (short-nothing n (contextOf n c) (ltb reply shortestReply) store (parse text) e)
 
 -- ---- one call
 

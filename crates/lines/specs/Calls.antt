@@ -1,7 +1,6 @@
 -- Document 01, "Lists of calls": calls of any kind in any order, each on the card that the one before it returned. Built from the definitions
 -- that the contracts of `line`, `load`, `full_tick` and `quick_tick` cite.
-use Prim.Native.Nat.{ℕ, _<_}
-use mathlib.Core.Path.{_≡_}
+use Prim.Native.Nat.{ℕ}
 use mathlib.Core.Bool.{Bool, _&&_, cond}
 use mathlib.Core.List.{List, [], _∷_}
 use lib.Dec.{eqb}

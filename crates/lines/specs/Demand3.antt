@@ -5,7 +5,6 @@ use mathlib.Core.Path.{_≡_}
 use mathlib.Core.Bool.{Bool}
 use mathlib.Core.List.{List, [], _∷_}
 use lib.ListN.{length}
-use Rattle.card.specs.declared.card.Card.{Card}
 use Rattle.card.specs.declared.tick.Answer.{Answer}
 use Rattle.card.specs.Fresh.{fresh}
 use Rattle.lines.specs.Calls.{Call, Reply, end, answers}

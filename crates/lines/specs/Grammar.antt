@@ -1,10 +1,9 @@
 -- Document 01, "Lines": the forms of a line, from its bytes to a command. Bytes are written as numbers; the letters are named below.
-use Prim.Native.Nat.{ℕ, zero, suc, _+_}
+use Prim.Native.Nat.{ℕ, suc, _+_}
 use mathlib.Core.Bool.{Bool, true, false, not, _&&_, _||_, cond}
 use mathlib.Core.List.{List, [], _∷_}
 use lib.Dec.{eqb, leb, ltb}
-use lib.ListN.{length, getD, drop}
-use Rattle.text.specs.declared.Number.{Number}
+use lib.ListN.{length, getD}
 use Rattle.text.specs.Decimal.{isDigit, numberAt}
 use Rattle.cells.specs.declared.table.Slots.{Slots}
 use Rattle.cells.specs.Table.{slots, no-slot}

@@ -1,60 +1,33 @@
 -- Document 01, "Lists of calls": ""Who wakes" goes by the calls made since the last tick that ran, or since the start, and by what that tick
--- read." What a list of calls has edited, and what its last ticks were, said of the calls and not of the card's own fields.
-use Prim.Native.Nat.{ℕ, _-_}
-use mathlib.Core.Bool.{Bool, true, false, _&&_, _||_, cond}
+-- read." What a list of calls has edited, what its last tick read and what its last ticks were, said of the calls and not of the card's own
+-- fields; and who wakes behind it.
+use Prim.Native.Nat.{ℕ, _<_}
+use mathlib.Core.Path.{_≡_}
+use mathlib.Core.Bool.{Bool, true, false, _||_, cond}
 use mathlib.Core.List.{List, [], _∷_}
 use lib.Dec.{eqb}
-use lib.ListN.{length}
+use lib.ListN.{length, getD}
+use Rattle.words.specs.Bits.{bitAt}
+use Rattle.cells.specs.declared.table.Slots.{Slots}
+use Rattle.cells.specs.Wake.{wakes}
 use Rattle.card.specs.declared.card.Card.{Card}
-use Rattle.card.specs.Address.{cellCount, firstCell}
-use Rattle.card.specs.Edits.{atCell}
-use Rattle.card.specs.Presets.{has, presetCell}
+use Rattle.card.specs.Address.{cellCount, slotsRead}
+use Rattle.card.specs.Change.{editsCell}
+use Rattle.card.specs.Fresh.{fresh}
 use Rattle.card.specs.Record.{configWidth, loadNumber}
 use Rattle.card.specs.Tick
-use Rattle.lines.specs.declared.grammar.Command.{Command}
-use Rattle.lines.specs.declared.grammar.Command.the-variants.{Move, Where, Trigger, Home, Preset, SetKind, SetConfig, SetState, GetKind, GetConfig, GetState, SetSlots, GetSlot, Front, Back, Cells, Save}
-use Rattle.lines.specs.declared.grammar.Parsed.{Parsed}
-use Rattle.lines.specs.declared.grammar.Parsed.the-variants.{Malformed, Elsewhere, Here}
-use Rattle.lines.specs.Grammar.{parse}
-use Rattle.lines.specs.Line.{lineOutcome}
-use Rattle.lines.specs.Calls.{Call, after}
+use Rattle.card.specs.Tick.{readIn}
+use Rattle.lines.specs.Line.{lineChange}
+use Rattle.lines.specs.Calls.{Call, after, end}
 use Rattle.lines.specs.Calls.Call.{line, load, tick}
 
 -- ---- which cells are edited
 
--- cell i, counted from 0, is the one at the pointer
-abbrev pub pointed : Card → ℕ → Bool
-pointed c i = atCell cellCount c && eqb i (c .pointer - firstCell)
-
--- "A cell is edited by an accepted CCA or CCB write to it or a preset that sets it; by HOME ... all are"
-unfoldable pub editsCell : Card → Command → ℕ → Bool
-editsCell c (Move v) i = false
-editsCell c Where i = false
-editsCell c (Trigger v) i = false
-editsCell c Home i = true
-editsCell c (Preset v) i = has (presetCell v i)
-editsCell c (SetKind v) i = pointed c i
-editsCell c (SetConfig v) i = pointed c i
-editsCell c (SetState v) i = pointed c i
-editsCell c GetKind i = false
-editsCell c GetConfig i = false
-editsCell c GetState i = false
-editsCell c (SetSlots p) i = pointed c i
-editsCell c (GetSlot s) i = false
-editsCell c Front i = false
-editsCell c Back i = false
-editsCell c Cells i = false
-editsCell c Save i = false
-
-unfoldable pub parsedEdits : Card → Parsed → ℕ → Bool
-parsedEdits c Malformed i = false
-parsedEdits c Elsewhere i = false
-parsedEdits c (Here command) i = editsCell c command i
-
--- whether cell i is edited after a call, given whether it was before: a tick that ran clears the edits, an accepted load sets them all
+-- whether cell i is edited after a call, given whether it was before: a line edits what its change edits, and a refused one changes nothing; a
+-- tick that ran clears the edits, an accepted load sets them all
 unfoldable pub editedNext : Card → Call → ℕ → Bool → Bool
 editedNext c (line text reply store) i was =
-    was || (eqb (lineOutcome cellCount c text (length reply) (length store) .k) 0 && parsedEdits c (parse text) i)
+    was || editsCell cellCount c (lineChange cellCount c text (length reply) (length store)) i
 editedNext c (load bytes) i was = cond (eqb (loadNumber cellCount configWidth bytes) 0) true was
 editedNext c (tick full code sample) i was = cond (Tick.tick cellCount full c code sample .answer .ran) false was
 
@@ -62,6 +35,41 @@ editedNext c (tick full code sample) i was = cond (Tick.tick cellCount full c co
 unfoldable pub editedSince : Card → List Call → ℕ → Bool → Bool
 editedSince c [] i was = was
 editedSince c (call ∷ calls) i was = editedSince (after c call) calls i (editedNext c call i was)
+
+-- ---- what the last tick that ran read
+
+-- the readings of four slots by their addresses: slots may be wired anew after the tick
+abbrev pub Readings : Type 0
+Readings = List ℕ → Slots
+
+-- "Everything before the first tick counts as low": every level, and every level before it
+unfoldable pub lowReadings : Readings
+lowReadings = slotsRead (λ b. false) (λ b. false)
+
+-- after a call: a tick that ran is the last that read; an accepted load starts anew; nothing else counts
+unfoldable pub readNext : Card → Call → ℕ → Readings → Readings
+readNext c (line text reply store) i was = was
+readNext c (load bytes) i was = cond (eqb (loadNumber cellCount configWidth bytes) 0) lowReadings was
+readNext c (tick full code sample) i was =
+    cond (Tick.tick cellCount full c code sample .answer .ran) (readIn cellCount full c sample i) was
+
+-- what a reader in position i read in the last tick that ran
+unfoldable pub readSince : Card → List Call → ℕ → Readings → Readings
+readSince c [] i was = was
+readSince c (call ∷ calls) i was = readSince (after c call) calls i (readNext c call i was)
+
+-- ---- "Who wakes", said of a list
+
+-- behind any list of calls from a fresh card, the set that a quick tick on the card's own clock answers has a cell exactly where the rules hold
+-- of the calls since the last tick that ran, or since the start, of what the cell's slots read now, and of what they read in that tick
+unfoldable pub WhoWakes : Type 0
+WhoWakes = (calls : List Call) (code sample i : ℕ) → i < cellCount
+    → let c = end fresh calls in
+    let cell = getD (c .cells) i Tick.noCell in
+    code ≡ c .trigger
+    → bitAt (Tick.tick cellCount false c code sample .answer .woken) i
+    ≡ wakes (cell .kind) (cell .state) (editedSince fresh calls i false) (readIn cellCount false c sample i (cell .slots))
+    (readSince fresh calls i lowReadings (cell .slots))
 
 -- ---- what the last ticks were
 

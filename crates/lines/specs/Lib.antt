@@ -4,5 +4,7 @@ pub mod Refusal
 pub mod Line
 pub mod Calls
 pub mod Demand3
+pub mod SaveLoad
 pub mod Examples
+pub mod Box
 pub mod History

@@ -126,6 +126,10 @@ shortestReply = 16
 unfoldable pub lineDecision : ℕ → Context → List ℕ → ℕ → ℕ → Decision
 lineDecision n x text reply store = cond (ltb reply shortestReply) (refused 1) (decisionFor n x store (parse text))
 
+-- the change that a line makes in a card
+abbrev pub lineChange : ℕ → Card → List ℕ → ℕ → ℕ → Change
+lineChange n c text reply store = lineDecision n (contextOf n c) text reply store .change
+
 -- what a line comes to: its number, the card, and the response
 pub record Outcome : Type 0 where
   pub k : ℕ

@@ -2,3 +2,4 @@
 pub mod Digits
 pub mod Decimal
 pub mod Hex
+pub mod Written

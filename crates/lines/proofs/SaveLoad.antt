@@ -1,0 +1,123 @@
+-- Save and load are inverse: a line that saves has room for the record, the record of a reached card loads, and a loaded card saves as its bytes.
+use Prim.Native.Nat.{ℕ, _≤_}
+use mathlib.Core.Path.{_≡_, refl, sym, ap, _∙_}
+use mathlib.Core.Bool.{Bool, true, false, _&&_, cond, true≢false}
+use mathlib.Core.List.{List, _++_}
+use lib.Dec.{eqb, ltb}
+use lib.ListN.{length, drop}
+use borrow.Author.Tests.{eq-eqb, le-ltb, ltb-false}
+use Rattle.text.specs.Decimal.{isDigit}
+use Rattle.text.specs.Written.{bytesOf}
+use Rattle.card.specs.declared.card.Card.{Card}
+use Rattle.card.specs.declared.context.Context.{Context}
+use Rattle.card.specs.Context.{contextOf}
+use Rattle.card.specs.Address.{cellCount}
+use Rattle.card.specs.Fresh.{fresh}
+use Rattle.card.specs.Record.{configWidth, recordLength, recordOf, loaded}
+use Rattle.card.specs.Valid.{validCard}
+use Rattle.card.proofs.Records.{config-fits, valid-length, saved-front, load-accepts}
+use Rattle.card.proofs.Records
+use Rattle.lines.specs.declared.grammar.Command.{Command}
+use Rattle.lines.specs.declared.grammar.Command.the-variants.{Move, Where, Trigger, Home, Preset, SetKind, SetConfig, SetState, GetKind, GetConfig, GetState, SetSlots, GetSlot, Front, Back, Cells, Save}
+use Rattle.lines.specs.declared.grammar.Parsed.{Parsed}
+use Rattle.lines.specs.declared.grammar.Parsed.the-variants.{Malformed, Elsewhere, Here}
+use Rattle.lines.specs.Grammar.{isWord, isWhole, cardForm, plainForm, addressed, parse}
+use Rattle.lines.specs.Refusal.{refusal}
+use Rattle.lines.specs.Line.{responseTo, decision, decisionFor, refused, shortestReply, lineDecision, lineOutcome, storeAfter}
+use Rattle.lines.specs.Calls.{savedBytes, end}
+use Rattle.lines.specs.SaveLoad.{wholeRecord, Saves, Restored, Written, SaveLoad}
+use Rattle.lines.proofs.Decisions.{when-none}
+use Rattle.lines.proofs.Reached.{fresh-reached-valid}
+
+-- ---- a line that saves
+
+never : {A : Type 0} → false ≡ true → A
+never e = absurd (true≢false (sym e))
+
+-- it has room for the record: of all commands only `36SS Z` gives it
+command-room : (n : ℕ) (x : Context) (store : ℕ) (command : Command) → responseTo x command .saves ≡ true → refusal n x store command ≡ 0
+    → recordLength n configWidth ≤ store
+unfolding responseTo refusal
+command-room n x store (Move v) g e = never g
+command-room n x store Where g e = never g
+command-room n x store (Trigger v) g e = never g
+command-room n x store Home g e = never g
+command-room n x store (Preset v) g e = never g
+command-room n x store (SetKind v) g e = never g
+command-room n x store (SetConfig v) g e = never g
+command-room n x store (SetState v) g e = never g
+command-room n x store GetKind g e = never g
+command-room n x store GetConfig g e = never g
+command-room n x store GetState g e = never g
+command-room n x store (SetSlots p) g e = never g
+command-room n x store (GetSlot s) g e = never g
+command-room n x store Front g e = never g
+command-room n x store Back g e = never g
+command-room n x store Cells g e = never g
+command-room n x store Save g e = ltb-false store (recordLength n configWidth) (when-none (ltb store (recordLength n configWidth)) 0 e)
+
+room : (x : Context) (b : Bool) (store : ℕ) (p : Parsed) → let d = cond b (refused 1) (decisionFor cellCount x store p) in
+    d .k ≡ 0 → d .response .saves ≡ true → wholeRecord ≤ store
+unfolding decisionFor decision
+room x true store p e g = never g
+room x false store Malformed e g = never g
+room x false store Elsewhere e g = never g
+room x false store (Here command) e g = command-room cellCount x store command g e
+
+save-room : (c : Card) (text : List ℕ) (reply store : ℕ) → Saves c text reply store → wholeRecord ≤ store
+unfolding lineDecision lineOutcome
+save-room c text reply store s = room (contextOf cellCount c) (ltb reply shortestReply) store (parse text) (s .accepted) (s .saves)
+
+module _ (c : Card) (text : List ℕ) (reply store : ℕ) (s : Saves c text reply store) where
+  both : (eqb (lineOutcome cellCount c text reply store .k) 0 && lineOutcome cellCount c text reply store .response .saves) ≡ true
+  both = rw (eq-eqb (lineOutcome cellCount c text reply store .k) 0 (s .accepted)) (s .saves)
+
+  -- what it writes is the record
+  bytes-are : savedBytes c text reply store ≡ recordOf configWidth c
+  unfolding savedBytes
+  bytes-are = rw both
+
+store-is : (c : Card) (text reply store : List ℕ) → validCard cellCount c ≡ true → Saves c text (length reply) (length store)
+    → storeAfter cellCount c text (length reply) store ≡ recordOf configWidth c ++ drop wholeRecord store
+unfolding storeAfter
+store-is c text reply store ok s =
+    rw (both c text (length reply) (length store) s)
+    (saved-front cellCount configWidth c store ok (save-room c text (length reply) (length store) s))
+
+-- ---- the theorem
+
+parses : parse (bytesOf "36SS Z") ≡ Here Save
+unfolding bytesOf isDigit isWord isWhole cardForm plainForm addressed parse
+parses = refl
+
+line-saves : (c : Card) (reply store : ℕ) → shortestReply ≤ reply → wholeRecord ≤ store → Saves c (bytesOf "36SS Z") reply store
+unfolding lineDecision lineOutcome decisionFor decision responseTo refusal
+line-saves c reply store hr hs =
+    record {
+      accepted = rw (le-ltb reply shortestReply hr, parses, le-ltb store wholeRecord hs);
+      saves = rw (le-ltb reply shortestReply hr, parses);
+    }
+
+restored : (c : Card) → validCard cellCount c ≡ true → (d : Card) → Restored c (loaded cellCount configWidth d (recordOf configWidth c))
+restored c ok d =
+    let e = Records.load-save cellCount configWidth config-fits c ok d in
+    record { trigger = ap (λ (x : Card). x .trigger) e; cells = ap (λ (x : Card). x .cells) e; connectors = ap (λ (x : Card). x .connectors) e }
+
+written : (c : Card) (text reply store : List ℕ) → validCard cellCount c ≡ true → Saves c text (length reply) (length store)
+    → Written c (savedBytes c text (length reply) (length store)) store (storeAfter cellCount c text (length reply) store)
+written c text reply store ok s =
+    rw (bytes-are c text (length reply) (length store) s)
+    (record {
+      sized = valid-length cellCount configWidth c ok;
+      front = store-is c text reply store ok s;
+      loads = load-accepts cellCount configWidth config-fits c ok;
+      restored = restored c ok;
+    })
+
+pub save-load : SaveLoad
+save-load =
+    record {
+      saves = line-saves;
+      save-load = λ calls text reply store s. written (end fresh calls) text reply store (fresh-reached-valid calls) s;
+      load-save = λ d bytes text reply store ok s. bytes-are _ text reply store s ∙ Records.save-load cellCount configWidth d bytes ok;
+    }
