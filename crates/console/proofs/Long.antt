@@ -10,9 +10,8 @@ use borrow.Author.Tests.{ne-eqb}
 use Rattle.card.specs.declared.card.Card.{Card}
 use Rattle.card.specs.Address.{cellCount}
 use Rattle.lines.specs.Grammar.{longestLine}
-use Rattle.lines.specs.Line.{shortestReply}
+use Rattle.lines.specs.Line.{Outcome, shortestReply}
 use Rattle.lines.proofs.Long.{parse-long, outcome-same, reply-same, store-same}
-use Rattle.lines.specs.declared.outcome.Outcome.{Outcome}
 use Rattle.console.specs.Console.{tickLine, isLoadLine, plainReply, Entry, byLine, entered}
 
 -- a long line is no tick and no load

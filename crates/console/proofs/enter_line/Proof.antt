@@ -6,7 +6,7 @@ use native.Mathlib.Omega.{arith}
 use lib.ListN.{length, take, replicate}
 use lib.Seq.{sets}
 use Rattle.card.specs.Address.{cellCount}
-use Rattle.lines.specs.Line.{shortestReply, lineReply, replyAfter}
+use Rattle.lines.specs.Line.{LineResult, shortestReply, lineReply, replyAfter}
 use Rattle.console.proofs.Chains.{front}
 use Rattle.console.specs.Console.{plainReply}
 use borrow.Author.Needs.{needs}
@@ -40,16 +40,21 @@ same-length-2 c = search needs
 returns : tie.Need-returns
 unfolding replyAfter
 returns c =
-    let a = c .before .before .before .before .before .before .before .before .before .before .before .before .before .before .before .before .args in
+    let l = c .before .before .before .before .before .before .before .before .before .before in
+    let a = l .before .before .before .before .before .before .args in
+    let d = l .line .ensures .0 in
     let reply = lineReply cellCount (a .card) (a .text .now) shortestReply (length (a .store .now)) in
-    let slice = ap (take (c .before .before .before .before .before .before .before .before .before .before .line .result .len - 0)) (c .before .before .before .before .before .before .before .before .before .before .line .ensures .1 .1 .1 .0)
-    ∙ front (replicate 16 0) reply (c .before .before .before .before .before .before .before .before .before .before .line .result .len) (c .before .before .before .before .before .before .before .before .before .before .line .ensures .1 .1 .0) (omega (arith, c .before .before .before .before .before .before .before .before .before .before .line .ensures .1 .1 .0, c .before .before .before .before .before .before .before .before .before .before .line .ensures .1 .1 .1 .1 .1)) in (
-      c .before .before .before .before .before .before .before .before .before .before .line .ensures .0,
+    let len = ap (λ (r : LineResult). r .len) d in
+    let short = l .line .ensures .1 in
+    let buffer = ap (λ (r : LineResult). r .reply) d in
+    let slice = ap (take (l .line .result .len - 0)) buffer ∙ front (replicate 16 0) reply (l .line .result .len) len (omega (arith, len, short)) in
+    let put = c .before .before .put-plain .ensures in (
+      ap (λ (r : LineResult). r .card) d,
       (
-        c .before .before .before .before .before .before .before .before .before .before .line .ensures .1 .1 .1 .1 .0,
+        ap (λ (r : LineResult). r .store) d,
         (
-          c .before .before .put-plain .ensures .0 ∙ ap (λ (r : List ℕ). sets (a .out .now) 0 (plainReply r)) slice,
-          (c .before .before .put-plain .ensures .1 .0 ∙ ap (λ (r : List ℕ). length (plainReply r)) slice, c .before .before .put-plain .ensures .1 .1),
+          put .0 ∙ ap (λ (r : List ℕ). sets (a .out .now) 0 (plainReply r)) slice,
+          (put .1 .0 ∙ ap (λ (r : List ℕ). length (plainReply r)) slice, put .1 .1),
         ),
       ),
     )
