@@ -2,6 +2,7 @@
 pub mod Counts
 pub mod EditLaws
 pub mod Fields
+pub mod Headers
 pub mod PresetLaws
 pub mod PresetRows
 pub mod Quiet

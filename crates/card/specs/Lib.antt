@@ -9,6 +9,8 @@ pub mod Edits
 pub mod Presets
 pub mod PresetRows
 pub mod Record
+pub mod Headers
 pub mod Settled
 pub mod Exempt
 pub mod Examples
+pub mod RecordExamples
