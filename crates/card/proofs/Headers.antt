@@ -243,7 +243,9 @@ module _ (n width : ℕ) (bytes : List ℕ) (all : Bytes bytes) where
 
   -- 14, exactly where a length, a tag, a number or an address is wrong
   pub fourteen : eqb (loadNumber n width bytes) 14 ≡ not (headed n width bytes)
-  fourteen = ap (λ (k : ℕ). eqb k 14) number-headed ∙ told (headed n width bytes) (valid n (triggerIn bytes) (cellsIn n width bytes) (connectorsIn n width bytes))
+  fourteen =
+      ap (λ (k : ℕ). eqb k 14) number-headed
+      ∙ told (headed n width bytes) (valid n (triggerIn bytes) (cellsIn n width bytes) (connectorsIn n width bytes))
     where
       told : (h v : Bool) → eqb (cond h (cond v 0 15) 14) 14 ≡ not h
       told true true = refl
