@@ -1,18 +1,19 @@
 -- Laws of bytes: stored one after the other, in fields of one length, as numbers, and compared.
 use Prim.Native.Nat.{ℕ, zero, suc, _+_, _*_, _/_, _%_, _^_, _≤_, _<_}
 use mathlib.Core.Path.{_≡_, refl, sym, ap, ap₂, _∙_}
-use mathlib.Core.Bool.{Bool, true, false, false≢true}
+use mathlib.Core.Bool.{Bool, true, false, _&&_, false≢true, and-assoc}
 use mathlib.Core.List.{List, [], _∷_, _++_, map, append-nil, append-assoc}
-use native.Mathlib.Nat.{add-zero, zero-mul, not-suc-le-zero, mod-eq-of-lt, pow-suc, pow-succ', suc-mul, mod-one, add-mul, mul-assoc, add-assoc, div-one}
+use native.Mathlib.Nat.{add-zero, zero-mul, not-suc-le-zero, mod-eq-of-lt, pow-suc, pow-succ', suc-mul, mod-one, add-mul, mul-assoc, add-assoc, div-one, div-div-eq-div-mul}
 use native.Mathlib.Numerals.{add-one}
 use native.Mathlib.Omega.{arith}
-use lib.Arith.{mod-mul}
+use lib.Arith.{mod-mul, digits-div, digits-mod}
 use lib.Dec.{eqb, lit<}
 use lib.ListN.{length, getD, set, take, drop, length-append, drop-of-length-le}
 use lib.Seq.{sets, sets-eq, take-suc, drop-cons, length-take-le, drop-append-add}
 use borrow.Author.Tests.{eqb-true, eq-eqb}
 use Rattle.cells.proofs.Rows.{and-left, and-right}
 use Rattle.cells.specs.declared.cell.Cell.{Cell}
+use Rattle.card.specs.Headers.{Bytes}
 use Rattle.card.specs.Record.{cellField, fieldsFrom, bigEndian, bigValue, sameBytes}
 
 -- ---- a run of stores
@@ -55,7 +56,7 @@ module _ {A : Type 0} where
 -- ---- fields
 
 module _ {A : Type 0} (f : ℕ → A → List ℕ) where
-  fields-snoc : (s : ℕ) (l : List A) (x : A) → fieldsFrom f s (l ++ (x ∷ [])) ≡ fieldsFrom f s l ++ f (s + length l) x
+  pub fields-snoc : (s : ℕ) (l : List A) (x : A) → fieldsFrom f s (l ++ (x ∷ [])) ≡ fieldsFrom f s l ++ f (s + length l) x
   unfolding fieldsFrom
   fields-snoc s [] x = append-nil (f s x) ∙ ap (λ (k : ℕ). f k x) (sym (add-zero s))
   fields-snoc s (y ∷ ys) x =
@@ -146,6 +147,29 @@ big-value (suc w) acc v =
 pub big-read : (w v : ℕ) → v < 256 ^ w → bigValue 0 (bigEndian w v) ≡ v
 big-read w v h = big-value w 0 v ∙ ap (λ (k : ℕ). 0 * 256 ^ w + k) (mod-eq-of-lt h) ∙ omega (arith, zero-mul (256 ^ w))
 
+-- bytes are written back from their value, whatever stood before them
+big-top : (acc : ℕ) (l : List ℕ) → Bytes l → bigValue acc l / 256 ^ length l ≡ acc
+unfolding bigValue
+big-top acc [] all = div-one acc
+big-top acc (b ∷ bs) all =
+    let m : ℕ = 256 ^ length bs in
+    let v : ℕ = bigValue (acc * 256 + b) bs in
+    let first : b < 256 = all 0 in
+    ap (λ (k : ℕ). v / k) (pow-suc 256 (length bs))
+    ∙ sym (div-div-eq-div-mul v m 256)
+    ∙ ap (λ (k : ℕ). k / 256) (big-top (acc * 256 + b) bs (λ i. all (suc i)))
+    ∙ digits-div acc first
+
+pub big-back : (acc : ℕ) (l : List ℕ) → Bytes l → bigEndian (length l) (bigValue acc l) ≡ l
+unfolding bigEndian bigValue
+big-back acc [] all = refl
+big-back acc (b ∷ bs) all =
+    let first : b < 256 = all 0 in
+    let rest : Bytes bs = λ i. all (suc i) in
+    ap₂ (λ (k : ℕ) (t : List ℕ). k ∷ t)
+    (ap (λ (k : ℕ). k % 256) (big-top (acc * 256 + b) bs rest) ∙ digits-mod acc first)
+    (big-back (acc * 256 + b) bs rest)
+
 -- the four entries of a list of four
 pub four : (s : List ℕ) → length s ≡ 4 → getD s 0 0 ∷ getD s 1 0 ∷ getD s 2 0 ∷ getD s 3 0 ∷ [] ≡ s
 four [] e = absurd (omega arith)
@@ -213,6 +237,15 @@ same-sound (x ∷ xs) (y ∷ ys) e =
 
 pub same-eq : (a b : List ℕ) → a ≡ b → sameBytes a b ≡ true
 same-eq a b e = ap (λ (l : List ℕ). sameBytes l b) e ∙ same-refl b
+
+-- two lists in two parts, the first ones of one length
+pub same-append : (a b c d : List ℕ) → length a ≡ length c → sameBytes (a ++ b) (c ++ d) ≡ (sameBytes a c && sameBytes b d)
+unfolding sameBytes
+same-append [] b [] d e = refl
+same-append [] b (y ∷ ys) d e = absurd (omega arith)
+same-append (x ∷ xs) b [] d e = absurd (omega arith)
+same-append (x ∷ xs) b (y ∷ ys) d e =
+    ap (λ (t : Bool). eqb x y && t) (same-append xs b ys d (omega arith)) ∙ sym (and-assoc (eqb x y) (sameBytes xs ys) (sameBytes b d))
 
 pub same-not : (a b : List ℕ) → (a ≡ b → ⊥) → sameBytes a b ≡ false
 same-not a b ne = go (sameBytes a b) refl

@@ -3,6 +3,7 @@ pub mod ChangeLaws
 pub mod Counts
 pub mod EditLaws
 pub mod Fields
+pub mod Headers
 pub mod PresetLaws
 pub mod PresetRows
 pub mod Quiet

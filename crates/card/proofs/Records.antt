@@ -34,12 +34,12 @@ abbrev pub FourSlots : List Cell → Type 0
 FourSlots cells = (i : ℕ) → i < length cells → length (getD cells i noCell .slots) ≡ 4
 
 -- the lengths of the two kinds of field
-cell-length : (width k : ℕ) (cell : Cell) → length (cell .slots) ≡ 4 → length (cellField width k cell) ≡ cellLength width
+pub cell-length : (width k : ℕ) (cell : Cell) → length (cell .slots) ≡ 4 → length (cellField width k cell) ≡ cellLength width
 unfolding cellField
 cell-length width k cell n =
     omega (arith, length-append (bigEndian width (cell .config)) (cell .slots), length-big width (cell .config))
 
-connector-length : (k : ℕ) (c : Connector) → length (connectorField k c) ≡ connectorLength
+pub connector-length : (k : ℕ) (c : Connector) → length (connectorField k c) ≡ connectorLength
 unfolding connectorField
 connector-length k c = refl
 
@@ -244,10 +244,11 @@ pub load-refused : (n width : ℕ) (d : Card) (bytes : List ℕ) → eqb (loadNu
 unfolding loaded
 load-refused n width d bytes e = rw e
 
--- bytes of another length are refused with 14
-pub wrong-length : (n width : ℕ) (bytes : List ℕ) → (length bytes ≡ recordLength n width → ⊥) → loadNumber n width bytes ≡ 14
-unfolding loadNumber cellIn
-wrong-length n width bytes ne =
+-- bytes of another length are not those of the settings in them, and are refused with 14
+pub other-length : (n width : ℕ) (bytes : List ℕ) → (length bytes ≡ recordLength n width → ⊥)
+    → sameBytes (encode width (triggerIn bytes) (cellsIn n width bytes) (connectorsIn n width bytes)) bytes ≡ false
+unfolding cellIn
+other-length n width bytes ne =
     let cells = cellsIn n width bytes in
     let connectors = connectorsIn n width bytes in
     let count = length-listed (cellIn width bytes) n in
@@ -255,7 +256,11 @@ wrong-length n width bytes ne =
     let long = encode-length width (triggerIn bytes) cells connectors slots in
     let sized : length (encode width (triggerIn bytes) cells connectors) ≡ recordLength n width =
     rw (count, length-listed (connectorIn n width bytes) connectorCount) at long in
-    rw (same-not (encode width (triggerIn bytes) cells connectors) bytes (λ e. ne (sym (ap length e) ∙ sized)))
+    same-not (encode width (triggerIn bytes) cells connectors) bytes (λ e. ne (sym (ap length e) ∙ sized))
+
+pub wrong-length : (n width : ℕ) (bytes : List ℕ) → (length bytes ≡ recordLength n width → ⊥) → loadNumber n width bytes ≡ 14
+unfolding loadNumber
+wrong-length n width bytes ne = rw (other-length n width bytes ne)
 
 -- both tests of an accepted load hold
 accepted : (s v : Bool) → _≡_ {A = ℕ} (cond s (cond v 0 15) 14) 0 → (s ≡ true) × (v ≡ true)

@@ -11,6 +11,8 @@ pub mod PresetRows
 pub mod Context
 pub mod Change
 pub mod Record
+pub mod Headers
 pub mod Settled
 pub mod Untouched
 pub mod Examples
+pub mod RecordExamples

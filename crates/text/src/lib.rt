@@ -126,7 +126,7 @@ pub fn put_decimal(out: &mut [u8], at: usize, n: u32) -> usize
 }
 
 // The byte of a hexadecimal digit.
-fn hex_digit(d: u16) -> u8
+pub fn hex_digit(d: u16) -> u8
     requires { ⌜ d < 16 ⌝ }
     ensures { λ r. ⌜ r ≡ hexDigit d ⌝ }
 {
@@ -154,7 +154,7 @@ pub fn put_hex4(out: &mut [u8], at: usize, w: u16) -> usize
     copy(out, at, &digits)
 }
 
-fn is_hex(b: u8) -> bool
+pub fn is_hex(b: u8) -> bool
     ensures { λ r. ⌜ r ≡ isHex b ⌝ }
 {
     if is_digit(b) {
@@ -167,7 +167,7 @@ fn is_hex(b: u8) -> bool
 }
 
 // What a hexadecimal digit stands for.
-fn hex_value(b: u8) -> u16
+pub fn hex_value(b: u8) -> u16
     requires { ⌜ isHex b ≡ true ⌝ }
     ensures { λ r. ⌜ r ≡ hexValue b ⌝ }
 {

@@ -1,0 +1,120 @@
+-- Laws of rows: how long one is and what it is made of, texts stored one behind the other, and a row that is cut.
+use Prim.Native.Nat.{ℕ, _+_, _%_, _≤_, _<_}
+use mathlib.Core.Path.{_≡_, refl, sym, ap, ap₂, _∙_}
+use mathlib.Core.Bool.{Bool, true, false, _&&_, _||_}
+use mathlib.Core.List.{List, [], _∷_, _++_}
+use mathlib.Core.Logic.{_⊎_, inl, inr, ⊎-elim}
+use native.Mathlib.Decide.{decLt}
+use native.Mathlib.Numerals.{add-one}
+use native.Mathlib.Omega.{arith}
+use lib.Dec.{eqb, leb}
+use lib.ListN.{length, getD, set, take, length-append, length-take}
+use lib.Seq.{sets, take-all, take-at, take-suc, take-suc-set}
+use borrow.Author.Tests.{eqb-true, leb-true, lt-leb, ne-eqb}
+use Rattle.cells.proofs.Rows.{and-left, and-right}
+use Rattle.text.specs.Digits.{every}
+use Rattle.text.specs.Hex.{isHex}
+use Rattle.text.proofs.DigitLaws.{every-at, sets-append}
+use Rattle.card.specs.declared.card.Card.{Card}
+use Rattle.card.specs.Address.{cellCount}
+use Rattle.card.specs.Fresh.{fresh}
+use Rattle.card.specs.Record.{configWidth, recordOf, loadNumber, loaded}
+use Rattle.loads.specs.Rows.{longestRow, isDash, isRow, hexOf, acceptedText, refusedText, answerTo, printed, kept, rowAfter, rowAfterAll}
+
+-- ---- a row
+
+-- one byte, or hex digits that are not too many
+row-parts : (row : List ℕ) → isRow row ≡ true → (length row ≡ 1) ⊎ ((length row ≤ longestRow) × (every isHex row ≡ true))
+unfolding isRow isDash
+row-parts row e = go (isDash row) refl e
+  where
+    rest : Bool
+    rest = leb (length row) longestRow && (eqb (length row % 2) 0 && every isHex row)
+
+    go : (d : Bool) → isDash row ≡ d → (d || rest) ≡ true → (length row ≡ 1) ⊎ ((length row ≤ longestRow) × (every isHex row ≡ true))
+    go true d _ = inl (eqb-true (length row) 1 (and-left (eqb (length row) 1) (eqb (getD row 0 0) 45) d))
+    go false _ h =
+        let few = leb (length row) longestRow in
+        let even = eqb (length row % 2) 0 in
+        let pairs = and-right few (even && every isHex row) h in
+        inr (leb-true (length row) longestRow (and-left few (even && every isHex row) h), and-right even (every isHex row) pairs)
+
+module _ (row : List ℕ) (ok : isRow row ≡ true) where
+  pub row-short : length row ≤ longestRow
+  row-short = ⊎-elim (λ one. omega arith) (λ both. both .0) (row-parts row ok)
+
+  pub row-hex : (i : ℕ) → i < length row → 2 ≤ length row → isHex (getD row i 0) ≡ true
+  row-hex i h two = ⊎-elim (λ one. absurd (omega arith)) (λ both. every-at isHex row i (both .1) h) (row-parts row ok)
+
+-- ---- texts
+
+-- a text stored behind another
+pub behind : (l a b x y : List ℕ) (p q : ℕ) → x ≡ sets l 0 a → p ≡ length a → y ≡ sets x p b → q ≡ p + length b
+    → (y ≡ sets l 0 (a ++ b)) × (q ≡ length (a ++ b))
+behind l a b x y p q ex ep ey eq =
+    let at : p ≡ 0 + length a = omega arith in (
+      ey ∙ ap₂ (λ (t : List ℕ) (k : ℕ). sets t k b) ex at ∙ sets-append l 0 a b,
+      omega (arith, length-append a b),
+    )
+
+-- what an accepted load prints, stored in three goes
+pub accepted-stored : (l store saved x y z : List ℕ) (p q r : ℕ) → store ≡ saved → x ≡ sets l 0 (48 ∷ 32 ∷ []) → p ≡ 2 → y ≡ sets x p (hexOf store)
+    → q ≡ p + length (hexOf store) → z ≡ sets y q (10 ∷ []) → r ≡ q + 1 → (z ≡ sets l 0 (acceptedText saved)) × (r ≡ length (acceptedText saved))
+unfolding acceptedText
+accepted-stored l store saved x y z p q r es ex ep ey eq ez er =
+    let hex = ap hexOf es in
+    let first = behind l (48 ∷ 32 ∷ []) (hexOf saved) x y p q ex ep (ey ∙ ap (sets x p) hex) (eq ∙ ap (λ (t : List ℕ). p + length t) hex) in
+    behind l ((48 ∷ 32 ∷ []) ++ hexOf saved) (10 ∷ []) y z q r (first .0) (first .1) ez er
+
+-- ---- answers
+
+pub answer-refused : (bytes : List ℕ) (k : ℕ) → k ≡ loadNumber cellCount configWidth bytes → (k ≡ 0 → ⊥) → refusedText k ≡ answerTo bytes
+unfolding answerTo
+answer-refused bytes k e ne = rw (← e, ne-eqb k 0 ne)
+
+pub answer-accepted : (bytes : List ℕ) (c : Card) → loadNumber cellCount configWidth bytes ≡ 0 → c ≡ loaded cellCount configWidth fresh bytes
+    → acceptedText (recordOf configWidth c) ≡ answerTo bytes
+unfolding answerTo
+answer-accepted bytes c e ec = rw (e, ec)
+
+-- ---- a row that is cut
+
+too-long : (row : List ℕ) → longestRow < length row → isRow row ≡ false
+unfolding isRow isDash
+too-long row h = rw (ne-eqb (length row) 1 (λ e. omega arith), lt-leb (length row) longestRow h)
+
+-- it prints what the whole would
+pub printed-cut : (row : List ℕ) → printed (take kept row) ≡ printed row
+unfolding printed
+printed-cut row = go (decLt kept (length row))
+  where
+    go : Dec (kept < length row) → printed (take kept row) ≡ printed row
+    go (yes h) =
+        let n = length-take kept row in
+        rw (too-long (take kept row) (omega (arith, n)), too-long row (omega arith))
+    go (no h) = ap printed (take-all kept row (omega arith))
+
+-- ---- bytes of input
+
+module _ (line : List ℕ) (len b : ℕ) (long : length line ≡ kept) (other : b ≡ 10 → ⊥) where
+  pub row-longer : len < kept → take (len + 1) (set line len b) ≡ rowAfter (take len line) b
+  row-longer h =
+      let n = length-take len line in
+      let m = length-append (take len line) (b ∷ []) in
+      let inside : len < length line = omega arith in
+      rw (ne-eqb b 10 other, add-one len, take-suc-set line len b inside) (sym (take-all kept (take len line ++ (b ∷ [])) (omega (arith, n, m))))
+
+  pub row-full : len ≡ kept → take len line ≡ rowAfter (take len line) b
+  row-full e =
+      let n : length (take len line) ≡ kept = length-take len line ∙ omega arith in
+      rw (ne-eqb b 10 other) (sym (take-at (take len line) (b ∷ []) kept n))
+
+rows-snoc : (row bs : List ℕ) (b : ℕ) → rowAfterAll row (bs ++ (b ∷ [])) ≡ rowAfter (rowAfterAll row bs) b
+unfolding rowAfterAll
+rows-snoc row [] b = refl
+rows-snoc row (x ∷ bs) b = rows-snoc (rowAfter row x) bs b
+
+pub rows-next : (row block : List ℕ) (i : ℕ) → i < length block
+    → rowAfterAll row (take (i + 1) block) ≡ rowAfter (rowAfterAll row (take i block)) (getD block i 0)
+rows-next row block i h =
+    ap (rowAfterAll row) (ap (λ (k : ℕ). take k block) (add-one i) ∙ take-suc block i 0 h) ∙ rows-snoc row (take i block) (getD block i 0)

@@ -1,0 +1,81 @@
+-- A row of input, a record in hex, and what it prints: the number of a load into a fresh card, and what a save of that card writes then.
+use Prim.Native.Nat.{ℕ, _+_, _*_, _/_, _%_}
+use mathlib.Core.Bool.{Bool, _&&_, _||_, cond}
+use mathlib.Core.List.{List, [], _∷_, _++_}
+use lib.Dec.{eqb, leb}
+use lib.ListN.{length, getD, take}
+use Rattle.words.specs.Listed.{listed}
+use Rattle.text.specs.Digits.{every}
+use Rattle.text.specs.Decimal.{decimal}
+use Rattle.text.specs.Hex.{isHex, hexValue, hexDigits}
+use Rattle.card.specs.Address.{cellCount}
+use Rattle.card.specs.Fresh.{fresh}
+use Rattle.card.specs.Record.{fieldsFrom, configWidth, recordOf, loadNumber, loaded}
+
+-- ---- a row
+
+-- the bytes of the longest row, and its digits
+abbrev pub mostBytes : ℕ
+mostBytes = 550
+
+abbrev pub longestRow : ℕ
+longestRow = 2 * mostBytes
+
+-- `-`, a record of no bytes
+unfoldable pub isDash : List ℕ → Bool
+isDash row = eqb (length row) 1 && eqb (getD row 0 0) 45
+
+-- that, or small hex digits, two a byte
+unfoldable pub isRow : List ℕ → Bool
+isRow row = isDash row || (leb (length row) longestRow && (eqb (length row % 2) 0 && every isHex row))
+
+-- the byte that two digits say, and all of them; none for `-`
+abbrev pub byteAt : List ℕ → ℕ → ℕ
+byteAt row k = hexValue (getD row (2 * k) 0) * 16 + hexValue (getD row (2 * k + 1) 0)
+
+unfoldable pub bytesIn : List ℕ → List ℕ
+bytesIn row = listed (byteAt row) (length row / 2)
+
+-- ---- what it prints
+
+-- bytes in hex, as in a row
+abbrev pub digitPair : ℕ → ℕ → List ℕ
+digitPair i b = hexDigits 2 b
+
+unfoldable pub hexOf : List ℕ → List ℕ
+hexOf bytes = fieldsFrom digitPair 0 bytes
+
+-- `K SAVED` of an accepted load, and of a refused one
+unfoldable pub acceptedText : List ℕ → List ℕ
+acceptedText saved = (48 ∷ 32 ∷ []) ++ (hexOf saved ++ (10 ∷ []))
+
+unfoldable pub refusedText : ℕ → List ℕ
+refusedText k = decimal k ++ (32 ∷ 45 ∷ 10 ∷ [])
+
+-- what the load of some bytes prints
+unfoldable pub answerTo : List ℕ → List ℕ
+answerTo bytes =
+    let k = loadNumber cellCount configWidth bytes in
+    cond (eqb k 0) (acceptedText (recordOf configWidth (loaded cellCount configWidth fresh bytes))) (refusedText k)
+
+-- what a row prints: `?` where it is none
+unfoldable pub printed : List ℕ → List ℕ
+printed row = cond (isRow row) (answerTo (bytesIn row)) (63 ∷ 10 ∷ [])
+
+-- no row prints more
+abbrev pub longestPrint : ℕ
+longestPrint = 560
+
+-- ---- the input
+
+-- what is kept of a row that has not ended. A longer one is none, and cut to these bytes it still is none (law `printed-cut`)
+abbrev pub kept : ℕ
+kept = 1104
+
+-- the row that has not ended, after a byte, and after all of them: LF ends it
+abbrev pub rowAfter : List ℕ → ℕ → List ℕ
+rowAfter row b = cond (eqb b 10) [] (take kept (row ++ (b ∷ [])))
+
+unfoldable pub rowAfterAll : List ℕ → List ℕ → List ℕ
+rowAfterAll row [] = row
+rowAfterAll row (b ∷ bs) = rowAfterAll (rowAfter row b) bs

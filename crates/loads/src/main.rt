@@ -1,0 +1,216 @@
+// Loads records into fresh cards: a row of standard input is a record in small hex digits, two a byte, or `-` for one of no bytes, and ends with LF.
+//
+// Each row prints `K SAVED`: the number of the load, 0 where it is accepted, and the record that a save of the loaded card writes, in hex, `-` where
+// the load was refused. A row of another form, or of more than 1100 digits, prints `?`. Bytes after the last LF are dropped.
+//
+// The program takes constant memory, whatever the input. What a row prints is a definition, `printed`; no contract can say what is read or written.
+ghost use mathlib.Core.Bool.{true};
+ghost use mathlib.Core.Path.{_≡_};
+ghost use Prim.Native.Nat.{_+_, _*_, _/_, _≤_};
+ghost use lib.ListN.{length, take};
+ghost use lib.Seq.{sets};
+ghost use Rattle.text.specs.Digits.{every};
+ghost use Rattle.text.specs.Hex.{isHex, hexValue};
+ghost use Rattle.loads.specs.Rows.{isDash, isRow, mostBytes, bytesIn, digitPair, hexOf, acceptedText, refusedText, answerTo, printed, longestPrint, kept, rowAfter, rowAfterAll};
+ghost use Rattle.card.specs.Address.{cellCount};
+ghost use Rattle.card.specs.Valid.{validCard};
+ghost use Rattle.card.specs.Record.{configWidth, recordOf};
+use card::card::Card;
+use libc::STDIN_FILENO;
+use libc::STDOUT_FILENO;
+
+// ---- a row
+
+// `-`.
+fn is_dash(row: &[u8]) -> bool
+    ensures { λ q. ⌜ q ≡ isDash (now (row .entry)) ⌝ }
+{
+    if row.len() != 1 {
+        return false;
+    }
+    row[0] == b'-'
+}
+
+fn all_hex(row: &[u8]) -> bool
+    ensures { λ q. ⌜ q ≡ every isHex (now (row .entry)) ⌝ }
+{
+    for i in 0..row.len() {
+        if !text::is_hex(row[i]) {
+            return false;
+        }
+    }
+    true
+}
+
+// A record in hex, or `-`.
+fn is_row(row: &[u8]) -> bool
+    ensures { λ q. ⌜ q ≡ isRow (now (row .entry)) ⌝ }
+{
+    let n = row.len();
+    is_dash(row) | ((n <= 1100) & ((n % 2 == 0) & all_hex(row)))
+}
+
+// The byte that two digits say.
+fn byte_of(high: u8, low: u8) -> u8
+    requires { ⌜ isHex high ≡ true ⌝ }
+    requires { ⌜ isHex low ≡ true ⌝ }
+    ensures { λ r. ⌜ r ≡ hexValue high * 16 + hexValue low ⌝ }
+{
+    (text::hex_value(high) * 16 + text::hex_value(low)) as u8
+}
+
+// The bytes that a row says, to the front of `out`. The result is how many there are.
+fn bytes_in(row: &[u8], out: &mut [u8]) -> usize
+    requires { ⌜ isRow (now row) ≡ true ⌝ }
+    requires { ⌜ mostBytes ≤ length (now out) ⌝ }
+    ensures { λ r. ⌜ take r (now (out .exit)) ≡ bytesIn (now (row .entry)) ⌝ }
+    ensures { λ r. ⌜ r ≤ mostBytes ⌝ }
+{
+    let n = row.len() / 2;
+    for k in 0..n {
+        out[k] = byte_of(row[2 * k], row[2 * k + 1]);
+    }
+    n
+}
+
+// ---- what it prints
+
+// The two digits of a byte.
+fn digit_pair(b: u8) -> [u8; 2]
+    ensures { λ r. ⌜ r ≡ digitPair 0 b ⌝ }
+{
+    let w = b as u16;
+    [text::hex_digit(w / 16 % 16), text::hex_digit(w % 16)]
+}
+
+// Writes bytes in hex at `at`, and returns the place behind them.
+fn put_hex(out: &mut [u8], at: usize, bytes: &[u8]) -> usize
+    requires { ⌜ at + length (now bytes) * 2 ≤ length (now out) ⌝ }
+    ensures { λ _. ⌜ now (out .exit) ≡ sets (now (out .entry)) at (hexOf (now (bytes .entry))) ⌝ }
+    ensures { λ r. ⌜ r ≡ at + length (hexOf (now (bytes .entry))) ⌝ }
+    ensures { λ r. ⌜ r ≡ at + length (now (bytes .entry)) * 2 ⌝ }
+{
+    for i in 0..bytes.len() {
+        let pair = digit_pair(bytes[i]);
+        text::copy(out, at + 2 * i, &pair);
+    }
+    at + 2 * bytes.len()
+}
+
+// What a refused load prints.
+fn put_refused(out: &mut [u8], k: u8) -> usize
+    requires { ⌜ longestPrint ≤ length (now out) ⌝ }
+    ensures { λ _. ⌜ now (out .exit) ≡ sets (now (out .entry)) 0 (refusedText k) ⌝ }
+    ensures { λ r. ⌜ r ≡ length (refusedText k) ⌝ }
+    ensures { λ r. ⌜ r ≤ longestPrint ⌝ }
+{
+    let at = text::put_decimal(out, 0, k as u32);
+    text::copy(out, at, b" -\n")
+}
+
+// What an accepted load prints.
+fn put_accepted(out: &mut [u8], card: Card) -> usize
+    requires { ⌜ longestPrint ≤ length (now out) ⌝ }
+    requires { ⌜ validCard cellCount card ≡ true ⌝ }
+    ensures { λ _. ⌜ now (out .exit) ≡ sets (now (out .entry)) 0 (acceptedText (recordOf configWidth card)) ⌝ }
+    ensures { λ r. ⌜ r ≡ length (acceptedText (recordOf configWidth card)) ⌝ }
+    ensures { λ r. ⌜ r ≤ longestPrint ⌝ }
+{
+    let mut store = [0u8; 276];
+    card::record::save(card, &mut store);
+    let at = text::copy(out, 0, b"0 ");
+    let end = put_hex(out, at, &store);
+    text::copy(out, end, b"\n")
+}
+
+// What the load of some bytes prints.
+fn answer(bytes: &[u8], out: &mut [u8]) -> usize
+    requires { ⌜ longestPrint ≤ length (now out) ⌝ }
+    ensures { λ _. ⌜ now (out .exit) ≡ sets (now (out .entry)) 0 (answerTo (now (bytes .entry))) ⌝ }
+    ensures { λ r. ⌜ r ≡ length (answerTo (now (bytes .entry))) ⌝ }
+    ensures { λ r. ⌜ r ≤ longestPrint ⌝ }
+{
+    let loaded = card::record::load(card::card::fresh(), bytes);
+    let k = loaded.k;
+    let card = loaded.card;
+    if k != 0 {
+        return put_refused(out, k);
+    }
+    put_accepted(out, card)
+}
+
+// What a row prints.
+fn print_row(row: &[u8], out: &mut [u8]) -> usize
+    requires { ⌜ longestPrint ≤ length (now out) ⌝ }
+    ensures { λ _. ⌜ now (out .exit) ≡ sets (now (out .entry)) 0 (printed (now (row .entry))) ⌝ }
+    ensures { λ r. ⌜ r ≡ length (printed (now (row .entry))) ⌝ }
+    ensures { λ r. ⌜ r ≤ longestPrint ⌝ }
+{
+    if !is_row(row) {
+        return text::copy(out, 0, b"?\n");
+    }
+    let mut bytes = [0u8; 550];
+    let n = bytes_in(row, &mut bytes);
+    answer(&bytes[0..n], out)
+}
+
+// ---- the input
+
+// Writes what the first `len` bytes of a line print.
+fn show(line: &[u8], len: usize) -> bool
+    requires { ⌜ len ≤ length (now line) ⌝ }
+{
+    let mut out = [0u8; 560];
+    let n = print_row(&line[0..len], &mut out);
+    io::write_all(STDOUT_FILENO, &out[0..n])
+}
+
+// A byte of input: LF ends the row that the first `len` bytes of the line are, and it prints; another one makes it longer, as far as it is kept.
+fn take_byte(line: &mut [u8], len: usize, b: u8) -> usize
+    requires { ⌜ length (now line) ≡ kept ⌝ }
+    requires { ⌜ len ≤ kept ⌝ }
+    ensures { λ r. ⌜ take r (now (line .exit)) ≡ rowAfter (take len (now (line .entry))) b ⌝ }
+    ensures { λ r. ⌜ r ≤ kept ⌝ }
+{
+    if b == b'\n' {
+        show(line, len);
+        return 0;
+    }
+    if len == 1104 {
+        return len;
+    }
+    line[len] = b;
+    len + 1
+}
+
+// The first n bytes of a block of input.
+fn take_block(block: &[u8], n: usize, line: &mut [u8], len: usize) -> usize
+    requires { ⌜ n ≤ length (now block) ⌝ }
+    requires { ⌜ length (now line) ≡ kept ⌝ }
+    requires { ⌜ len ≤ kept ⌝ }
+    ensures { λ r. ⌜ take r (now (line .exit)) ≡ rowAfterAll (take len (now (line .entry))) (take n (now (block .entry))) ⌝ }
+    ensures { λ r. ⌜ r ≤ kept ⌝ }
+{
+    let mut l = len;
+    for i in 0..n {
+        l = take_byte(line, l, block[i]);
+    }
+    l
+}
+
+// A proved loop has to end, and nothing says that the input does. So the loop counts its reads down from a number that no run uses up.
+fn main() {
+    let mut block = io::large_buffer();
+    let mut line = [0u8; 1104];
+    let mut len: usize = 0;
+    let mut turns = u64::MAX;
+    while turns > 0 {
+        let got = libc::read(STDIN_FILENO, &mut block);
+        if got <= 0 {
+            return;
+        }
+        let n = io::count(got, &block);
+        len = take_block(&block, n, &mut line, len);
+        turns -= 1;
+    }
+}
