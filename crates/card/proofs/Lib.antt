@@ -11,3 +11,4 @@ pub mod Sleep
 pub mod Ticks
 pub mod ValidLaws
 pub mod Views
+pub mod WriteLaws
