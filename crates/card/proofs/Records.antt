@@ -221,7 +221,7 @@ unfolding encode cellField
 encode-cleared width trigger cells connectors =
     ap (λ (l : List ℕ). triggerField trigger ++ l ++ back connectors) (fields-map (cellField width) clearedCell (λ k x. refl) 0 cells)
 
-valid-cleared : (n trigger : ℕ) (cells : List Cell) (connectors : List Connector)
+pub valid-cleared : (n trigger : ℕ) (cells : List Cell) (connectors : List Connector)
     → valid n trigger (map clearedCell cells) connectors ≡ valid n trigger cells connectors
 unfolding valid validCell
 valid-cleared n trigger cells connectors = rw (length-map cells clearedCell, every-map (validCell n) clearedCell (λ x. refl) cells)

@@ -102,7 +102,7 @@ all-four a b c d h =
     let cd = and-right (a && b) (c && d) h in
     (and-left a b ab, and-right a b ab, and-left c d cd, and-right c d cd)
 
-none-four : (a b c d : Bool) → ((a || b) || (c || d)) ≡ false → (a ≡ false) × (b ≡ false) × (c ≡ false) × (d ≡ false)
+pub none-four : (a b c d : Bool) → ((a || b) || (c || d)) ≡ false → (a ≡ false) × (b ≡ false) × (c ≡ false) × (d ≡ false)
 none-four a b c d h =
     let ab = or-left (a || b) (c || d) h in
     let cd = or-right (a || b) (c || d) h in

@@ -1,7 +1,7 @@
 -- Laws of writes: a valid cell is what lines make of its settings; and what a write at a place leaves of the card's settings.
 use Prim.Native.Nat.{ℕ, _+_, _-_, _≤_, _<_}
 use mathlib.Core.Path.{_≡_, refl, sym, ap, _∙_}
-use mathlib.Core.Bool.{Bool, true, false, not, _&&_, _||_, cond, true≢false, false≢true}
+use mathlib.Core.Bool.{Bool, true, false, not, _&&_, _||_, cond, or-true, false≢true}
 use mathlib.Core.List.{List, [], _∷_}
 use native.Mathlib.Omega.{arith}
 use lib.Dec.{leb, ltb, eqb}
@@ -18,16 +18,16 @@ use Rattle.cells.proofs.Laws.{or-left, or-right}
 use Rattle.cells.proofs.Rows.{and-left, and-right, every-row}
 use Rattle.card.specs.declared.card.Card.{Card}
 use Rattle.card.specs.declared.card.Connector.{Connector}
-use Rattle.card.specs.Address.{firstCell, firstConnector, connectorCount, edgeAddress}
+use Rattle.card.specs.Address.{firstCell, firstConnector, connectorCount, among, edgeAddress}
 use Rattle.card.specs.Connectors.{openDrain, pushPull, isOutput, noConnector}
 use Rattle.card.specs.Fresh.{clearState}
 use Rattle.card.specs.Tick.{noCell}
-use Rattle.card.specs.Valid.{largestAddress, frontTrigger, frontDriven, badCellType, badConnectorType, badConfig, unusedSlot, badAddress, validSlot, validSlots, validCell, validConnector}
+use Rattle.card.specs.Valid.{largestAddress, frontTrigger, frontDriven, badPlace, badCellType, badConnectorType, badConfig, unusedSlot, badAddress, validSlot, validSlots, validCell, validConnector}
 use Rattle.card.specs.Edits.{atCell, atConnector, input, blankSlot, clearedCell, stored, wiredSlot, configuredState, currentCell, currentConnector, putCell, putConnector, move, setTrigger, typed, setType, configured, setConfig, wired, setSlots, setConnectorType, setSource}
 use Rattle.card.specs.Written.{configuredAs, written}
 use Rattle.card.proofs.Fields.{four}
 use Rattle.card.proofs.Settings.{every-at, Sound}
-use Rattle.card.proofs.ValidLaws.{slots-pass, kind-known, all-four, badGiven, kind-good}
+use Rattle.card.proofs.ValidLaws.{slots-pass, all-four, none-four, badGiven, kind-good}
 use Rattle.card.proofs.Views.{among-in, among-above}
 
 -- ---- a valid cell is what lines make of its settings
@@ -103,21 +103,23 @@ module _ (n : ℕ) (cell : Cell) (ok : validCell n cell ≡ true) where
   config-most =
       let most = leb (cell .config) (rowOf (cell .kind) .largest) in
       let known = not (badCellType (cell .kind)) in
-      leb-true (cell .config) (rowOf (cell .kind) .largest) (and-right known most (and-left (known && most) (validSlots n (rowOf (cell .kind)) (cell .slots)) ok))
+      let head = and-left (known && most) (validSlots n (rowOf (cell .kind)) (cell .slots)) ok in
+      leb-true (cell .config) (rowOf (cell .kind) .largest) (and-right known most head)
 
   pub config-permitted : rowOf (cell .kind) .configured ≡ true → badConfig (cell .kind) (cell .config) ≡ false
   unfolding badConfig
   config-permitted e = rw (e, le-ltb (rowOf (cell .kind) .largest) (cell .config) config-most)
 
   -- the type and the configuration
-  configured-is : configuredAs cell ≡ record { kind = cell .kind; config = cell .config; slots = typed (cell .kind) .slots; state = clearState }
+  pub configured-is : configuredAs cell ≡ record { kind = cell .kind; config = cell .config; slots = typed (cell .kind) .slots; state = clearState }
   unfolding configuredAs configured typed
   configured-is = go (rowOf (cell .kind) .configured) (largest-none (cell .kind))
     where
       blank : ℕ → Cell
       blank v = record { kind = cell .kind; config = v; slots = typed (cell .kind) .slots; state = clearState }
 
-      go : (b : Bool) → (b || eqb (rowOf (cell .kind) .largest) 0) ≡ true → cond b (configured (typed (cell .kind)) (cell .config)) (typed (cell .kind)) ≡ blank (cell .config)
+      go : (b : Bool) → (b || eqb (rowOf (cell .kind) .largest) 0) ≡ true
+          → cond b (configured (typed (cell .kind)) (cell .config)) (typed (cell .kind)) ≡ blank (cell .config)
       go true e = λ i. record { kind = cell .kind; config = cell .config; slots = typed (cell .kind) .slots; state = clear-stays (rowOf (cell .kind) .kept) i }
       go false e =
           let none = eqb-true (rowOf (cell .kind) .largest) 0 e in
@@ -163,7 +165,25 @@ module _ (n : ℕ) (cell : Cell) (ok : validCell n cell ≡ true) where
       ∙ (λ i. record { kind = cell .kind; config = cell .config; slots = x i ∷ y i ∷ z i ∷ f i ∷ []; state = clearState })
       ∙ ap (λ (l : List ℕ). record { kind = cell .kind; config = cell .config; slots = l; state = clearState }) (four s slots-four)
 
+  -- a type that uses no slot has none to write
+  pub unslotted : let u = rowOf (cell .kind) .used in ((u .x || u .y) || (u .z || u .f)) ≡ false → configuredAs cell ≡ written cell
+  unfolding written wired typed
+  unslotted none =
+      let used = rowOf (cell .kind) .used in
+      let u = none-four (used .x) (used .y) (used .z) (used .f) none in
+      configured-is ∙ sym (ap (λ (c : Cell). wired c used (cell .slots)) configured-is ∙ rw (u .0, u .1, u .2, u .3))
+
 -- ---- a write at a place
+
+-- 5, "pointer place": the places of cells and connectors are none
+pub cell-place : (n i : ℕ) → i < n → badPlace n (firstCell + i) ≡ false
+unfolding badPlace
+cell-place n i h = rw (among-in firstCell n (firstCell + i) (omega arith) (omega arith))
+
+pub connector-place : (n k : ℕ) → k < connectorCount → badPlace n (firstConnector + k) ≡ false
+unfolding badPlace
+connector-place n k h =
+    rw (among-in firstConnector connectorCount (firstConnector + k) (omega arith) (omega arith), or-true (among firstCell n (firstConnector + k)))
 
 -- the card d has the settings of c with the cell at index i replaced, and the pointer there
 pub record CellWritten (c : Card) (i : ℕ) (cell : Cell) (d : Card) : Type 0 where

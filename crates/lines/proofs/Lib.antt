@@ -3,6 +3,9 @@ pub mod Honest
 pub mod Lists
 pub mod Long
 pub mod Outcomes
+pub mod Printed
 pub mod Reached
 pub mod Replies
+pub mod Settable
+pub mod Wired
 pub mod Words

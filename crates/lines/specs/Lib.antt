@@ -6,3 +6,5 @@ pub mod Calls
 pub mod Demand3
 pub mod Examples
 pub mod History
+pub mod Wiring
+pub mod Settable
