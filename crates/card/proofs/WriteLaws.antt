@@ -4,7 +4,7 @@ use mathlib.Core.Path.{_≡_, refl, sym, ap, _∙_}
 use mathlib.Core.Bool.{Bool, true, false, not, _&&_, _||_, cond, or-true, false≢true}
 use mathlib.Core.List.{List, [], _∷_}
 use native.Mathlib.Omega.{arith}
-use lib.Dec.{leb, ltb, eqb}
+use lib.Dec.{ltb, eqb}
 use lib.ListN.{length, getD, set}
 use lib.Seq.{getD-set-same, set-set, set-getD}
 use borrow.Author.Tests.{leb-true, ltb-false, eqb-true, eqb-false, not-true, le-ltb}
@@ -22,10 +22,11 @@ use Rattle.card.specs.Address.{firstCell, firstConnector, connectorCount
 use Rattle.card.specs.Connectors.{openDrain, pushPull, isOutput, noConnector}
 use Rattle.card.specs.Fresh.{clearState}
 use Rattle.card.specs.Tick.{noCell}
-use Rattle.card.specs.Valid.{largestAddress, frontTrigger, frontDriven, badPlace, badCellType, badConnectorType, badConfig, unusedSlot, badAddress, validSlot, validSlots, validCell, validConnector}
+use Rattle.card.specs.Valid.{largestAddress, frontTrigger, frontDriven, badPlace, badConnectorType, badConfig, unusedSlot, badAddress, validSlot, validSlots, validCell, validConnector}
 use Rattle.card.specs.Edits.{atCell, atConnector, input, blankSlot, clearedCell, stored, wiredSlot, configuredState, currentCell, currentConnector, putCell, putConnector, move, setTrigger, typed, setType, configured, setConfig, wired, setSlots, setConnectorType, setSource}
 use Rattle.card.specs.Written.{configuredAs, written}
 use Rattle.card.proofs.Fields.{four}
+use Rattle.card.proofs.Records.{cell-slots, config-most}
 use Rattle.card.proofs.Settings.{every-at, Sound}
 use Rattle.card.proofs.ValidLaws.{slots-pass, all-four, none-four, badGiven, kind-good}
 use Rattle.card.proofs.Views.{among-in, among-above}
@@ -51,7 +52,7 @@ written-slot n false false a within ok = sym (eqb-true a 0 ok)
 -- what no refusal of a write minds: the address of a used slot; another holds 0
 slot-permitted : (n : ℕ) (used edge : Bool) (a : ℕ) → validSlot n used edge a ≡ true → (used && badAddress n a) ≡ false
 unfolding validSlot
-slot-permitted n true edge a ok = not-true _ (and-left _ (not edge || leb edgeAddress a) ok)
+slot-permitted n true edge a ok = not-true _ (and-left _ _ ok)
 slot-permitted n false edge a ok = refl
 
 pub slot-unused : (n : ℕ) (edge : Bool) (a : ℕ) → validSlot n false edge a ≡ true → a ≡ 0
@@ -98,17 +99,9 @@ clear-stays Bit = refl
 clear-stays Count = refl
 
 module _ (n : ℕ) (cell : Cell) (ok : validCell n cell ≡ true) where
-  pub config-most : cell .config ≤ rowOf (cell .kind) .largest
-  unfolding validCell
-  config-most =
-      let most = leb (cell .config) (rowOf (cell .kind) .largest) in
-      let known = not (badCellType (cell .kind)) in
-      let head = and-left (known && most) (validSlots n (rowOf (cell .kind)) (cell .slots)) ok in
-      leb-true (cell .config) (rowOf (cell .kind) .largest) (and-right known most head)
-
   pub config-permitted : rowOf (cell .kind) .configured ≡ true → badConfig (cell .kind) (cell .config) ≡ false
   unfolding badConfig
-  config-permitted e = rw (e, le-ltb (rowOf (cell .kind) .largest) (cell .config) config-most)
+  config-permitted e = rw (e, le-ltb (rowOf (cell .kind) .largest) (cell .config) (config-most n cell ok))
 
   -- the type and the configuration
   pub configured-is : configuredAs cell ≡ record { kind = cell .kind; config = cell .config; slots = typed (cell .kind) .slots; state = clearState }
@@ -123,7 +116,7 @@ module _ (n : ℕ) (cell : Cell) (ok : validCell n cell ≡ true) where
       go true e = λ i. record { kind = cell .kind; config = cell .config; slots = typed (cell .kind) .slots; state = clear-stays (rowOf (cell .kind) .kept) i }
       go false e =
           let none = eqb-true (rowOf (cell .kind) .largest) 0 e in
-          let zero : 0 ≡ cell .config = omega (arith, config-most) in
+          let zero : 0 ≡ cell .config = omega (arith, config-most n cell ok) in
           ap blank zero
 
   -- the four slots pass
@@ -132,10 +125,6 @@ module _ (n : ℕ) (cell : Cell) (ok : validCell n cell ≡ true) where
       × (validSlot n (r .used .z) (r .edge .z) (getD s 2 0) ≡ true) × (validSlot n (r .used .f) (r .edge .f) (getD s 3 0) ≡ true)
   unfolding validSlots
   slots-each = all-four _ _ _ _ (and-right (eqb (length (cell .slots)) 4) _ (slots-pass n cell ok))
-
-  pub slots-four : length (cell .slots) ≡ 4
-  unfolding validSlots
-  slots-four = eqb-true (length (cell .slots)) 4 (and-left (eqb (length (cell .slots)) 4) _ (slots-pass n cell ok))
 
   pub slots-permitted : let u = rowOf (cell .kind) .used in let s = cell .slots in
       badGiven n u (getD s 0 0) (getD s 1 0) (getD s 2 0) (getD s 3 0) ≡ false
@@ -163,7 +152,7 @@ module _ (n : ℕ) (cell : Cell) (ok : validCell n cell ≡ true) where
       let f = written-slot n (r .used .f) (r .edge .f) (getD s 3 0) (edges .3) (each .3) in
       ap (λ (c : Cell). wired c (r .used) s) configured-is
       ∙ (λ i. record { kind = cell .kind; config = cell .config; slots = x i ∷ y i ∷ z i ∷ f i ∷ []; state = clearState })
-      ∙ ap (λ (l : List ℕ). record { kind = cell .kind; config = cell .config; slots = l; state = clearState }) (four s slots-four)
+      ∙ ap (λ (l : List ℕ). record { kind = cell .kind; config = cell .config; slots = l; state = clearState }) (four s (cell-slots n cell ok))
 
   -- a type that uses no slot has none to write
   pub unslotted : let u = rowOf (cell .kind) .used in ((u .x || u .y) || (u .z || u .f)) ≡ false → configuredAs cell ≡ written cell

@@ -1,4 +1,4 @@
--- The reader is the printer's inverse: the text of a command that a line can say has at most 80 bytes and parses to the command.
+-- The reader is the printer's inverse: the text of a printable command has at most 80 bytes and parses to the command.
 use Prim.Native.Nat.{ℕ, zero, suc, _+_, _*_, _^_, _≤_}
 use mathlib.Core.Path.{_≡_, refl, sym, ap, subst, _∙_}
 use mathlib.Core.Bool.{Bool, true, false, cond, false≢true}
@@ -23,15 +23,15 @@ use Rattle.lines.specs.declared.grammar.Command.{Command}
 use Rattle.lines.specs.declared.grammar.Command.the-variants.{Move, Where, Trigger, Home, Preset, SetKind, SetConfig, SetState, GetKind, GetConfig, GetState, SetSlots, GetSlot, Front, Back, Cells, Save}
 use Rattle.lines.specs.declared.grammar.Parsed.the-variants.{Here}
 use Rattle.lines.specs.Grammar.{byteAt, isWord, isWhole, toEnd, slotOf, noPairs, gave, give, begun, stepped, anySlot, finished, pairsOf, writeOf, ccaWrite, ccaRead, ccaForm, slotForm, ccbForm, readOf, readForm, cardForm, plainForm, addressed, longestLine, parse, equals, blank, CCA, CCB, M-E=, PM-E=}
-use Rattle.lines.specs.Wiring.{letterOf, addressed36, ccaText, givenPair, givenPairs, pairsText, commandText, sayable, sayableSlot, sayableCommand}
+use Rattle.lines.specs.Wiring.{letterOf, cardLine, ccaText, givenPair, givenPairs, pairsText, commandText, printable, printableSlot, printableCommand}
 
 -- ---- numbers and letters
 
-digits : (v : ℕ) → sayable v ≡ true → length (decimal v) ≤ maxDigits
+digits : (v : ℕ) → printable v ≡ true → length (decimal v) ≤ maxDigits
 digits v h = decimal-length v maxDigits (lit≤ tt) (ltb-true v (10 ^ maxDigits) h)
 
 -- a number behind a word ends the line
-number-ends : (w : List ℕ) (v : ℕ) → sayable v ≡ true → toEnd (w ++ decimal v) (length w) ≡ record { ok = true; value = v }
+number-ends : (w : List ℕ) (v : ℕ) → printable v ≡ true → toEnd (w ++ decimal v) (length w) ≡ record { ok = true; value = v }
 unfolding toEnd digitsOf
 number-ends w v h =
     let t = w ++ decimal v in
@@ -57,11 +57,11 @@ parse-plain : (t : List ℕ) → Sized t → isDigit (byteAt t 0) ≡ false → 
 unfolding parse
 parse-plain t size letter = rw (le-leb 1 (length t) (size .0), le-leb (length t) longestLine (size .1), letter)
 
-parse-card : (t : List ℕ) → Sized (addressed36 t) → parse (addressed36 t) ≡ cardForm (addressed36 t)
+parse-card : (t : List ℕ) → Sized (cardLine t) → parse (cardLine t) ≡ cardForm (cardLine t)
 unfolding parse isDigit addressed
-parse-card t size = rw (le-leb 1 (length (addressed36 t)) (size .0), le-leb (length (addressed36 t)) longestLine (size .1))
+parse-card t size = rw (le-leb 1 (length (cardLine t)) (size .0), le-leb (length (cardLine t)) longestLine (size .1))
 
-module _ (v : ℕ) (h : sayable v ≡ true) where
+module _ (v : ℕ) (h : printable v ≡ true) where
   -- at most eight bytes of a form, and the number
   number-sized : (w : List ℕ) → 1 ≤ length w → length w ≤ 8 → Sized (w ++ decimal v)
   number-sized w low most =
@@ -78,11 +78,11 @@ module _ (v : ℕ) (h : sayable v ≡ true) where
   trigger-parses = parse-plain (PM-E= ++ decimal v) (number-sized PM-E= (lit≤ tt) (lit≤ tt)) refl ∙ rw (number-ends PM-E= v h)
 
   cca-sized : (p : Slot) → Sized (ccaText p v)
-  cca-sized p = number-sized (addressed36 (CCA ++ letterOf p ∷ equals ∷ [])) (lit≤ tt) (lit≤ tt)
+  cca-sized p = number-sized (cardLine (CCA ++ letterOf p ∷ equals ∷ [])) (lit≤ tt) (lit≤ tt)
 
   cca-parses : (p : Slot) → parse (ccaText p v) ≡ writeOf p v
   unfolding cardForm isWord ccaForm ccaWrite
-  cca-parses p = parse-card _ (cca-sized p) ∙ rw (number-ends (addressed36 (CCA ++ letterOf p ∷ equals ∷ [])) v h, letter-read p)
+  cca-parses p = parse-card _ (cca-sized p) ∙ rw (number-ends (cardLine (CCA ++ letterOf p ∷ equals ∷ [])) v h, letter-read p)
 
 -- ---- the pairs of CCB
 
@@ -103,7 +103,7 @@ pairs-stop (pair ∷ pairs) = refl
 
 -- one step takes one pair
 module _ (t : List ℕ) (p : Pairs) (at : ℕ) (s : Slot) (v : ℕ) (rest : List ℕ) (there : drop at t ≡ blank ∷ letterOf s ∷ equals ∷ decimal v ++ rest)
-    (stops : digitsOf rest ≡ []) (first : gave p s ≡ false) (h : sayable v ≡ true) where
+    (stops : digitsOf rest ≡ []) (first : gave p s ≡ false) (h : printable v ≡ true) where
   byte-there : (i : ℕ) → byteAt t (at + i) ≡ byteAt (blank ∷ letterOf s ∷ equals ∷ decimal v ++ rest) i
   byte-there i = sym (getD-drop at t i 0) ∙ ap (λ (l : List ℕ). getD l i 0) there
 
@@ -134,17 +134,17 @@ steps-end zero t p = refl
 steps-end (suc k) t p = rw (le-ltb (length t) (length t) (omega arith)) (steps-end k t p)
 
 -- enough steps read all pairs
-pairs-read : {p r : Pairs} {pairs : List (Slot × ℕ)} (t : List ℕ) (at k : ℕ) → Takes p pairs r → every (λ (q : Slot × ℕ). sayable (q .1)) pairs ≡ true
+pairs-read : {p r : Pairs} {pairs : List (Slot × ℕ)} (t : List ℕ) (at k : ℕ) → Takes p pairs r → every (λ (q : Slot × ℕ). printable (q .1)) pairs ≡ true
     → length pairs ≤ k → at ≤ length t → drop at t ≡ pairsText pairs → steps k t (read p at) ≡ read r (length t)
 unfolding every pairsText steps
-pairs-read {p} t at k none say few start there =
+pairs-read {p} t at k none prints few start there =
     let left = sym (length-drop at t) ∙ ap length there in
     let done : at ≡ length t = omega arith in
     rw done (steps-end k t p)
-pairs-read t at zero (next first more) say few start there = absurd (omega arith)
-pairs-read {p} t at (suc k) (next {s = s} {v = v} {pairs = pairs} first more) say few start there =
+pairs-read t at zero (next first more) prints few start there = absurd (omega arith)
+pairs-read {p} t at (suc k) (next {s = s} {v = v} {pairs = pairs} first more) prints few start there =
     let rest = pairsText pairs in
-    let h = and-left (sayable v) _ say in
+    let h = and-left (printable v) _ prints in
     let stops = pairs-stop pairs in
     let left = within t p at s v rest there stops first h in
     let long = length-append (decimal v) rest in
@@ -152,7 +152,7 @@ pairs-read {p} t at (suc k) (next {s = s} {v = v} {pairs = pairs} first more) sa
     sym (drop-drop (length (decimal v)) (at + 3) t) ∙ ap (drop (length (decimal v))) (rest-there t p at s v rest there stops first h)
     ∙ drop-append-seam (decimal v) rest in
     rw (takes-one t p at s v rest there stops first h)
-    (pairs-read t (at + 3 + length (decimal v)) k more (and-right (sayable v) _ say) (omega arith) (omega arith) beyond)
+    (pairs-read t (at + 3 + length (decimal v)) k more (and-right (printable v) _ prints) (omega arith) (omega arith) beyond)
 
 -- the pairs of a command, given one by one
 abbrev pairs8 : (gx gy gz gf : Bool) → (x y z f : ℕ) → Pairs
@@ -183,15 +183,15 @@ takes-f gx gy gz x y z true v = next refl none
 takes-f gx gy gz x y z false v = none
 
 -- a slot that is not given has 0
-given-value : (g : Bool) (v : ℕ) → sayableSlot g v ≡ true → cond g v 0 ≡ v
-given-value true v say = refl
-given-value false v say = sym (eqb-true v 0 say)
+given-value : (g : Bool) (v : ℕ) → printableSlot g v ≡ true → cond g v 0 ≡ v
+given-value true v prints = refl
+given-value false v prints = sym (eqb-true v 0 prints)
 
--- the numbers that are given are sayable, and one at most for each slot
-given-sayable : (g : Bool) (s : Slot) (v : ℕ) → sayableSlot g v ≡ true → every (λ (q : Slot × ℕ). sayable (q .1)) (givenPair g s v) ≡ true
+-- the numbers that are given are printable, and one at most for each slot
+given-printable : (g : Bool) (s : Slot) (v : ℕ) → printableSlot g v ≡ true → every (λ (q : Slot × ℕ). printable (q .1)) (givenPair g s v) ≡ true
 unfolding every
-given-sayable true s v say = rw say
-given-sayable false s v say = refl
+given-printable true s v prints = rw prints
+given-printable false s v prints = refl
 
 given-few : (g : Bool) (s : Slot) (v : ℕ) → length (givenPair g s v) ≤ 1
 given-few true s v = lit≤ tt
@@ -203,30 +203,30 @@ every-both f [] ys a b = b
 every-both f (x ∷ xs) ys a b = rw (and-left (f x) (every f xs) a) (every-both f xs ys (and-right (f x) (every f xs) a) b)
 
 -- the text of some pairs is at most eight bytes for each
-pairs-short : (pairs : List (Slot × ℕ)) → every (λ (q : Slot × ℕ). sayable (q .1)) pairs ≡ true → length (pairsText pairs) ≤ 8 * length pairs
+pairs-short : (pairs : List (Slot × ℕ)) → every (λ (q : Slot × ℕ). printable (q .1)) pairs ≡ true → length (pairsText pairs) ≤ 8 * length pairs
 unfolding every pairsText
-pairs-short [] say = lit≤ tt
-pairs-short (pair ∷ pairs) say =
-    let few = digits (pair .1) (and-left (sayable (pair .1)) _ say) in
-    let rest = pairs-short pairs (and-right (sayable (pair .1)) _ say) in
+pairs-short [] prints = lit≤ tt
+pairs-short (pair ∷ pairs) prints =
+    let few = digits (pair .1) (and-left (printable (pair .1)) _ prints) in
+    let rest = pairs-short pairs (and-right (printable (pair .1)) _ prints) in
     let long = length-append (decimal (pair .1)) (pairsText pairs) in
     omega arith
 
 -- `36CCB` with pairs is no read
-no-read : (pairs : List (Slot × ℕ)) → let t = addressed36 (CCB ++ pairsText pairs) in ccbForm t ≡ pairsOf t 5
+no-read : (pairs : List (Slot × ℕ)) → let t = cardLine (CCB ++ pairsText pairs) in ccbForm t ≡ pairsOf t 5
 unfolding ccbForm pairsText
 no-read [] = refl
 no-read (pair ∷ pairs) = refl
 
-module _ (p : Pairs) (say : sayableCommand (SetSlots p) ≡ true) where
-  each : (sayableSlot (p .given .x) (p .x) ≡ true) × (sayableSlot (p .given .y) (p .y) ≡ true)
-      × (sayableSlot (p .given .z) (p .z) ≡ true) × (sayableSlot (p .given .f) (p .f) ≡ true)
-  unfolding sayableCommand
-  each = all-four _ _ _ _ (and-right (anySlot (p .given)) _ say)
+module _ (p : Pairs) (prints : printableCommand (SetSlots p) ≡ true) where
+  each : (printableSlot (p .given .x) (p .x) ≡ true) × (printableSlot (p .given .y) (p .y) ≡ true)
+      × (printableSlot (p .given .z) (p .z) ≡ true) × (printableSlot (p .given .f) (p .f) ≡ true)
+  unfolding printableCommand
+  each = all-four _ _ _ _ (and-right (anySlot (p .given)) _ prints)
 
   some : anySlot (p .given) ≡ true
-  unfolding sayableCommand
-  some = and-left (anySlot (p .given)) _ say
+  unfolding printableCommand
+  some = and-left (anySlot (p .given)) _ prints
 
   takes-all : Takes noPairs (givenPairs p) p
   takes-all =
@@ -241,12 +241,12 @@ module _ (p : Pairs) (say : sayableCommand (SetSlots p) ≡ true) where
       (takes-z (g .x) (g .y) (cond (g .x) (p .x) 0) (cond (g .y) (p .y) 0) (g .z) (p .z)
       (takes-f (g .x) (g .y) (g .z) (cond (g .x) (p .x) 0) (cond (g .y) (p .y) 0) (cond (g .z) (p .z) 0) (g .f) (p .f)))))
 
-  all-sayable : every (λ (q : Slot × ℕ). sayable (q .1)) (givenPairs p) ≡ true
-  all-sayable =
+  all-printable : every (λ (q : Slot × ℕ). printable (q .1)) (givenPairs p) ≡ true
+  all-printable =
       let g = p .given in
-      every-both _ (givenPair (g .x) X (p .x)) _ (given-sayable (g .x) X (p .x) (each .0))
-      (every-both _ (givenPair (g .y) Y (p .y)) _ (given-sayable (g .y) Y (p .y) (each .1))
-      (every-both _ (givenPair (g .z) Z (p .z)) _ (given-sayable (g .z) Z (p .z) (each .2)) (given-sayable (g .f) F (p .f) (each .3))))
+      every-both _ (givenPair (g .x) X (p .x)) _ (given-printable (g .x) X (p .x) (each .0))
+      (every-both _ (givenPair (g .y) Y (p .y)) _ (given-printable (g .y) Y (p .y) (each .1))
+      (every-both _ (givenPair (g .z) Z (p .z)) _ (given-printable (g .z) Z (p .z) (each .2)) (given-printable (g .f) F (p .f) (each .3))))
 
   at-most-four : length (givenPairs p) ≤ 4
   at-most-four =
@@ -257,65 +257,67 @@ module _ (p : Pairs) (say : sayableCommand (SetSlots p) ≡ true) where
       let f = given-few (g .f) F (p .f) in
       simp length-append (omega arith)
 
-  slots-sized : Sized (addressed36 (CCB ++ pairsText (givenPairs p)))
+  slots-sized : Sized (cardLine (CCB ++ pairsText (givenPairs p)))
   slots-sized =
-      let short = pairs-short (givenPairs p) all-sayable in
+      let short = pairs-short (givenPairs p) all-printable in
       let few = at-most-four in
       (omega arith, omega arith)
 
-  slots-read : let t = addressed36 (CCB ++ pairsText (givenPairs p)) in pairsOf t 5 ≡ Here (SetSlots p)
+  slots-read : let t = cardLine (CCB ++ pairsText (givenPairs p)) in pairsOf t 5 ≡ Here (SetSlots p)
   unfolding pairsOf steps
   slots-read =
-      let t = addressed36 (CCB ++ pairsText (givenPairs p)) in
-      let all : steps 4 t (begun 5) ≡ read p (length t) = pairs-read t 5 4 takes-all all-sayable at-most-four (omega arith) refl in
+      let t = cardLine (CCB ++ pairsText (givenPairs p)) in
+      let all : steps 4 t (begun 5) ≡ read p (length t) = pairs-read t 5 4 takes-all all-printable at-most-four (omega arith) refl in
       ap (finished t) all ∙ rw (eq-eqb (length t) (length t) refl, some)
 
-  slots-parse : parse (addressed36 (CCB ++ pairsText (givenPairs p))) ≡ Here (SetSlots p)
+  slots-parse : parse (cardLine (CCB ++ pairsText (givenPairs p))) ≡ Here (SetSlots p)
   unfolding cardForm isWord
   slots-parse = parse-card (CCB ++ pairsText (givenPairs p)) slots-sized ∙ no-read (givenPairs p) ∙ slots-read
 
 -- ---- every command
 
-pub text-sized : (command : Command) → sayableCommand command ≡ true → (1 ≤ length (commandText command)) × (length (commandText command) ≤ longestLine)
-unfolding commandText sayableCommand
-text-sized (Move v) say = number-sized v say M-E= (lit≤ tt) (lit≤ tt)
-text-sized Where say = (lit≤ tt, lit≤ tt)
-text-sized (Trigger v) say = number-sized v say PM-E= (lit≤ tt) (lit≤ tt)
-text-sized Home say = (lit≤ tt, lit≤ tt)
-text-sized (Preset v) say = cca-sized v say X
-text-sized (SetKind v) say = cca-sized v say Y
-text-sized (SetConfig v) say = cca-sized v say Z
-text-sized (SetState v) say = cca-sized v say F
-text-sized GetKind say = (lit≤ tt, lit≤ tt)
-text-sized GetConfig say = (lit≤ tt, lit≤ tt)
-text-sized GetState say = (lit≤ tt, lit≤ tt)
-text-sized (SetSlots p) say = slots-sized p say
-text-sized (GetSlot s) say = (lit≤ tt, lit≤ tt)
-text-sized Front say = (lit≤ tt, lit≤ tt)
-text-sized Back say = (lit≤ tt, lit≤ tt)
-text-sized Cells say = (lit≤ tt, lit≤ tt)
-text-sized Save say = (lit≤ tt, lit≤ tt)
+-- "One line of 1 to 80 bytes"
+pub text-sized : (command : Command) → printableCommand command ≡ true → (1 ≤ length (commandText command)) × (length (commandText command) ≤ longestLine)
+unfolding commandText printableCommand
+text-sized (Move v) prints = number-sized v prints M-E= (lit≤ tt) (lit≤ tt)
+text-sized Where prints = (lit≤ tt, lit≤ tt)
+text-sized (Trigger v) prints = number-sized v prints PM-E= (lit≤ tt) (lit≤ tt)
+text-sized Home prints = (lit≤ tt, lit≤ tt)
+text-sized (Preset v) prints = cca-sized v prints X
+text-sized (SetKind v) prints = cca-sized v prints Y
+text-sized (SetConfig v) prints = cca-sized v prints Z
+text-sized (SetState v) prints = cca-sized v prints F
+text-sized GetKind prints = (lit≤ tt, lit≤ tt)
+text-sized GetConfig prints = (lit≤ tt, lit≤ tt)
+text-sized GetState prints = (lit≤ tt, lit≤ tt)
+text-sized (SetSlots p) prints = slots-sized p prints
+text-sized (GetSlot s) prints = (lit≤ tt, lit≤ tt)
+text-sized Front prints = (lit≤ tt, lit≤ tt)
+text-sized Back prints = (lit≤ tt, lit≤ tt)
+text-sized Cells prints = (lit≤ tt, lit≤ tt)
+text-sized Save prints = (lit≤ tt, lit≤ tt)
 
-pub text-parses : (command : Command) → sayableCommand command ≡ true → parse (commandText command) ≡ Here command
-unfolding commandText sayableCommand parse isDigit byteAt addressed cardForm plainForm isWord isWhole ccaForm ccaRead ccbForm slotForm readForm readOf slotOf writeOf
-text-parses (Move v) say = move-parses v say
-text-parses Where say = refl
-text-parses (Trigger v) say = trigger-parses v say
-text-parses Home say = refl
-text-parses (Preset v) say = cca-parses v say X
-text-parses (SetKind v) say = cca-parses v say Y
-text-parses (SetConfig v) say = cca-parses v say Z
-text-parses (SetState v) say = cca-parses v say F
-text-parses GetKind say = refl
-text-parses GetConfig say = refl
-text-parses GetState say = refl
-text-parses (SetSlots p) say = slots-parse p say
-text-parses (GetSlot X) say = refl
-text-parses (GetSlot Y) say = refl
-text-parses (GetSlot Z) say = refl
-text-parses (GetSlot F) say = refl
-text-parses (GetSlot NoSlot) say = absurd (false≢true say)
-text-parses Front say = refl
-text-parses Back say = refl
-text-parses Cells say = refl
-text-parses Save say = refl
+-- what is printed reads as the command
+pub text-parses : (command : Command) → printableCommand command ≡ true → parse (commandText command) ≡ Here command
+unfolding commandText printableCommand parse isDigit byteAt addressed cardForm plainForm isWord isWhole ccaForm ccaRead ccbForm slotForm readForm readOf slotOf writeOf
+text-parses (Move v) prints = move-parses v prints
+text-parses Where prints = refl
+text-parses (Trigger v) prints = trigger-parses v prints
+text-parses Home prints = refl
+text-parses (Preset v) prints = cca-parses v prints X
+text-parses (SetKind v) prints = cca-parses v prints Y
+text-parses (SetConfig v) prints = cca-parses v prints Z
+text-parses (SetState v) prints = cca-parses v prints F
+text-parses GetKind prints = refl
+text-parses GetConfig prints = refl
+text-parses GetState prints = refl
+text-parses (SetSlots p) prints = slots-parse p prints
+text-parses (GetSlot X) prints = refl
+text-parses (GetSlot Y) prints = refl
+text-parses (GetSlot Z) prints = refl
+text-parses (GetSlot F) prints = refl
+text-parses (GetSlot NoSlot) prints = absurd (false≢true prints)
+text-parses Front prints = refl
+text-parses Back prints = refl
+text-parses Cells prints = refl
+text-parses Save prints = refl

@@ -8,14 +8,14 @@ use Rattle.cells.specs.declared.cell.Cell.{Cell}
 use Rattle.card.specs.declared.card.Card.{Card}
 use Rattle.card.specs.declared.card.Connector.{Connector}
 use Rattle.card.specs.Address.{cellCount}
-use Rattle.card.specs.Fresh.{fresh}
+use Rattle.card.specs.Fresh.{freshOf, fresh}
 use Rattle.card.specs.Record.{configWidth, loadNumber, loaded}
 use Rattle.card.specs.Valid.{valid, validCard}
 use Rattle.card.proofs.Records.{valid-cleared, loaded-valid}
 use Rattle.lines.specs.Line.{shortestReply, lineOutcome}
 use Rattle.lines.specs.Calls.{after, end}
 use Rattle.lines.specs.Wiring.{wiringLines}
-use Rattle.lines.specs.Settable.{fed, freshOf, lineCalls, SetByLines, Settable, ValidIsSettable}
+use Rattle.lines.specs.Settable.{fed, lineCalls, SetByLines, Settable, ValidIsSettable}
 use Rattle.lines.proofs.Reached.{fresh-reached-valid}
 use Rattle.lines.proofs.Wired.{settable}
 

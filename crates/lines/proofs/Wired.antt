@@ -17,41 +17,46 @@ use Rattle.card.specs.declared.card.Connector.{Connector}
 use Rattle.card.specs.Address.{connectorCount, firstCell, firstConnector}
 use Rattle.card.specs.Connectors.{noConnector}
 use Rattle.card.specs.Edits.{clearedCell, typed, configured, wired, move, setTrigger}
-use Rattle.card.specs.Fresh.{freshCell}
+use Rattle.card.specs.Fresh.{freshCell, freshOf}
 use Rattle.card.specs.Valid.{frontDriven, badCellType, badConnectorType, badAddress, badConfig, validCell, validConnector, every, valid, validSlot}
 use Rattle.card.specs.Written.{configuredAs, written}
 use Rattle.card.proofs.Fields.{sets-all}
-use Rattle.card.proofs.Records.{largest-fits}
+use Rattle.card.proofs.Records.{cell-config}
 use Rattle.card.proofs.Settings.{Sound, split}
 use Rattle.card.proofs.ValidLaws.{kind-known, kind-good, source-good}
-use Rattle.card.proofs.WriteLaws.{CellWritten, ConnectorWritten, written-is, unslotted, configured-is, config-most, config-permitted, slots-each, slots-permitted, slot-unused, slot-most, address-most, used-given, cell-place, connector-place, at-cell, current-written, move-written, type-written, config-written, slots-written, beside-cells, move-connector-written, connector-type-written, source-written, trigger-leaves}
+use Rattle.card.proofs.WriteLaws.{CellWritten, ConnectorWritten, written-is, unslotted, configured-is, config-permitted, slots-each, slots-permitted, slot-unused, slot-most, address-most, used-given, cell-place, connector-place, at-cell, current-written, move-written, type-written, config-written, slots-written, beside-cells, move-connector-written, connector-type-written, source-written, trigger-leaves}
 use Rattle.lines.specs.declared.grammar.Command.{Command}
 use Rattle.lines.specs.declared.grammar.Command.the-variants.{Move, Trigger, SetKind, SetConfig, SetSlots}
 use Rattle.lines.specs.Grammar.{anySlot}
 use Rattle.lines.specs.Refusal.{tooLarge, largestNumber, anyTooLarge, kindAt, refusal}
 use Rattle.lines.specs.Line.{obeyed, outcome, outcomeFor, shortestReply, lineOutcome}
-use Rattle.lines.specs.Wiring.{only, pairsIn, cellCommands, connectorCommands, commandsFrom, wiring, commandText, sayable, sayableSlot, sayableCommand}
-use Rattle.lines.specs.Settable.{fed, allAccepted, freshOf, Settable}
+use Rattle.lines.specs.Wiring.{only, pairsIn, cellCommands, connectorCommands, commandsFrom, wiring, commandText, printable, printableSlot, printableCommand}
+use Rattle.lines.specs.Settable.{fed, allAccepted, Settable}
 use Rattle.lines.proofs.Outcomes.{clock-fits, kind-fits, connector-fits}
 use Rattle.lines.proofs.Printed.{text-parses}
 
 -- ---- commands and their lines
 
--- commands one after the other, each sayable and accepted, lead from c to d
+-- commands one after the other, each printable and accepted, lead from c to d
 data Runs (n store : ℕ) : Card → List Command → Card → Type 0 where
   none : {c : Card} → Runs n store c [] c
-  next : {c d : Card} {command : Command} {commands : List Command} → sayableCommand command ≡ true → refusal n c store command ≡ 0
+  next : {c d : Card} {command : Command} {commands : List Command} → printableCommand command ≡ true → refusal n c store command ≡ 0
       → Runs n store (obeyed n c command) commands d → Runs n store c (command ∷ commands) d
 
 module _ {n store : ℕ} where
   both-run : {c d e : Card} {first more : List Command} → Runs n store c first d → Runs n store d more e → Runs n store c (first ++ more) e
   both-run none later = later
-  both-run (next say free early) later = next say free (both-run early later)
+  both-run (next prints free early) later = next prints free (both-run early later)
 
-  only-runs : (test : Bool) (c : Card) (command : Command) → (test ≡ true → sayableCommand command ≡ true) → (test ≡ true → refusal n c store command ≡ 0)
+  only-runs : (test : Bool) (c : Card) (command : Command) → (test ≡ true → printableCommand command ≡ true) → (test ≡ true → refusal n c store command ≡ 0)
       → Runs n store c (only test command) (cond test (obeyed n c command) c)
-  only-runs true c command say free = next (say refl) (free refl) none
-  only-runs false c command say free = none
+  only-runs true c command prints free = next (prints refl) (free refl) none
+  only-runs false c command prints free = none
+
+  runs-printable : {c d : Card} {commands : List Command} → Runs n store c commands d → every printableCommand commands ≡ true
+  unfolding every
+  runs-printable none = refl
+  runs-printable (next prints free more) = rw prints (runs-printable more)
 
 -- the settings that some commands reach
 record Reaches (n store : ℕ) (c : Card) (commands : List Command) (t : ℕ) (cs : List Cell) (ks : List Connector) : Type 0 where
@@ -63,41 +68,41 @@ record Reaches (n store : ℕ) (c : Card) (commands : List Command) (t : ℕ) (c
 
 -- the line of a command that is not refused is accepted, and obeyed
 module _ (n reply store : ℕ) (room : shortestReply ≤ reply) where
-  line-accepted : (c : Card) (command : Command) → sayableCommand command ≡ true → refusal n c store command ≡ 0
+  line-accepted : (c : Card) (command : Command) → printableCommand command ≡ true → refusal n c store command ≡ 0
       → lineOutcome n c (commandText command) reply store .k ≡ 0
   unfolding lineOutcome outcomeFor outcome
-  line-accepted c command say free = rw (le-ltb reply shortestReply room, text-parses command say) free
+  line-accepted c command prints free = rw (le-ltb reply shortestReply room, text-parses command prints) free
 
-  line-obeyed : (c : Card) (command : Command) → sayableCommand command ≡ true → refusal n c store command ≡ 0
+  line-obeyed : (c : Card) (command : Command) → printableCommand command ≡ true → refusal n c store command ≡ 0
       → lineOutcome n c (commandText command) reply store .card ≡ obeyed n c command
   unfolding lineOutcome outcomeFor outcome
-  line-obeyed c command say free = rw (le-ltb reply shortestReply room, text-parses command say, free)
+  line-obeyed c command prints free = rw (le-ltb reply shortestReply room, text-parses command prints, free)
 
   fed-runs : {c d : Card} {commands : List Command} → Runs n store c commands d → fed n reply store c (map commandText commands) ≡ d
   unfolding fed
   fed-runs none = refl
-  fed-runs {c} (next {command = command} {commands = commands} say free more) =
-      ap (λ (d : Card). fed n reply store d (map commandText commands)) (line-obeyed c command say free) ∙ fed-runs more
+  fed-runs {c} (next {command = command} {commands = commands} prints free more) =
+      ap (λ (d : Card). fed n reply store d (map commandText commands)) (line-obeyed c command prints free) ∙ fed-runs more
 
   accepted-runs : {c d : Card} {commands : List Command} → Runs n store c commands d → allAccepted n reply store c (map commandText commands) ≡ true
   unfolding allAccepted
   accepted-runs none = refl
-  accepted-runs {c} (next {command = command} say free more) =
-      rw (line-accepted c command say free, line-obeyed c command say free) (accepted-runs more)
+  accepted-runs {c} (next {command = command} prints free more) =
+      rw (line-accepted c command prints free, line-obeyed c command prints free) (accepted-runs more)
 
 -- ---- numbers
 
-small-sayable : (v : ℕ) → v ≤ largestNumber → sayable v ≡ true
-small-sayable v h = lt-ltb v (10 ^ maxDigits) (omega arith)
+small-printable : (v : ℕ) → v ≤ largestNumber → printable v ≡ true
+small-printable v h = lt-ltb v (10 ^ maxDigits) (omega arith)
 
 small-fits : (v : ℕ) → v ≤ largestNumber → tooLarge v ≡ false
 small-fits v h = le-ltb largestNumber v h
 
-slot-sayable : (n : ℕ) (used edge : Bool) (a : ℕ) → validSlot n used edge a ≡ true → sayableSlot used a ≡ true
-slot-sayable n true edge a ok =
+slot-printable : (n : ℕ) (used edge : Bool) (a : ℕ) → validSlot n used edge a ≡ true → printableSlot used a ≡ true
+slot-printable n true edge a ok =
     let most = slot-most n true edge a ok in
-    small-sayable a (omega arith)
-slot-sayable n false edge a ok = eq-eqb a 0 (slot-unused n edge a ok)
+    small-printable a (omega arith)
+slot-printable n false edge a ok = eq-eqb a 0 (slot-unused n edge a ok)
 
 -- of the slots of a valid cell
 module _ (n : ℕ) (cell : Cell) (ok : validCell n cell ≡ true) where
@@ -120,17 +125,17 @@ module _ (n : ℕ) (cell : Cell) (ok : validCell n cell ≡ true) where
         and-false (r .used .f),
       )
 
-  slots-sayable : anySlot (rowOf (cell .kind) .used) ≡ true → sayableCommand (SetSlots (pairsIn cell)) ≡ true
-  unfolding sayableCommand
-  slots-sayable some =
+  slots-printable : anySlot (rowOf (cell .kind) .used) ≡ true → printableCommand (SetSlots (pairsIn cell)) ≡ true
+  unfolding printableCommand
+  slots-printable some =
       let r = rowOf (cell .kind) in
       let each = slots-each n cell ok in
       rw (
         some,
-        slot-sayable n (r .used .x) (r .edge .x) (getD (cell .slots) 0 0) (each .0),
-        slot-sayable n (r .used .y) (r .edge .y) (getD (cell .slots) 1 0) (each .1),
-        slot-sayable n (r .used .z) (r .edge .z) (getD (cell .slots) 2 0) (each .2),
-        slot-sayable n (r .used .f) (r .edge .f) (getD (cell .slots) 3 0) (each .3),
+        slot-printable n (r .used .x) (r .edge .x) (getD (cell .slots) 0 0) (each .0),
+        slot-printable n (r .used .y) (r .edge .y) (getD (cell .slots) 1 0) (each .1),
+        slot-printable n (r .used .z) (r .edge .z) (getD (cell .slots) 2 0) (each .2),
+        slot-printable n (r .used .f) (r .edge .f) (getD (cell .slots) 3 0) (each .3),
       )
 
 -- ---- one cell
@@ -191,14 +196,13 @@ module _ (n store : ℕ) (apart : firstCell + n ≤ firstConnector) where
     -- the commands of a valid cell set it, and nothing else of the settings
     cell-reaches : i < length (c .cells) → (cell : Cell) → validCell n cell ≡ true
         → Reaches n store c (cellCommands i cell) (c .trigger) (set (c .cells) i (clearedCell cell)) (c .connectors)
-    unfolding cellCommands sayableCommand obeyed typed configuredAs written
+    unfolding cellCommands printableCommand obeyed typed configuredAs written
     cell-reaches there cell ok =
         let kind = cell .kind in
         let row = rowOf kind in
         let known = kind-known n cell ok in
         let low = kind-fits kind known in
-        let most = config-most n cell ok in
-        let limit = largest-fits kind in
+        let small = cell-config n cell ok in
         let moved = move c (firstCell + i) in
         let w0 = move-written n c i within in
         let d1 = obeyed n moved (SetKind kind) in
@@ -215,12 +219,12 @@ module _ (n store : ℕ) (apart : firstCell + n ≤ firstConnector) where
         record {
           card = d3;
           runs =
-              next (small-sayable (firstCell + i) (omega arith)) move-free
-              (next (small-sayable kind (omega arith)) (kind-free _ moved w0 kind known)
+              next (small-printable (firstCell + i) (omega arith)) move-free
+              (next (small-printable kind (omega arith)) (kind-free _ moved w0 kind known)
               (both-run
-              (only-runs (row .configured) d1 config (λ e. small-sayable (cell .config) (omega arith))
-              (λ e. config-free there (typed kind) d1 w1 (cell .config) (omega arith) (config-permitted n cell ok e)))
-              (only-runs (anySlot (row .used)) d2 slots (slots-sayable n cell ok)
+              (only-runs (row .configured) d1 config (λ e. small-printable (cell .config) small)
+              (λ e. config-free there (typed kind) d1 w1 (cell .config) small (config-permitted n cell ok e)))
+              (only-runs (anySlot (row .used)) d2 slots (slots-printable n cell ok)
               (λ e. slots-free there (configuredAs cell) d2 w2 cell ok same))));
           trigger = w3 .trigger;
           cells = w3 .cells ∙ ap (set (c .cells) i) (whole-cell n cell ok);
@@ -247,7 +251,7 @@ module _ (n store : ℕ) (apart : firstCell + n ≤ firstConnector) where
 
     connector-reaches : (connector : Connector) → validConnector n connector ≡ true
         → Reaches n store c (connectorCommands k connector) (c .trigger) (c .cells) (set (c .connectors) k connector)
-    unfolding connectorCommands sayableCommand obeyed refusal
+    unfolding connectorCommands printableCommand obeyed refusal
     connector-reaches connector ok =
         let kind = connector .kind in
         let source = connector .source in
@@ -269,9 +273,9 @@ module _ (n store : ℕ) (apart : firstCell + n ≤ firstConnector) where
         record {
           card = d2;
           runs =
-              next (small-sayable (firstConnector + k) (omega arith)) free
-              (next (small-sayable kind (omega arith)) (type-free _ moved w0 kind known)
-              (next (small-sayable source (omega arith)) (source-free _ d1 v1 source good) none));
+              next (small-printable (firstConnector + k) (omega arith)) free
+              (next (small-printable kind (omega arith)) (type-free _ moved w0 kind known)
+              (next (small-printable source (omega arith)) (source-free _ d1 v1 source good) none));
           trigger = v2 .trigger;
           cells = v2 .cells;
           connectors = v2 .connectors;
@@ -316,7 +320,7 @@ module _ (n store : ℕ) (apart : firstCell + n ≤ firstConnector) where
   -- from a fresh card
   wiring-reaches : (trigger : ℕ) (cells : List Cell) (connectors : List Connector) → valid n trigger cells connectors ≡ true
       → Reaches n store (freshOf n) (wiring trigger cells connectors) trigger (map clearedCell cells) connectors
-  unfolding wiring obeyed refusal sayableCommand setTrigger
+  unfolding wiring obeyed refusal printableCommand setTrigger
   wiring-reaches trigger cells connectors ok =
       let s = split n trigger cells connectors ok in
       let count = s .cell-count in
@@ -333,11 +337,16 @@ module _ (n store : ℕ) (apart : firstCell + n ≤ firstConnector) where
       let free : refusal n (back .card) store (Trigger trigger) ≡ 0 = rw (small-fits trigger (omega arith), s .clock) in
       record {
         card = setTrigger (back .card) trigger;
-        runs = both-run (front .runs) (both-run (back .runs) (next (small-sayable trigger (omega arith)) free none));
+        runs = both-run (front .runs) (both-run (back .runs) (next (small-printable trigger (omega arith)) free none));
         trigger = refl;
         cells = set-cells;
         connectors = trigger-leaves n trigger cells (back .card) sound ∙ set-connectors;
       }
+
+-- so every command of a wiring is printable, and its line reads back
+pub wiring-printable : (n trigger : ℕ) (cells : List Cell) (connectors : List Connector) → firstCell + n ≤ firstConnector
+    → valid n trigger cells connectors ≡ true → every printableCommand (wiring trigger cells connectors) ≡ true
+wiring-printable n trigger cells connectors apart ok = runs-printable (wiring-reaches n 0 apart trigger cells connectors ok .runs)
 
 pub settable : Settable
 unfolding Settable

@@ -11,7 +11,7 @@ use Rattle.card.specs.declared.card.Card.{Card}
 use Rattle.card.specs.declared.card.Connector.{Connector}
 use Rattle.card.specs.Address.{cellCount, firstCell, firstConnector}
 use Rattle.card.specs.Edits.{clearedCell}
-use Rattle.card.specs.Fresh.{fresh, freshCell, freshConnectors, started}
+use Rattle.card.specs.Fresh.{freshOf, fresh}
 use Rattle.card.specs.Valid.{valid}
 use Rattle.lines.specs.Line.{shortestReply, lineOutcome}
 use Rattle.lines.specs.Calls.{Call, end}
@@ -33,10 +33,6 @@ pub record Has (t : ℕ) (cs : List Cell) (ks : List Connector) (c : Card) : Typ
   pub trigger : c .trigger ≡ t
   pub cells : c .cells ≡ map clearedCell cs
   pub connectors : c .connectors ≡ ks
-
--- a fresh card of n cells
-abbrev pub freshOf : ℕ → Card
-freshOf n = started 0 (replicate n freshCell) freshConnectors 0
 
 -- valid settings are set by their lines on a fresh card, of any number of cells whose places end before those of the connectors
 unfoldable pub Settable : Type 0

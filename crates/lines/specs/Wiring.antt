@@ -64,16 +64,16 @@ letterOf Z = 90
 letterOf F = 70
 letterOf NoSlot = 0
 
--- "The card's address is 36"
-abbrev pub addressed36 : List ℕ → List ℕ
-addressed36 text = 51 ∷ 54 ∷ text
+-- a card command, behind the card's address: "The card's address is 36"
+abbrev pub cardLine : List ℕ → List ℕ
+cardLine text = 51 ∷ 54 ∷ text
 
 -- `36CCA p=n`, `36CCA p?`
 abbrev pub ccaText : Slot → ℕ → List ℕ
-ccaText p v = addressed36 (CCA ++ letterOf p ∷ equals ∷ decimal v)
+ccaText p v = cardLine (CCA ++ letterOf p ∷ equals ∷ decimal v)
 
 abbrev pub readText : List ℕ → Slot → List ℕ
-readText word p = addressed36 (word ++ letterOf p ∷ query ∷ [])
+readText word p = cardLine (word ++ letterOf p ∷ query ∷ [])
 
 -- a pair of CCB, "one to four different `p=n`", where the slot is given
 abbrev pub givenPair : Bool → Slot → ℕ → List (Slot × ℕ)
@@ -83,10 +83,12 @@ givenPair given p v = cond given ((p, v) ∷ []) []
 abbrev pub givenPairs : Pairs → List (Slot × ℕ)
 givenPairs p = givenPair (p .given .x) X (p .x) ++ (givenPair (p .given .y) Y (p .y) ++ (givenPair (p .given .z) Z (p .z) ++ givenPair (p .given .f) F (p .f)))
 
+-- each behind a blank
 unfoldable pub pairsText : List (Slot × ℕ) → List ℕ
 pairsText [] = []
 pairsText (pair ∷ pairs) = blank ∷ letterOf (pair .0) ∷ equals ∷ decimal (pair .1) ++ pairsText pairs
 
+-- the forms of "Lines", with `HOME E` for the two that clear all states
 unfoldable pub commandText : Command → List ℕ
 commandText (Move v) = M-E= ++ decimal v
 commandText Where = W-E
@@ -99,48 +101,52 @@ commandText (SetState v) = ccaText F v
 commandText GetKind = readText CCA Y
 commandText GetConfig = readText CCA Z
 commandText GetState = readText CCA F
-commandText (SetSlots p) = addressed36 (CCB ++ pairsText (givenPairs p))
+commandText (SetSlots p) = cardLine (CCB ++ pairsText (givenPairs p))
 commandText (GetSlot p) = readText (CCB ++ blank ∷ []) p
 commandText Front = readText RDADC X
 commandText Back = readText RDADC Y
 commandText Cells = readText RDADC Z
-commandText Save = addressed36 SS-Z
+commandText Save = cardLine SS-Z
 
 -- the lines that set all settings
 abbrev pub wiringLines : ℕ → List Cell → List Connector → List (List ℕ)
 wiringLines trigger cells connectors = map commandText (wiring trigger cells connectors)
 
--- ---- the commands that a line can say
+-- ---- the commands that a text can say
 
 -- "a number is 1 to 5 digits"
-abbrev pub sayable : ℕ → Bool
-sayable v = ltb v (10 ^ maxDigits)
+abbrev pub printable : ℕ → Bool
+printable v = ltb v (10 ^ maxDigits)
 
 -- a slot that is not given has no number
-abbrev pub sayableSlot : Bool → ℕ → Bool
-sayableSlot given v = cond given (sayable v) (eqb v 0)
+abbrev pub printableSlot : Bool → ℕ → Bool
+printableSlot given v = cond given (printable v) (eqb v 0)
 
-unfoldable pub sayableCommand : Command → Bool
-sayableCommand (Move v) = sayable v
-sayableCommand Where = true
-sayableCommand (Trigger v) = sayable v
-sayableCommand Home = true
-sayableCommand (Preset v) = sayable v
-sayableCommand (SetKind v) = sayable v
-sayableCommand (SetConfig v) = sayable v
-sayableCommand (SetState v) = sayable v
-sayableCommand GetKind = true
-sayableCommand GetConfig = true
-sayableCommand GetState = true
-sayableCommand (SetSlots p) =
-    anySlot (p .given)
-    && ((sayableSlot (p .given .x) (p .x) && sayableSlot (p .given .y) (p .y)) && (sayableSlot (p .given .z) (p .z) && sayableSlot (p .given .f) (p .f)))
-sayableCommand (GetSlot NoSlot) = false
-sayableCommand (GetSlot X) = true
-sayableCommand (GetSlot Y) = true
-sayableCommand (GetSlot Z) = true
-sayableCommand (GetSlot F) = true
-sayableCommand Front = true
-sayableCommand Back = true
-sayableCommand Cells = true
-sayableCommand Save = true
+abbrev pub printableSlots : Pairs → Bool
+printableSlots p =
+    (printableSlot (p .given .x) (p .x) && printableSlot (p .given .y) (p .y))
+    && (printableSlot (p .given .z) (p .z) && printableSlot (p .given .f) (p .f))
+
+-- numbers that have their form, and at least one slot in CCB
+unfoldable pub printableCommand : Command → Bool
+printableCommand (Move v) = printable v
+printableCommand Where = true
+printableCommand (Trigger v) = printable v
+printableCommand Home = true
+printableCommand (Preset v) = printable v
+printableCommand (SetKind v) = printable v
+printableCommand (SetConfig v) = printable v
+printableCommand (SetState v) = printable v
+printableCommand GetKind = true
+printableCommand GetConfig = true
+printableCommand GetState = true
+printableCommand (SetSlots p) = anySlot (p .given) && printableSlots p
+printableCommand (GetSlot NoSlot) = false
+printableCommand (GetSlot X) = true
+printableCommand (GetSlot Y) = true
+printableCommand (GetSlot Z) = true
+printableCommand (GetSlot F) = true
+printableCommand Front = true
+printableCommand Back = true
+printableCommand Cells = true
+printableCommand Save = true
