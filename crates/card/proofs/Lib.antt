@@ -13,3 +13,4 @@ pub mod Sleep
 pub mod Ticks
 pub mod ValidLaws
 pub mod Views
+pub mod WriteLaws

@@ -182,21 +182,23 @@ module _ (width : ℕ) (trigger : ℕ) (cells : List Cell) (connectors : List Co
 -- ---- what valid settings have
 
 module _ (n : ℕ) (cell : Cell) (ok : validCell n cell ≡ true) where
-  cell-slots : length (cell .slots) ≡ 4
+  pub cell-slots : length (cell .slots) ≡ 4
   unfolding validCell validSlots
   cell-slots =
       eqb-true (length (cell .slots)) 4
       (and-left (eqb (length (cell .slots)) 4) _
       (and-right (not (badCellType (cell .kind)) && leb (cell .config) (rowOf (cell .kind) .largest)) (validSlots n (rowOf (cell .kind)) (cell .slots)) ok))
 
-  cell-config : cell .config ≤ largestConfig
+  pub config-most : cell .config ≤ rowOf (cell .kind) .largest
   unfolding validCell
-  cell-config =
+  config-most =
       let limit = leb (cell .config) (rowOf (cell .kind) .largest) in
       let known = not (badCellType (cell .kind)) in
-      let most : cell .config ≤ rowOf (cell .kind) .largest = leb-true (cell .config) (rowOf (cell .kind) .largest)
-      (and-right known limit (and-left (known && limit) (validSlots n (rowOf (cell .kind)) (cell .slots)) ok)) in
-      le-trans most (largest-fits (cell .kind))
+      leb-true (cell .config) (rowOf (cell .kind) .largest)
+      (and-right known limit (and-left (known && limit) (validSlots n (rowOf (cell .kind)) (cell .slots)) ok))
+
+  pub cell-config : cell .config ≤ largestConfig
+  cell-config = le-trans config-most (largest-fits (cell .kind))
 
 module _ (n trigger : ℕ) (cells : List Cell) (connectors : List Connector) (ok : valid n trigger cells connectors ≡ true) where
   parts : Sound n trigger cells connectors
@@ -221,7 +223,7 @@ unfolding encode cellField
 encode-cleared width trigger cells connectors =
     ap (λ (l : List ℕ). triggerField trigger ++ l ++ back connectors) (fields-map (cellField width) clearedCell (λ k x. refl) 0 cells)
 
-valid-cleared : (n trigger : ℕ) (cells : List Cell) (connectors : List Connector)
+pub valid-cleared : (n trigger : ℕ) (cells : List Cell) (connectors : List Connector)
     → valid n trigger (map clearedCell cells) connectors ≡ valid n trigger cells connectors
 unfolding valid validCell
 valid-cleared n trigger cells connectors = rw (length-map cells clearedCell, every-map (validCell n) clearedCell (λ x. refl) cells)

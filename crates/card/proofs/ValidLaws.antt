@@ -49,11 +49,11 @@ typed-valid n kind known = rw (known, le-leb 0 (rowOf kind .largest) zero-le) (b
 
 module _ (n : ℕ) (cell : Cell) (ok : validCell n cell ≡ true) where
   -- its slots pass
-  slots-pass : validSlots n (rowOf (cell .kind)) (cell .slots) ≡ true
+  pub slots-pass : validSlots n (rowOf (cell .kind)) (cell .slots) ≡ true
   unfolding validCell
   slots-pass = and-right (not (badCellType (cell .kind)) && leb (cell .config) (rowOf (cell .kind) .largest)) _ ok
 
-  kind-known : badCellType (cell .kind) ≡ false
+  pub kind-known : badCellType (cell .kind) ≡ false
   unfolding validCell
   kind-known = not-true _ (and-left _ (leb (cell .config) (rowOf (cell .kind) .largest)) (and-left _ (validSlots n (rowOf (cell .kind)) (cell .slots)) ok))
 
@@ -76,11 +76,12 @@ stored-address n v h good =
     rw (le-ltb 255 (v + 128) fits, base) (or-right (ltb 255 v) _ good)
 
 module _ (n v : ℕ) (good : badAddress n v ≡ false) where
-  edge-slot : (b : Bool) → ltb v 128 ≡ b → (not (badAddress n (cond b (v + 128) v)) && leb 128 (cond b (v + 128) v)) ≡ true
-  edge-slot true e =
-      let low : 128 ≤ v + 128 = omega arith in
-      rw (stored-address n v (ltb-true v 128 e) good, le-leb 128 (v + 128) low)
-  edge-slot false e = rw (good, le-leb 128 v (ltb-false v 128 e))
+  edge-slot : (b : Bool) → ltb v 128 ≡ b → validSlot n true true (cond b (v + 128) v) ≡ true
+  unfolding validSlot
+  edge-slot true e = rw (stored-address n v (ltb-true v 128 e) good) (le-leb _ (v + 128) (omega arith))
+  edge-slot false e =
+      let high : 128 ≤ v = ltb-false v 128 e in
+      rw good (le-leb _ v (omega arith))
 
   -- a used slot takes any permitted address
   stored-valid : (edge : Bool) → validSlot n true edge (stored edge v) ≡ true
@@ -95,13 +96,13 @@ wired-slot n true false edge v old was u good = absurd (true≢false u)
 wired-slot n false used edge v old was u good = was
 
 -- four tests that all hold, and four of which none does
-all-four : (a b c d : Bool) → ((a && b) && (c && d)) ≡ true → (a ≡ true) × (b ≡ true) × (c ≡ true) × (d ≡ true)
+pub all-four : (a b c d : Bool) → ((a && b) && (c && d)) ≡ true → (a ≡ true) × (b ≡ true) × (c ≡ true) × (d ≡ true)
 all-four a b c d h =
     let ab = and-left (a && b) (c && d) h in
     let cd = and-right (a && b) (c && d) h in
     (and-left a b ab, and-right a b ab, and-left c d cd, and-right c d cd)
 
-none-four : (a b c d : Bool) → ((a || b) || (c || d)) ≡ false → (a ≡ false) × (b ≡ false) × (c ≡ false) × (d ≡ false)
+pub none-four : (a b c d : Bool) → ((a || b) || (c || d)) ≡ false → (a ≡ false) × (b ≡ false) × (c ≡ false) × (d ≡ false)
 none-four a b c d h =
     let ab = or-left (a || b) (c || d) h in
     let cd = or-right (a || b) (c || d) h in
@@ -144,11 +145,11 @@ module _ (n : ℕ) where
   unfolding validConnector
   connector-valid kind source known good = rw (known, good)
 
-  source-good : (connector : Connector) → validConnector n connector ≡ true → badAddress n (connector .source) ≡ false
+  pub source-good : (connector : Connector) → validConnector n connector ≡ true → badAddress n (connector .source) ≡ false
   unfolding validConnector
   source-good connector pass = not-true _ (and-right (not (badConnectorType (connector .kind))) _ pass)
 
-  kind-good : (connector : Connector) → validConnector n connector ≡ true → badConnectorType (connector .kind) ≡ false
+  pub kind-good : (connector : Connector) → validConnector n connector ≡ true → badConnectorType (connector .kind) ≡ false
   unfolding validConnector
   kind-good connector pass = not-true _ (and-left _ (not (badAddress n (connector .source))) pass)
 

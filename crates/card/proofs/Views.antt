@@ -59,13 +59,13 @@ mix-lt n i below others b o =
     xor-lt n others (bitAnd (bitXor below others) (2 ^ i - 1)) o
     (lt-of-le-of-lt (and-le-l (bitXor below others) (2 ^ i - 1)) (xor-lt n below others b o))
 
-among-in : (first count b : ℕ) → first ≤ b → b < first + count → among first count b ≡ true
+pub among-in : (first count b : ℕ) → first ≤ b → b < first + count → among first count b ≡ true
 among-in first count b h k = rw (le-leb first b h, lt-ltb b (first + count) k)
 
 among-below : (first count b : ℕ) → b < first → among first count b ≡ false
 among-below first count b h = rw (lt-leb first b h)
 
-among-above : (first count b : ℕ) → first + count ≤ b → among first count b ≡ false
+pub among-above : (first count b : ℕ) → first + count ≤ b → among first count b ≡ false
 among-above first count b h = rw (le-ltb b (first + count) h) (and-false (leb first b))
 
 -- a base is low, or a cell's, or a connector's

@@ -35,6 +35,10 @@ levelAt n cells connectors b =
 abbrev pub baseOf : ℕ → ℕ
 baseOf a = a % 64
 
+-- the first address of an edge
+abbrev pub edgeAddress : ℕ
+edgeAddress = 128
+
 -- "0-63 reads the level, 64-127 its inverse, 128-191 is high in a tick where the level rose, 192-255 where it fell"
 unfoldable pub readsLevels : ℕ → Bool → Bool → Bool
 readsLevels a now before =

@@ -16,7 +16,7 @@ use Rattle.cells.specs.Table.{rowOf}
 use Rattle.cells.specs.Work.{pulses}
 use Rattle.card.specs.declared.card.Card.{Card}
 use Rattle.card.specs.declared.card.Connector.{Connector}
-use Rattle.card.specs.Address.{firstCell, firstConnector, connectorCount, among}
+use Rattle.card.specs.Address.{firstCell, firstConnector, connectorCount, among, edgeAddress}
 use Rattle.card.specs.Connectors.{noConnector}
 use Rattle.card.specs.Fresh.{clearState, freshCell}
 use Rattle.card.specs.Tick.{noCell}
@@ -107,9 +107,6 @@ unfoldable pub home : ℕ → Card → Card
 home n c = withSettings c (c .trigger) (map clearedCell (c .cells)) (c .connectors) (2 ^ n - 1)
 
 -- "edge slots become 128"
-abbrev pub edgeAddress : ℕ
-edgeAddress = 128
-
 abbrev pub blankSlot : Bool → ℕ
 blankSlot edge = cond edge edgeAddress 0
 

@@ -1,7 +1,7 @@
 -- Document 01, "Lines", its last sentence: the card as it powers up, with everything low and no cell edited.
 use Prim.Native.Nat.{ℕ}
 use mathlib.Core.Bool.{false}
-use mathlib.Core.List.{List, [], _∷_, _++_}
+use mathlib.Core.List.{List, _++_}
 use lib.ListN.{replicate}
 use Rattle.cells.specs.declared.cell.Cell.{Cell}
 use Rattle.cells.specs.declared.cell.State.{State}
@@ -39,6 +39,9 @@ started trigger cells connectors edited =
       levels2 = 0;
     }
 
--- "pointer 1, cells constant 0, BNCs push-pull from 0, backplane inputs from 0, trigger 0"; "a fresh card has none edited"
+-- "pointer 1, cells constant 0, BNCs push-pull from 0, backplane inputs from 0, trigger 0"; "a fresh card has none edited": a card of n cells
+abbrev pub freshOf : ℕ → Card
+freshOf n = started 0 (replicate n freshCell) freshConnectors 0
+
 unfoldable pub fresh : Card
-fresh = started 0 (replicate cellCount freshCell) freshConnectors 0
+fresh = freshOf cellCount

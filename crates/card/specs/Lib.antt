@@ -6,6 +6,7 @@ pub mod Tick
 pub mod Quiet
 pub mod Valid
 pub mod Edits
+pub mod Written
 pub mod Presets
 pub mod PresetRows
 pub mod Context

@@ -12,7 +12,7 @@ use Rattle.cells.specs.declared.cell.Cell.{Cell}
 use Rattle.cells.specs.Table.{rowOf, typeCount}
 use Rattle.card.specs.declared.card.Card.{Card}
 use Rattle.card.specs.declared.card.Connector.{Connector}
-use Rattle.card.specs.Address.{firstCell, firstConnector, connectorCount, among, baseOf}
+use Rattle.card.specs.Address.{firstCell, firstConnector, connectorCount, among, baseOf, edgeAddress}
 use Rattle.card.specs.Connectors.{pushPull, isOutput, noConnector}
 use Rattle.card.specs.Tick.{noCell}
 
@@ -69,7 +69,7 @@ frontDriven trigger kind = eqb trigger frontTrigger && isOutput kind
 
 -- 15: "unused slot or configuration not 0; edge slot under 128", else an address that a line could set
 unfoldable pub validSlot : ℕ → Bool → Bool → ℕ → Bool
-validSlot n used edge a = cond used (not (badAddress n a) && (not edge || leb 128 a)) (eqb a 0)
+validSlot n used edge a = cond used (not (badAddress n a) && (not edge || leb edgeAddress a)) (eqb a 0)
 
 -- the four slots of a cell
 unfoldable pub validSlots : ℕ → Row → List ℕ → Bool

@@ -1,9 +1,12 @@
 -- The proofs of the line reader.
+pub mod Decisions
 pub mod Honest
 pub mod Lists
 pub mod Long
-pub mod Decisions
+pub mod Printed
 pub mod Reached
 pub mod Replies
 pub mod SaveLoad
+pub mod Settable
+pub mod Wired
 pub mod Words

@@ -5,8 +5,7 @@ use mathlib.Core.List.{List, [], _∷_}
 use lib.Dec.{eqb, leb, ltb}
 use lib.ListN.{length, getD}
 use Rattle.text.specs.Decimal.{isDigit, numberAt}
-use Rattle.cells.specs.declared.table.Slots.{Slots}
-use Rattle.cells.specs.Table.{slots, no-slot}
+use Rattle.cells.specs.Table.{slots, no-slot, anySlot}
 use Rattle.lines.specs.declared.grammar.Pairs.{Pairs}
 use Rattle.lines.specs.declared.grammar.Ending.{Ending}
 use Rattle.lines.specs.declared.grammar.Reading.{Reading}
@@ -82,9 +81,6 @@ stepped t r =
       at = numberAt t (r .at + 3) .next;
     })
     r
-
-abbrev pub anySlot : Slots → Bool
-anySlot s = (s .x || s .y) || (s .z || s .f)
 
 -- all pairs were read to the end of the line, and there is one
 abbrev pub finished : List ℕ → Reading → Parsed

@@ -8,3 +8,5 @@ pub mod SaveLoad
 pub mod Examples
 pub mod Box
 pub mod History
+pub mod Wiring
+pub mod Settable

@@ -62,6 +62,10 @@ changeFor x Back = Changes.Nothing
 changeFor x Cells = Changes.Nothing
 changeFor x Save = Changes.Nothing
 
+-- what an accepted command makes of a card
+abbrev pub obeyed : ℕ → Card → Command → Card
+obeyed n c command = changed n c (changeFor (contextOf n c) command)
+
 -- ---- the response to a command: nothing, a number, or the record
 
 abbrev pub silent : Response

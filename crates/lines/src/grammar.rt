@@ -3,8 +3,9 @@ ghost use mathlib.Core.Path.{_≡_};
 ghost use Prim.Native.Nat.{_≤_};
 ghost use lib.ListN.{length};
 ghost use Rattle.text.specs.Decimal.{numberAt};
+ghost use Rattle.cells.specs.Table.{anySlot};
 ghost use Rattle.lines.specs.Grammar;
-ghost use Rattle.lines.specs.Grammar.{byteAt, isWord, isWhole, toEnd, slotOf, stepped, anySlot, pairsOf};
+ghost use Rattle.lines.specs.Grammar.{byteAt, isWord, isWhole, toEnd, slotOf, stepped, pairsOf};
 ghost use Rattle.lines.specs.Grammar.{writeOf, ccaWrite, ccaRead, ccaForm, slotForm, ccbForm, readOf, readForm, cardForm, numbered, plainForm, parse};
 use cells::table::Slots;
 

@@ -1,0 +1,302 @@
+-- Laws of writes: a valid cell is what lines make of its settings; and what a write at a place leaves of the card's settings.
+use Prim.Native.Nat.{ℕ, _+_, _-_, _≤_, _<_}
+use mathlib.Core.Path.{_≡_, refl, sym, ap, _∙_}
+use mathlib.Core.Bool.{Bool, true, false, not, _&&_, _||_, cond, or-true, false≢true}
+use mathlib.Core.List.{List, [], _∷_}
+use native.Mathlib.Omega.{arith}
+use lib.Dec.{ltb, eqb}
+use lib.ListN.{length, getD, set}
+use lib.Seq.{getD-set-same, set-set, set-getD}
+use borrow.Author.Tests.{leb-true, ltb-false, eqb-true, eqb-false, not-true, le-ltb}
+use Rattle.cells.specs.declared.table.Slots.{Slots}
+use Rattle.cells.specs.declared.table.Row.{Row}
+use Rattle.cells.specs.declared.table.Kept.{Kept}
+use Rattle.cells.specs.declared.table.Kept.the-variants.{Stateless, Bit, Count}
+use Rattle.cells.specs.declared.cell.Cell.{Cell}
+use Rattle.cells.specs.Table.{rowOf}
+use Rattle.cells.proofs.Laws.{or-left, or-right}
+use Rattle.cells.proofs.Rows.{and-left, and-right, every-row}
+use Rattle.card.specs.declared.card.Card.{Card}
+use Rattle.card.specs.declared.card.Connector.{Connector}
+use Rattle.card.specs.Address.{firstCell, firstConnector, connectorCount, among, edgeAddress}
+use Rattle.card.specs.Connectors.{openDrain, pushPull, isOutput, noConnector}
+use Rattle.card.specs.Fresh.{clearState}
+use Rattle.card.specs.Tick.{noCell}
+use Rattle.card.specs.Valid.{largestAddress, frontTrigger, frontDriven, badPlace, badConnectorType, badConfig, unusedSlot, badAddress, validSlot, validSlots, validCell, validConnector}
+use Rattle.card.specs.Edits.{atCell, atConnector, input, blankSlot, clearedCell, stored, wiredSlot, configuredState, currentCell, currentConnector, putCell, putConnector, move, setTrigger, typed, setType, configured, setConfig, wired, setSlots, setConnectorType, setSource}
+use Rattle.card.specs.Written.{configuredAs, written}
+use Rattle.card.proofs.Fields.{four}
+use Rattle.card.proofs.Records.{cell-slots, config-most}
+use Rattle.card.proofs.Settings.{every-at, Sound}
+use Rattle.card.proofs.ValidLaws.{slots-pass, all-four, none-four, badGiven, kind-good}
+use Rattle.card.proofs.Views.{among-in, among-above}
+
+-- ---- a valid cell is what lines make of its settings
+
+-- a permitted address is stored as it is given
+stored-as : (n : ℕ) (edge : Bool) (a : ℕ) → validSlot n true edge a ≡ true → stored edge a ≡ a
+unfolding validSlot
+stored-as n true a ok =
+    let high : edgeAddress ≤ a = leb-true _ a (and-right (not (badAddress n a)) _ ok) in
+    rw (le-ltb a edgeAddress high)
+stored-as n false a ok = refl
+
+-- a slot of a blank cell, written where it is used
+written-slot : (n : ℕ) (used edge : Bool) (a : ℕ) → (used || not edge) ≡ true → validSlot n used edge a ≡ true
+    → wiredSlot used edge a (blankSlot edge) ≡ a
+unfolding validSlot
+written-slot n true edge a within ok = stored-as n edge a ok
+written-slot n false true a within ok = absurd (false≢true within)
+written-slot n false false a within ok = sym (eqb-true a 0 ok)
+
+-- what no refusal of a write minds: the address of a used slot; another holds 0
+slot-permitted : (n : ℕ) (used edge : Bool) (a : ℕ) → validSlot n used edge a ≡ true → (used && badAddress n a) ≡ false
+unfolding validSlot
+slot-permitted n true edge a ok = not-true _ (and-left _ _ ok)
+slot-permitted n false edge a ok = refl
+
+pub slot-unused : (n : ℕ) (edge : Bool) (a : ℕ) → validSlot n false edge a ≡ true → a ≡ 0
+unfolding validSlot
+slot-unused n edge a ok = eqb-true a 0 ok
+
+pub address-most : (n a : ℕ) → badAddress n a ≡ false → a ≤ largestAddress
+unfolding badAddress
+address-most n a good = ltb-false largestAddress a (or-left (ltb largestAddress a) _ good)
+
+pub slot-most : (n : ℕ) (used edge : Bool) (a : ℕ) → validSlot n used edge a ≡ true → a ≤ largestAddress
+slot-most n true edge a ok = address-most n a (slot-permitted n true edge a ok)
+slot-most n false edge a ok =
+    let none = slot-unused n edge a ok in
+    omega arith
+
+-- "edge slots" are used slots, in every row
+edges-used : (kind : ℕ) → (let r = rowOf kind in ((r .used .x || not (r .edge .x)) && (r .used .y || not (r .edge .y)))
+    && ((r .used .z || not (r .edge .z)) && (r .used .f || not (r .edge .f)))) ≡ true
+edges-used =
+    every-row (λ (r : Row). ((r .used .x || not (r .edge .x)) && (r .used .y || not (r .edge .y)))
+    && ((r .used .z || not (r .edge .z)) && (r .used .f || not (r .edge .f)))) refl
+
+-- a type without a configuration has none but 0
+largest-none : (kind : ℕ) → (rowOf kind .configured || eqb (rowOf kind .largest) 0) ≡ true
+largest-none = every-row (λ (r : Row). r .configured || eqb (r .largest) 0) refl
+
+-- the slots that a type uses may be given
+pub used-given : (kind : ℕ) → unusedSlot kind (rowOf kind .used) ≡ false
+unfolding unusedSlot
+used-given kind = go (rowOf kind .used .x) (rowOf kind .used .y) (rowOf kind .used .z) (rowOf kind .used .f)
+  where
+    never : (b : Bool) → (b && not b) ≡ false
+    never true = refl
+    never false = refl
+
+    go : (x y z f : Bool) → (((x && not x) || (y && not y)) || ((z && not z) || (f && not f))) ≡ false
+    go x y z f = rw (never x, never y, never z, never f)
+
+clear-stays : (kept : Kept) → configuredState kept clearState ≡ clearState
+unfolding configuredState
+clear-stays Stateless = refl
+clear-stays Bit = refl
+clear-stays Count = refl
+
+module _ (n : ℕ) (cell : Cell) (ok : validCell n cell ≡ true) where
+  pub config-permitted : rowOf (cell .kind) .configured ≡ true → badConfig (cell .kind) (cell .config) ≡ false
+  unfolding badConfig
+  config-permitted e = rw (e, le-ltb (rowOf (cell .kind) .largest) (cell .config) (config-most n cell ok))
+
+  -- the type and the configuration
+  pub configured-is : configuredAs cell ≡ record { kind = cell .kind; config = cell .config; slots = typed (cell .kind) .slots; state = clearState }
+  unfolding configuredAs configured typed
+  configured-is = go (rowOf (cell .kind) .configured) (largest-none (cell .kind))
+    where
+      blank : ℕ → Cell
+      blank v = record { kind = cell .kind; config = v; slots = typed (cell .kind) .slots; state = clearState }
+
+      go : (b : Bool) → (b || eqb (rowOf (cell .kind) .largest) 0) ≡ true
+          → cond b (configured (typed (cell .kind)) (cell .config)) (typed (cell .kind)) ≡ blank (cell .config)
+      go true e = λ i. record { kind = cell .kind; config = cell .config; slots = typed (cell .kind) .slots; state = clear-stays (rowOf (cell .kind) .kept) i }
+      go false e =
+          let none = eqb-true (rowOf (cell .kind) .largest) 0 e in
+          let zero : 0 ≡ cell .config = omega (arith, config-most n cell ok) in
+          ap blank zero
+
+  -- the four slots pass
+  pub slots-each : let r = rowOf (cell .kind) in let s = cell .slots in
+      (validSlot n (r .used .x) (r .edge .x) (getD s 0 0) ≡ true) × (validSlot n (r .used .y) (r .edge .y) (getD s 1 0) ≡ true)
+      × (validSlot n (r .used .z) (r .edge .z) (getD s 2 0) ≡ true) × (validSlot n (r .used .f) (r .edge .f) (getD s 3 0) ≡ true)
+  unfolding validSlots
+  slots-each = all-four _ _ _ _ (and-right (eqb (length (cell .slots)) 4) _ (slots-pass n cell ok))
+
+  pub slots-permitted : let u = rowOf (cell .kind) .used in let s = cell .slots in
+      badGiven n u (getD s 0 0) (getD s 1 0) (getD s 2 0) (getD s 3 0) ≡ false
+  slots-permitted =
+      let r = rowOf (cell .kind) in
+      let each = slots-each in
+      rw (
+        slot-permitted n (r .used .x) (r .edge .x) _ (each .0),
+        slot-permitted n (r .used .y) (r .edge .y) _ (each .1),
+        slot-permitted n (r .used .z) (r .edge .z) _ (each .2),
+        slot-permitted n (r .used .f) (r .edge .f) _ (each .3),
+      )
+
+  -- "record value no line could set": every valid cell can be set, state cleared
+  pub written-is : written cell ≡ clearedCell cell
+  unfolding written wired typed
+  written-is =
+      let r = rowOf (cell .kind) in
+      let s = cell .slots in
+      let edges = all-four _ _ _ _ (edges-used (cell .kind)) in
+      let each = slots-each in
+      let x = written-slot n (r .used .x) (r .edge .x) (getD s 0 0) (edges .0) (each .0) in
+      let y = written-slot n (r .used .y) (r .edge .y) (getD s 1 0) (edges .1) (each .1) in
+      let z = written-slot n (r .used .z) (r .edge .z) (getD s 2 0) (edges .2) (each .2) in
+      let f = written-slot n (r .used .f) (r .edge .f) (getD s 3 0) (edges .3) (each .3) in
+      ap (λ (c : Cell). wired c (r .used) s) configured-is
+      ∙ (λ i. record { kind = cell .kind; config = cell .config; slots = x i ∷ y i ∷ z i ∷ f i ∷ []; state = clearState })
+      ∙ ap (λ (l : List ℕ). record { kind = cell .kind; config = cell .config; slots = l; state = clearState }) (four s (cell-slots n cell ok))
+
+  -- a type that uses no slot has none to write
+  pub unslotted : let u = rowOf (cell .kind) .used in ((u .x || u .y) || (u .z || u .f)) ≡ false → configuredAs cell ≡ written cell
+  unfolding written wired typed
+  unslotted none =
+      let used = rowOf (cell .kind) .used in
+      let u = none-four (used .x) (used .y) (used .z) (used .f) none in
+      configured-is ∙ sym (ap (λ (c : Cell). wired c used (cell .slots)) configured-is ∙ rw (u .0, u .1, u .2, u .3))
+
+-- ---- a write at a place
+
+-- 5, "pointer place": the places of cells and connectors are none
+pub cell-place : (n i : ℕ) → i < n → badPlace n (firstCell + i) ≡ false
+unfolding badPlace
+cell-place n i h = rw (among-in firstCell n (firstCell + i) (omega arith) (omega arith))
+
+pub connector-place : (n k : ℕ) → k < connectorCount → badPlace n (firstConnector + k) ≡ false
+unfolding badPlace
+connector-place n k h =
+    rw (among-in firstConnector connectorCount (firstConnector + k) (omega arith) (omega arith), or-true (among firstCell n (firstConnector + k)))
+
+-- the card d has the settings of c with the cell at index i replaced, and the pointer there
+pub record CellWritten (c : Card) (i : ℕ) (cell : Cell) (d : Card) : Type 0 where
+  pub pointer : d .pointer ≡ firstCell + i
+  pub trigger : d .trigger ≡ c .trigger
+  pub cells : d .cells ≡ set (c .cells) i cell
+  pub connectors : d .connectors ≡ c .connectors
+
+module _ (n : ℕ) (c : Card) (i : ℕ) (within : i < n) where
+  pub at-cell : (d : Card) → d .pointer ≡ firstCell + i → atCell n d ≡ true
+  at-cell d p = rw p (among-in firstCell n (firstCell + i) (omega arith) (omega arith))
+
+  -- the cell at the pointer replaced once more
+  put-written : (old cell : Cell) (d : Card) → CellWritten c i old d → CellWritten c i cell (putCell n d cell)
+  unfolding putCell
+  put-written old cell d w =
+      let here = at-cell d (w .pointer) in
+      let index : d .pointer - firstCell ≡ i = omega (arith, w .pointer) in
+      record {
+        pointer = rw here (w .pointer);
+        trigger = rw here (w .trigger);
+        cells = rw (here, index, w .cells) (set-set (c .cells) i old cell);
+        connectors = rw here (w .connectors);
+      }
+
+  -- the pointer moved
+  pub move-written : CellWritten c i (getD (c .cells) i noCell) (move c (firstCell + i))
+  unfolding move
+  move-written = record { pointer = refl; trigger = refl; cells = sym (set-getD (c .cells) i noCell); connectors = refl }
+
+  pub type-written : (old : Cell) (v : ℕ) (d : Card) → CellWritten c i old d → CellWritten c i (typed v) (setType n d v)
+  unfolding setType
+  type-written old v d w = put-written old (typed v) d w
+
+  module _ (there : i < length (c .cells)) (cell : Cell) (d : Card) (w : CellWritten c i cell d) where
+    pub current-written : currentCell n d ≡ cell
+    unfolding currentCell
+    current-written =
+        let here = at-cell d (w .pointer) in
+        let index : d .pointer - firstCell ≡ i = omega (arith, w .pointer) in
+        rw (here, index, w .cells) (getD-set-same (c .cells) i cell noCell there)
+
+    pub config-written : (v : ℕ) → CellWritten c i (configured cell v) (setConfig n d v)
+    unfolding setConfig
+    config-written v = rw current-written (put-written cell (configured cell v) d w)
+
+    pub slots-written : (given : Slots) (v : List ℕ) → CellWritten c i (wired cell given v) (setSlots n d given v)
+    unfolding setSlots
+    slots-written given v = rw current-written (put-written cell (wired cell given v) d w)
+
+-- the same of the connector at index k
+pub record ConnectorWritten (c : Card) (k : ℕ) (connector : Connector) (d : Card) : Type 0 where
+  pub pointer : d .pointer ≡ firstConnector + k
+  pub trigger : d .trigger ≡ c .trigger
+  pub cells : d .cells ≡ c .cells
+  pub connectors : d .connectors ≡ set (c .connectors) k connector
+
+module _ (c : Card) (k : ℕ) (within : k < connectorCount) where
+  at-connector : (d : Card) → d .pointer ≡ firstConnector + k → atConnector d ≡ true
+  at-connector d p = rw p (among-in firstConnector connectorCount (firstConnector + k) (omega arith) (omega arith))
+
+  -- the places of cells end before
+  pub beside-cells : (n : ℕ) → firstCell + n ≤ firstConnector → (d : Card) → d .pointer ≡ firstConnector + k → atCell n d ≡ false
+  beside-cells n apart d p = rw p (among-above firstCell n (firstConnector + k) (omega arith))
+
+  put-connector-written : (old connector : Connector) (d : Card) → ConnectorWritten c k old d → ConnectorWritten c k connector (putConnector d connector)
+  unfolding putConnector
+  put-connector-written old connector d w =
+      let here = at-connector d (w .pointer) in
+      let index : d .pointer - firstConnector ≡ k = omega (arith, w .pointer) in
+      record {
+        pointer = rw here (w .pointer);
+        trigger = rw here (w .trigger);
+        cells = rw here (w .cells);
+        connectors = rw (here, index, w .connectors) (set-set (c .connectors) k old connector);
+      }
+
+  pub move-connector-written : ConnectorWritten c k (getD (c .connectors) k noConnector) (move c (firstConnector + k))
+  unfolding move
+  move-connector-written = record { pointer = refl; trigger = refl; cells = refl; connectors = sym (set-getD (c .connectors) k noConnector) }
+
+  module _ (there : k < length (c .connectors)) (connector : Connector) (d : Card) (w : ConnectorWritten c k connector d) where
+    current-connector-written : currentConnector d ≡ connector
+    unfolding currentConnector
+    current-connector-written =
+        let here = at-connector d (w .pointer) in
+        let index : d .pointer - firstConnector ≡ k = omega (arith, w .pointer) in
+        rw (here, index, w .connectors) (getD-set-same (c .connectors) k connector noConnector there)
+
+    pub connector-type-written : (v : ℕ) → ConnectorWritten c k (record { kind = v; source = connector .source }) (setConnectorType d v)
+    unfolding setConnectorType
+    connector-type-written v = rw current-connector-written (put-connector-written connector (record { kind = v; source = connector .source }) d w)
+
+    pub source-written : (v : ℕ) → ConnectorWritten c k (record { kind = connector .kind; source = v }) (setSource d v)
+    unfolding setSource
+    source-written v = rw current-connector-written (put-connector-written connector (record { kind = connector .kind; source = v }) d w)
+
+-- ---- the trigger
+
+-- a connector of a known type that is no output is an input
+input-kind : (kind : ℕ) → badConnectorType kind ≡ false → isOutput kind ≡ false → input ≡ kind
+unfolding badConnectorType
+input-kind kind known quiet =
+    let most : kind ≤ pushPull = ltb-false pushPull kind known in
+    let low = eqb-false kind openDrain (or-left (eqb kind openDrain) (eqb kind pushPull) quiet) in
+    let high = eqb-false kind pushPull (or-right (eqb kind openDrain) (eqb kind pushPull) quiet) in
+    omega arith
+
+-- "4 also makes BNC1 an input": under a trigger of valid settings it is one already
+pub trigger-leaves : (n trigger : ℕ) (cells : List Cell) (c : Card) → Sound n trigger cells (c .connectors)
+    → setTrigger c trigger .connectors ≡ c .connectors
+unfolding setTrigger frontDriven
+trigger-leaves n trigger cells c s = go (eqb trigger frontTrigger) refl
+  where
+    front : Connector
+    front = getD (c .connectors) 0 noConnector
+
+    quiet : Connector
+    quiet = record { kind = input; source = front .source }
+
+    go : (b : Bool) → eqb trigger frontTrigger ≡ b → cond b (set (c .connectors) 0 quiet) (c .connectors) ≡ c .connectors
+    go true e =
+        let count = s .connector-count in
+        let pass = every-at (validConnector n) (c .connectors) 0 noConnector (s .connectors-pass) (omega arith) in
+        let same : input ≡ front .kind = input-kind (front .kind) (kind-good n front pass) (rw e at (s .front)) in
+        ap (λ (k : ℕ). set (c .connectors) 0 (record { kind = k; source = front .source })) same ∙ set-getD (c .connectors) 0 noConnector
+    go false e = refl
