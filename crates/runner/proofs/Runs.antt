@@ -7,30 +7,16 @@ use native.Mathlib.Decide.{decLt}
 use native.Mathlib.Nat.{le-refl}
 use native.Mathlib.Numerals.{add-one}
 use native.Mathlib.Omega.{arith}
-use lib.Dec.{eqb, leb, ltb}
+use lib.Dec.{eqb, ltb}
 use lib.ListN.{length, getD, take, drop, length-append, length-take, length-drop}
 use lib.Seq.{take-nil, sets, length-sets, sets-eq, take-all, take-at, take-add, take-append-add, take-take, take-append-le, take-suc, getD-take, getD-drop}
-use borrow.Author.Tests.{le-leb, lt-leb, lt-ltb, le-ltb, ne-eqb}
+use borrow.Author.Tests.{lt-ltb, le-ltb, ne-eqb}
 use Rattle.card.specs.declared.card.Card.{Card}
 use Rattle.console.specs.Console.{longestPrint, Entry, entered}
 use Rattle.console.proofs.Long.{entered-long}
-use Rattle.runner.specs.Run.{Course, kept, cut, outputRoom, held, after, ended, longer, takes, takesAll, keptOf}
+use Rattle.runner.specs.Run.{RunState, kept, cut, after, ended, longer, takes, takesAll, keptOf, flushed}
 
 -- ---- the output
-
-pub held-all : (l : List ℕ) (n : ℕ) → n ≤ outputRoom - longestPrint → held (take n l) ≡ take n l
-unfolding held
-held-all l n h =
-    let e = length-take n l in
-    let k : length (take n l) ≤ outputRoom - longestPrint = omega (arith, e) in
-    rw (le-leb (length (take n l)) (outputRoom - longestPrint) k)
-
-pub held-none : (l : List ℕ) (n : ℕ) → n ≤ length l → outputRoom - longestPrint < n → held (take n l) ≡ []
-unfolding held
-held-none l n hl h =
-    let e = length-take n l in
-    let k : outputRoom - longestPrint < length (take n l) = omega (arith, e) in
-    rw (lt-leb (length (take n l)) (outputRoom - longestPrint) k)
 
 -- the front of what is stored is what was stored
 stored : (l p : List ℕ) → length p ≤ length l → take (length p) (sets l 0 p) ≡ p
@@ -87,20 +73,20 @@ add-cut l more len k hl h ek =
 
 -- ---- the bytes of a block
 
-pub takes-append : (s : Course) (xs ys : List ℕ) → takesAll s (xs ++ ys) ≡ takesAll (takesAll s xs) ys
+pub takes-append : (s : RunState) (xs ys : List ℕ) → takesAll s (xs ++ ys) ≡ takesAll (takesAll s xs) ys
 unfolding takesAll
 takes-append s [] ys = refl
 takes-append s (b ∷ bs) ys = takes-append (takes s b) bs ys
 
 -- bytes without LF make the line longer
-takes-part : (s : Course) (bs : List ℕ) → ((k : ℕ) → k < length bs → getD bs k 0 ≡ 10 → ⊥) → takesAll s bs ≡ longer s bs
+takes-part : (s : RunState) (bs : List ℕ) → ((k : ℕ) → k < length bs → getD bs k 0 ≡ 10 → ⊥) → takesAll s bs ≡ longer s bs
 unfolding takesAll
-takes-part s [] none = λ i. record { card = s .card; store = s .store; line = sym (append-nil (s .line)) i; pending = s .pending }
+takes-part s [] none = λ i. record { card = s .card; store = s .store; line = sym (append-nil (s .line)) i; printed = s .printed }
 takes-part s (b ∷ bs) none =
     let first : b ≡ 10 → ⊥ = none 0 (omega arith) in
     let ih = takes-part (longer s (b ∷ [])) bs (λ k g. none (suc k) (omega arith)) in
     rw (ne-eqb b 10 first)
-    (ih ∙ (λ i. record { card = s .card; store = s .store; line = append-assoc (s .line) (b ∷ []) bs i; pending = s .pending }))
+    (ih ∙ (λ i. record { card = s .card; store = s .store; line = append-assoc (s .line) (b ∷ []) bs i; printed = s .printed }))
 
 -- ---- a line that is cut
 
@@ -123,32 +109,32 @@ entered-cut c l store = go (decLt kept (length l))
         entered-long c (cut l) l store (omega (arith, e)) (omega arith)
     go (no h) = ap (λ (t : List ℕ). entered c t store) (take-all kept l (omega arith))
 
-ended-kept : (s : Course) → ended (keptOf s) ≡ ended s
+ended-kept : (s : RunState) → ended (keptOf s) ≡ ended s
 ended-kept s = ap (after s) (entered-cut (s .card) (s .line) (s .store))
 
-kept-longer : (s : Course) (more : List ℕ) → keptOf (longer (keptOf s) more) ≡ keptOf (longer s more)
-kept-longer s more = λ i. record { card = s .card; store = s .store; line = cut-cut (s .line) more i; pending = s .pending }
+kept-longer : (s : RunState) (more : List ℕ) → keptOf (longer (keptOf s) more) ≡ keptOf (longer s more)
+kept-longer s more = λ i. record { card = s .card; store = s .store; line = cut-cut (s .line) more i; printed = s .printed }
 
-kept-ended : (s : Course) → keptOf (ended s) ≡ ended s
-kept-ended s = λ i. record { card = ended s .card; store = ended s .store; line = take-nil {A = ℕ} kept i; pending = ended s .pending }
+kept-ended : (s : RunState) → keptOf (ended s) ≡ ended s
+kept-ended s = λ i. record { card = ended s .card; store = ended s .store; line = take-nil {A = ℕ} kept i; printed = ended s .printed }
 
-pub kept-short : (s : Course) → length (s .line) ≤ kept → keptOf s ≡ s
-kept-short s h = λ i. record { card = s .card; store = s .store; line = take-all kept (s .line) h i; pending = s .pending }
+pub kept-short : (s : RunState) → length (s .line) ≤ kept → keptOf s ≡ s
+kept-short s h = λ i. record { card = s .card; store = s .store; line = take-all kept (s .line) h i; printed = s .printed }
 
 -- the bytes that follow do the same to a line that was cut
-kept-takes : (s : Course) (bs : List ℕ) → keptOf (takesAll (keptOf s) bs) ≡ keptOf (takesAll s bs)
+kept-takes : (s : RunState) (bs : List ℕ) → keptOf (takesAll (keptOf s) bs) ≡ keptOf (takesAll s bs)
 unfolding takesAll
-kept-takes s [] = λ i. record { card = s .card; store = s .store; line = take-take kept kept (s .line) (le-refl kept) i; pending = s .pending }
+kept-takes s [] = λ i. record { card = s .card; store = s .store; line = take-take kept kept (s .line) (le-refl kept) i; printed = s .printed }
 kept-takes s (b ∷ bs) = go (λ x. kept-takes x bs) (eqb b 10)
   where
-    go : ((x : Course) → keptOf (takesAll (keptOf x) bs) ≡ keptOf (takesAll x bs)) → (lf : Bool)
+    go : ((x : RunState) → keptOf (takesAll (keptOf x) bs) ≡ keptOf (takesAll x bs)) → (lf : Bool)
         → keptOf (takesAll (cond lf (ended (keptOf s)) (longer (keptOf s) (b ∷ []))) bs) ≡ keptOf (takesAll (cond lf (ended s) (longer s (b ∷ []))) bs)
-    go ih true = ap (λ (x : Course). keptOf (takesAll x bs)) (ended-kept s)
+    go ih true = ap (λ (x : RunState). keptOf (takesAll x bs)) (ended-kept s)
     go ih false =
-        sym (ih (longer (keptOf s) (b ∷ []))) ∙ ap (λ (x : Course). keptOf (takesAll x bs)) (kept-longer s (b ∷ [])) ∙ ih (longer s (b ∷ []))
+        sym (ih (longer (keptOf s) (b ∷ []))) ∙ ap (λ (x : RunState). keptOf (takesAll x bs)) (kept-longer s (b ∷ [])) ∙ ih (longer s (b ∷ []))
 
 -- so a run that takes its input block by block stands where all the bytes at once would have brought it
-pub block-by-block : (s : Course) (xs ys : List ℕ) → keptOf (takesAll (keptOf (takesAll s xs)) ys) ≡ keptOf (takesAll s (xs ++ ys))
+pub block-by-block : (s : RunState) (xs ys : List ℕ) → keptOf (takesAll (keptOf (takesAll s xs)) ys) ≡ keptOf (takesAll s (xs ++ ys))
 block-by-block s xs ys = kept-takes (takesAll s xs) ys ∙ ap keptOf (sym (takes-append s xs ys))
 
 -- ---- a part of a block
@@ -160,7 +146,7 @@ split block at end h =
     ap (λ (k : ℕ). take k block) e ∙ take-add at (end - at) block
 
 -- a part that ends with an LF, or with the block
-pub block-step : (s₀ s r : Course) (block : List ℕ) (at end n : ℕ) → at ≤ end → end ≤ n → n ≤ length block
+pub block-step : (s₀ s r : RunState) (block : List ℕ) (at end n : ℕ) → at ≤ end → end ≤ n → n ≤ length block
     → ((k : ℕ) → k < end → at ≤ k → getD block k 0 ≡ 10 → ⊥) → (end < n → getD block end 0 ≡ 10)
     → s ≡ keptOf (takesAll s₀ (take at (take n block)))
     → r ≡ cond (ltb end n) (ended (keptOf (longer s (take (end - at) (drop at block))))) (keptOf (longer s (take (end - at) (drop at block))))
@@ -171,7 +157,7 @@ block-step s₀ s r block at end n ha he hn none lf es er = go (decLt end n)
     part : List ℕ
     part = take (end - at) (drop at block)
 
-    y : Course
+    y : RunState
     y = takesAll s₀ (take at (take n block))
 
     size : length part ≤ end - at
@@ -186,7 +172,7 @@ block-step s₀ s r block at end n ha he hn none lf es er = go (decLt end n)
         none (at + k) (omega arith) (omega arith) (sym byte ∙ e)
 
     grown : keptOf (longer s part) ≡ keptOf (longer y part)
-    grown = ap (λ (x : Course). keptOf (longer x part)) es ∙ kept-longer y part
+    grown = ap (λ (x : RunState). keptOf (longer x part)) es ∙ kept-longer y part
 
     front : take at (take n block) ≡ take at block
     front = take-take at n block (omega arith)
@@ -206,7 +192,7 @@ block-step s₀ s r block at end n ha he hn none lf es er = go (decLt end n)
         ap (takesAll s₀) next
         ∙ takes-append s₀ (take at (take n block)) (part ++ (10 ∷ []))
         ∙ takes-append y part (10 ∷ [])
-        ∙ ap (λ (x : Course). takesAll x (10 ∷ [])) (takes-part y part free) in
+        ∙ ap (λ (x : RunState). takesAll x (10 ∷ [])) (takes-part y part free) in
         (rw (lt-ltb end n h) at er) ∙ ap ended grown ∙ ended-kept (longer y part) ∙ sym (ap keptOf all ∙ kept-ended (longer y part))
     go (no h) =
         let last : end ≡ n = omega arith in
