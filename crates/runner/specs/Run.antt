@@ -1,10 +1,10 @@
 -- Document 01, "One run": lines of input end at LF, each is entered when its LF comes, and what stands behind the last LF is dropped, since no LF comes.
-use Prim.Native.Nat.{ℕ, _+_, _*_, _^_, _≤_}
+use Prim.Native.Nat.{ℕ, _+_, _-_, _*_, _^_, _≤_}
 use mathlib.Core.Path.{_≡_}
 use mathlib.Core.Bool.{Bool, cond}
 use mathlib.Core.List.{List, [], _∷_, _++_}
 use lib.Dec.{eqb}
-use lib.ListN.{length, take, replicate}
+use lib.ListN.{length, take, drop, replicate}
 use Rattle.card.specs.declared.card.Card.{Card}
 use Rattle.card.specs.Address.{cellCount}
 use Rattle.card.specs.Fresh.{fresh}
@@ -45,6 +45,10 @@ takesAll s [] = s
 takesAll s (b ∷ bs) = takesAll (takes s b) bs
 
 -- ---- what the program keeps
+
+-- the bytes from one place to another
+abbrev pub part : (from to : ℕ) → List ℕ → List ℕ
+part from to l = take (to - from) (drop from l)
 
 -- of a line that has not ended. A longer one is malformed, and cut to these bytes it still is (law `entered-cut`)
 abbrev pub kept : ℕ

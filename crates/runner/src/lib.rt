@@ -8,17 +8,15 @@
 // What bytes of input do is a definition, `takesAll`; `turn` equals it for the bytes of its read, and
 // `run_from` for all bytes that its reads gave. What is read and written lies in `read_block` and
 // `write_front`, of which no contract can say more.
-ghost use mathlib.Core.Bool.{true, cond, _&&_};
+ghost use mathlib.Core.Bool.{true, _&&_};
 ghost use mathlib.Core.List.{List, _++_};
 ghost use mathlib.Core.Path.{_≡_};
 ghost use Prim.Native.Nat.{ℕ, _≤_, _<_, _+_, _-_, _*_, min};
 ghost use lib.Dec.{ltb};
 ghost use lib.ListN.{length, take, getD};
-ghost use lib.Seq.{sets};
-ghost use Rattle.io.specs.Counts.{Counts};
 ghost use Rattle.card.specs.Fresh.{fresh};
 ghost use Rattle.console.specs.Console.{longestPrint, entered};
-ghost use Rattle.runner.specs.Run.{kept, blockLength, outputLength, mostReads, ended, longer, takesAll, keptOf, flushed, stateOf, runStateOf, Counted, Ran};
+ghost use Rattle.runner.specs.Run.{part, takesAll, kept, cut, keptOf, flushed, blockLength, outputLength, mostReads, stateOf, runStateOf, Counted, Ran};
 use card::card::Card;
 use libc::STDOUT_FILENO;
 
@@ -28,6 +26,9 @@ const BLOCK: usize = 2048;
 // `kept`: more than the 80 bytes of the longest line, so that a longer one, cut to this, is still
 // too long.
 const LINE: usize = 96;
+
+// A line that has not ended, and behind it a block.
+const BUFFER: usize = LINE + BLOCK;
 
 // "276 zeros at start"
 const STORE: usize = 276;
@@ -100,32 +101,27 @@ fn line_end(block: &[u8], at: usize, n: usize) -> usize
     i
 }
 
-// Puts more bytes behind the first `len` of a line. A full line takes no more.
-fn add(line: &mut [u8; LINE], len: usize, more: &[u8]) -> usize
-    requires { ⌜ len ≤ kept ⌝ }
-    ensures { λ r. ⌜ now (line .exit) ≡ sets (now (line .entry)) len (take (min (length (now (more .entry))) (kept - len)) (now (more .entry))) ⌝ }
-    ensures { λ r. ⌜ r ≡ len + min (length (now (more .entry))) (kept - len) ⌝ }
+// What is kept of a line that has not ended: its first bytes, as many as there is room for.
+fn keep(line: &mut [u8; LINE], text: &[u8]) -> usize
+    ensures { λ r. ⌜ take r (now (line .exit)) ≡ cut (now (text .entry)) ⌝ }
     ensures { λ r. ⌜ r ≤ kept ⌝ }
-    ensures { λ r. ⌜ length (now (line .entry)) ≡ kept ⌝ }
+    ensures { λ r. ⌜ length (now (line .exit)) ≡ kept ⌝ }
 {
-    let n = least(more.len(), LINE - len);
-    text::copy(line, len, &more[0..n])
+    let n = least(text.len(), LINE);
+    text::copy(line, 0, &text[0..n])
 }
 
-// A line has ended: the first `len` bytes of a text are entered, and what they print goes behind
-// what is printed already.
-fn enter(state: State, text: &[u8], len: usize, store: &mut [u8], out: &mut [u8]) -> State
-    requires { ⌜ len ≤ length (now text) ⌝ }
+// A line has ended: it is entered, and what it prints goes behind what is printed already.
+fn enter(state: State, text: &[u8], store: &mut [u8], out: &mut [u8]) -> State
     requires { ⌜ state .used + longestPrint ≤ length (now out) ⌝ }
-    ensures { λ r. ⌜ r .card ≡ entered (state .card) (take len (now (text .entry))) (now (store .entry)) .card ⌝ }
-    ensures { λ r. ⌜ now (store .exit) ≡ entered (state .card) (take len (now (text .entry))) (now (store .entry)) .store ⌝ }
-    ensures { λ r. ⌜ take (r .used) (now (out .exit)) ≡ take (state .used) (now (out .entry)) ++ entered (state .card) (take len (now (text .entry))) (now (store .entry)) .printed ⌝ }
-    ensures { λ r. ⌜ r .len ≡ 0 ⌝ }
+    ensures { λ r. ⌜ r .card ≡ entered (state .card) (now (text .entry)) (now (store .entry)) .card ⌝ }
+    ensures { λ r. ⌜ now (store .exit) ≡ entered (state .card) (now (text .entry)) (now (store .entry)) .store ⌝ }
+    ensures { λ r. ⌜ take (r .used) (now (out .exit)) ≡ take (state .used) (now (out .entry)) ++ entered (state .card) (now (text .entry)) (now (store .entry)) .printed ⌝ }
     ensures { λ r. ⌜ r .used ≤ state .used + longestPrint ⌝ }
 {
     let card = state.card;
     let used = state.used;
-    let entered = console::enter(card, &text[0..len], store, &mut out[used..]);
+    let entered = console::enter(card, text, store, &mut out[used..]);
     let next = entered.card;
     State {
         card: next,
@@ -134,36 +130,8 @@ fn enter(state: State, text: &[u8], len: usize, store: &mut [u8], out: &mut [u8]
     }
 }
 
-// A part of a line, which ends with it or not.
-fn take_part(
-    state: State,
-    part: &[u8],
-    ends: bool,
-    line: &mut [u8; LINE],
-    store: &mut [u8; STORE],
-    out: &mut [u8; OUTPUT],
-) -> State
-    requires { ⌜ state .len ≤ kept ⌝ }
-    requires { ⌜ state .used + longestPrint ≤ outputLength ⌝ }
-    ensures { λ r. ⌜ stateOf r (now (store .exit)) (now (line .exit)) (now (out .exit)) ≡ cond ends (ended (keptOf (longer (stateOf state (now (store .entry)) (now (line .entry)) (now (out .entry))) (now (part .entry))))) (keptOf (longer (stateOf state (now (store .entry)) (now (line .entry)) (now (out .entry))) (now (part .entry)))) ⌝ }
-    ensures { λ r. ⌜ r .len ≤ kept ⌝ }
-    ensures { λ r. ⌜ length (now (line .exit)) ≡ kept ⌝ }
-    ensures { λ r. ⌜ r .used ≤ state .used + longestPrint ⌝ }
-{
-    let card = state.card;
-    let len = add(line, state.len, part);
-    let s = State {
-        card: card,
-        len: len,
-        used: state.used,
-    };
-    if !ends {
-        return s;
-    }
-    enter(s, line, len, store, out)
-}
-
-// The n bytes of a block of input.
+// The bytes of a block from the unfinished line's end up to n. Each line that ends is entered where
+// it lies, and what is left is kept.
 fn take_block(
     state: State,
     block: &[u8],
@@ -172,32 +140,51 @@ fn take_block(
     store: &mut [u8; STORE],
     out: &mut [u8; OUTPUT],
 ) -> State
+    requires { ⌜ state .len ≤ n ⌝ }
     requires { ⌜ n ≤ length (now block) ⌝ }
-    requires { ⌜ state .len ≤ kept ⌝ }
-    requires { ⌜ length (now line) ≡ kept ⌝ }
-    requires { ⌜ state .used + longestPrint * n ≤ outputLength ⌝ }
-    ensures { λ r. ⌜ stateOf r (now (store .exit)) (now (line .exit)) (now (out .exit)) ≡ keptOf (takesAll (stateOf state (now (store .entry)) (now (line .entry)) (now (out .entry))) (take n (now (block .entry)))) ⌝ }
+    requires { ⌜ state .used + longestPrint * (n - state .len) ≤ outputLength ⌝ }
+    ensures { λ r. ⌜ stateOf r (now (store .exit)) (now (line .exit)) (now (out .exit)) ≡ keptOf (takesAll (stateOf state (now (store .entry)) (now (block .entry)) (now (out .entry))) (part (state .len) n (now (block .entry)))) ⌝ }
     ensures { λ r. ⌜ r .len ≤ kept ⌝ }
     ensures { λ r. ⌜ length (now (line .exit)) ≡ kept ⌝ }
-    ensures { λ r. ⌜ r .used ≤ state .used + longestPrint * n ⌝ }
+    ensures { λ r. ⌜ r .used ≤ state .used + longestPrint * (n - state .len) ⌝ }
 {
     let mut s = state;
-    let mut at: usize = 0;
-    while at < n {
-        let end = line_end(block, at, n);
-        s = take_part(s, &block[at..end], end < n, line, store, out);
-        at = end + 1;
+    let mut start: usize = 0;
+    let mut end = line_end(block, state.len, n);
+    while end < n {
+        s = enter(s, &block[start..end], store, out);
+        start = end + 1;
+        end = line_end(block, start, n);
     }
-    s
+    let card = s.card;
+    let len = keep(line, &block[start..n]);
+    State {
+        card: card,
+        len: len,
+        used: s.used,
+    }
 }
 
-// One read. Where it fails, it gives no bytes.
-fn read_block(input: i32, block: &mut [u8; BLOCK]) -> usize
+// One read, to a place of a block. Where it fails, it gives no bytes.
+fn read_at(input: i32, block: &mut [u8], at: usize) -> usize
+    requires { ⌜ at + blockLength ≤ length (now block) ⌝ }
     ensures { λ r. ⌜ r ≤ blockLength ⌝ }
-    ensures { λ r. ⌜ Counts r (now (block .exit)) ⌝ }
+    ensures { λ r. ⌜ take at (now (block .exit)) ≡ take at (now (block .entry)) ⌝ }
 {
-    let got = libc::read(input, block);
-    io::count(got, block)
+    let part = &mut block[at..at + BLOCK];
+    let got = libc::read(input, part);
+    io::count(got, part)
+}
+
+// One read, behind the first `len` bytes of a line.
+fn read_behind(input: i32, block: &mut [u8], line: &[u8], len: usize) -> usize
+    requires { ⌜ len ≤ length (now line) ⌝ }
+    requires { ⌜ len + blockLength ≤ length (now block) ⌝ }
+    ensures { λ r. ⌜ r ≤ blockLength ⌝ }
+    ensures { λ r. ⌜ take len (now (block .exit)) ≡ take len (now (line .entry)) ⌝ }
+{
+    text::copy(block, 0, &line[0..len]);
+    read_at(input, block, len)
 }
 
 // One write, of the first `used` bytes.
@@ -218,7 +205,7 @@ fn write_front(out: &[u8], used: usize) -> Written
 fn turn(
     run: Run,
     input: i32,
-    block: &mut [u8; BLOCK],
+    block: &mut [u8; BUFFER],
     line: &mut [u8; LINE],
     store: &mut [u8; STORE],
     out: &mut [u8; OUTPUT],
@@ -228,7 +215,7 @@ fn turn(
     requires { ⌜ 0 < run .left ⌝ }
     requires { ⌜ Counted run ⌝ }
     ensures { λ r. ⌜ r .got ≤ blockLength ⌝ }
-    ensures { λ r. ⌜ runStateOf r (now (store .exit)) (now (line .exit)) (now (out .exit)) ≡ keptOf (takesAll (flushed (runStateOf run (now (store .entry)) (now (line .entry)) (now (out .entry)))) (take (r .got) (now (block .exit)))) ⌝ }
+    ensures { λ r. ⌜ runStateOf r (now (store .exit)) (now (line .exit)) (now (out .exit)) ≡ keptOf (takesAll (flushed (runStateOf run (now (store .entry)) (now (line .entry)) (now (out .entry)))) (part (run .len) (run .len + r .got) (now (block .exit)))) ⌝ }
     ensures { λ r. ⌜ r .going ≡ (ltb 0 (r .got) && r .wrote) ⌝ }
     ensures { λ r. ⌜ r .len ≤ kept ⌝ }
     ensures { λ r. ⌜ length (now (line .exit)) ≡ kept ⌝ }
@@ -236,17 +223,18 @@ fn turn(
     ensures { λ r. ⌜ r .printed ≡ run .printed + r .used ⌝ }
     ensures { λ r. ⌜ r .left + 1 ≡ run .left ⌝ }
     ensures { λ r. ⌜ Counted r ⌝ }
-    ensures { λ r. ⌜ Counts (r .got) (now (block .exit)) ⌝ }
-    ensures { λ r. ⌜ Counts (r .used) (now (out .exit)) ⌝ }
+    ensures { λ r. ⌜ run .len + r .got ≤ length (now (block .exit)) ⌝ }
+    ensures { λ r. ⌜ r .used ≤ length (now (out .exit)) ⌝ }
 {
     let card = run.card;
+    let len = run.len;
     let s = State {
         card: card,
-        len: run.len,
+        len: len,
         used: 0,
     };
-    let got = read_block(input, block);
-    let next = take_block(s, block, got, line, store, out);
+    let got = read_behind(input, block, line, len);
+    let next = take_block(s, block, len + got, line, store, out);
     let written = write_front(out, next.used);
     let after = next.card;
     Run {
@@ -289,7 +277,7 @@ pub fn run_from(input: i32) -> Run
     ensures { λ r. ⌜ r .going ≡ (ltb 0 (r .got) && r .wrote) ⌝ }
     ensures { λ r. ⌜ (r .going ≡ true → r .left ≡ 0) ⌝ }
 {
-    let mut block = [0u8; BLOCK];
+    let mut block = [0u8; BUFFER];
     let mut out = io::large_buffer();
     let mut line = [0u8; LINE];
     let mut store = [0u8; STORE];

@@ -4,7 +4,9 @@ use mathlib.Core.Path.{_≡_, refl, sym, ap, _∙_}
 use mathlib.Core.Bool.{true}
 use native.Mathlib.Omega.{arith}
 use lib.ListN.{length, take}
-use Rattle.runner.specs.Run.{mostReads, runStateOf, Ran}
+use lib.Seq.{length-take-le}
+use Rattle.runner.specs.Run.{part, mostReads, runStateOf, Ran}
+use Rattle.runner.proofs.Runs.{part-length}
 use Rattle.runner.proofs.Turns.{Reached, reached-start, reached-turn, Underway, ran, has-read}
 use borrow.Author.Needs.{needs}
 use Rattle.runner.proofs.run_from.Statement.{statement}
@@ -52,14 +54,17 @@ loop-again c =
     let left = totals .1 .1 .0 in
     let fronts = totals .1 .1 .1 .1 in
     let less : c .turn .result .left < mostReads = omega (arith, left, u .counted .by-reads) in
+    let block = c .turn .last .1 .1 .0 in
+    let q = c .turn .result in
+    let bytes = part-length block (l .r .len) (l .r .len + q .got) (fronts .0) in
+    let printed = length-take-le (q .used) (c .turn .last .1 .1 .1 .1 .1 .0) (fronts .1) in
     record {
       short = e .1 .1 .1 .0;
       whole = e .1 .1 .1 .1 .0;
       counted = totals .1 .1 .1 .0;
       reached =
-          reached-turn (runStateOf (l .r) (l .store) (l .line) (l .out)) _ _ (l .r .taken) (l .r .printed) _ _ (u .reached) (e .1 .0)
-          (totals .0 ∙ ap (λ (n : ℕ). l .r .taken + n) (fronts .0 .1))
-          (totals .1 .0 ∙ ap (λ (n : ℕ). l .r .printed + n) (fronts .1 .1));
+          reached-turn (runStateOf (l .r) (l .store) (l .line) (l .out)) _ (part (l .r .len) (l .r .len + q .got) block) (l .r .taken) (l .r .printed) _ _
+          (u .reached) (e .1 .0) (omega (arith, totals .0, bytes)) (omega (arith, totals .1 .0, printed));
       first = λ h. absurd (omega (arith, h, less));
       later = λ _. e .1 .1 .0;
     }
