@@ -1,5 +1,5 @@
 -- Laws of a run: what the buffers hold, and the bytes of a block part by part.
-use Prim.Native.Nat.{ℕ, zero, suc, _+_, _-_, _≤_, _<_, min}
+use Prim.Native.Nat.{ℕ, suc, _+_, _-_, _≤_, _<_, min}
 use mathlib.Core.Path.{_≡_, refl, sym, ap, ap₂, _∙_}
 use mathlib.Core.Bool.{Bool, true, false, cond}
 use mathlib.Core.List.{List, [], _∷_, _++_, append-assoc, append-nil}
@@ -7,12 +7,12 @@ use native.Mathlib.Decide.{decLt}
 use native.Mathlib.Nat.{le-refl}
 use native.Mathlib.Numerals.{add-one}
 use native.Mathlib.Omega.{arith}
-use lib.Dec.{eqb, ltb}
-use lib.ListN.{length, getD, take, drop, length-append, length-take, length-drop}
-use lib.Seq.{take-nil, sets, length-sets, sets-eq, take-all, take-at, take-add, take-append-add, take-take, take-append-le, getD-take, getD-drop, drop-cons, drop-drop}
-use borrow.Author.Tests.{lt-ltb, le-ltb, ne-eqb}
+use lib.Dec.{eqb}
+use lib.ListN.{length, getD, take, drop, length-take, length-drop}
+use lib.Seq.{sets, length-sets, sets-eq, take-all, take-at, take-add, take-append-add, take-take, take-append-le, getD-take, getD-drop, drop-cons, drop-drop}
+use borrow.Author.Tests.{ne-eqb}
 use Rattle.card.specs.declared.card.Card.{Card}
-use Rattle.console.specs.Console.{longestPrint, Entry, entered}
+use Rattle.console.specs.Console.{longestPrint, entered}
 use Rattle.console.proofs.Long.{entered-long}
 use Rattle.runner.specs.declared.State.{State}
 use Rattle.runner.specs.Run.{RunState, part, kept, cut, after, ended, longer, takes, takesAll, keptOf, stateOf}
@@ -101,12 +101,6 @@ ended-kept s = ap (after s) (entered-cut (s .card) (s .line) (s .store))
 
 kept-longer : (s : RunState) (more : List ℕ) → keptOf (longer (keptOf s) more) ≡ keptOf (longer s more)
 kept-longer s more = λ i. record { card = s .card; store = s .store; line = cut-cut (s .line) more i; printed = s .printed }
-
-kept-ended : (s : RunState) → keptOf (ended s) ≡ ended s
-kept-ended s = λ i. record { card = ended s .card; store = ended s .store; line = take-nil {A = ℕ} kept i; printed = ended s .printed }
-
-pub kept-short : (s : RunState) → length (s .line) ≤ kept → keptOf s ≡ s
-kept-short s h = λ i. record { card = s .card; store = s .store; line = take-all kept (s .line) h i; printed = s .printed }
 
 -- the bytes that follow do the same to a line that was cut
 kept-takes : (s : RunState) (bs : List ℕ) → keptOf (takesAll (keptOf s) bs) ≡ keptOf (takesAll s bs)

@@ -1,6 +1,6 @@
 -- Laws of the turns of a run, each with an output of its own: together they do and print what all their bytes would at once.
-use Prim.Native.Nat.{ℕ, _+_, _≤_, _<_}
-use mathlib.Core.Path.{_≡_, refl, sym, ap, ap₂, _∙_}
+use Prim.Native.Nat.{ℕ, _+_, _*_, _≤_, _<_}
+use mathlib.Core.Path.{_≡_, refl, sym, ap, _∙_}
 use mathlib.Core.Bool.{Bool, true, false, cond, _&&_}
 use mathlib.Core.List.{List, [], _∷_, _++_, append-assoc, append-nil}
 use native.Mathlib.Decide.{decLt}
@@ -11,8 +11,8 @@ use lib.Seq.{length-take-le}
 use Rattle.card.specs.Address.{cellCount}
 use Rattle.card.specs.Fresh.{fresh}
 use Rattle.card.specs.Record.{configWidth, recordLength}
-use Rattle.console.specs.Console.{Entry, entered}
-use Rattle.runner.specs.Run.{RunState, startState, ended, longer, takes, takesAll, kept, keptOf, mostReads, runStateOf, flushed, Counted, Ran}
+use Rattle.console.specs.Console.{longestPrint, Entry, entered}
+use Rattle.runner.specs.Run.{RunState, startState, ended, longer, takes, takesAll, kept, keptOf, flushed, blockLength, mostReads, runStateOf, Counted, Ran}
 use Rattle.runner.specs.declared.Run.{Run}
 use Rattle.runner.proofs.Runs.{block-by-block}
 
@@ -82,6 +82,10 @@ reached-turn x y bs t p t′ p′ r e et ep =
         ∙ ap (behind old) (sym e)
 
 -- ---- between two turns
+
+pub counted-turn : (r q : Run) → Counted r → q .taken ≡ r .taken + q .got → q .printed ≡ r .printed + q .used → q .left + 1 ≡ r .left
+    → q .got ≤ blockLength → q .used ≤ longestPrint * q .got → Counted q
+counted-turn r q c taken printed left got used = record { by-reads = omega (arith, c .by-reads); by-bytes = omega (arith, c .by-bytes) }
 
 pub record Underway (r : Run) (store line out : List ℕ) : Type 0 where
   pub short : r .len ≤ kept

@@ -1,13 +1,13 @@
 // One run: the lines of an input go through one card, and what they print to standard output.
 //
-// The program takes constant memory, whatever the input: a block of input, a line, the store and a
-// block of output. A block of input is so small that all it can print fits the output. So a turn is
-// one read, all its bytes taken and all that they printed handed to one write, and nothing printed
-// waits for the next turn.
+// The program takes constant memory, whatever the input: a block of input with room for a line
+// before it, the line that has not ended, the store and the output. A block is so small that all it
+// can print fits the output. So a turn is one read, all its bytes taken and all that they printed
+// handed to one write, and nothing printed waits for the next turn.
 //
-// What bytes of input do is a definition, `takesAll`; `turn` equals it for the bytes of its read, and
-// `run_from` for all bytes that its reads gave. What is read and written lies in `read_block` and
-// `write_front`, of which no contract can say more.
+// What bytes of input do is a definition, `takesAll`. `turn` does it for the bytes of its read, and
+// `run_from` for all that its reads gave, one after the other. The calls that read and write stand
+// in `read_at` and `write_front`; no contract can say which bytes come and go there.
 ghost use mathlib.Core.Bool.{true, _&&_};
 ghost use mathlib.Core.List.{List, _++_};
 ghost use mathlib.Core.Path.{_≡_};
@@ -33,12 +33,15 @@ const BUFFER: usize = LINE + BLOCK;
 // "276 zeros at start"
 const STORE: usize = 276;
 
-// `outputLength`: each byte of a block ends a line at most, and no line prints more than 32 bytes.
-const OUTPUT: usize = 65536;
+// `longestPrint`: no line prints more.
+const ROOM: usize = 32;
+
+// `outputLength`: each byte of a block ends one line at most.
+const OUTPUT: usize = ROOM * BLOCK;
 
 // `mostReads`: a proved loop has to end, and nothing says that the input does. At a microsecond a
 // read these last for more than four years.
-const READS: u64 = 140737488355328;
+const READS: u64 = 1 << 47;
 
 // Between two bytes of the input: the card, the bytes of the line that has not ended yet, and the
 // bytes of the output that are printed.
@@ -61,7 +64,7 @@ pub struct Run {
     pub wrote: bool,
     // nothing has failed, and the input goes on
     pub going: bool,
-    // of all reads and writes so far
+    // bytes that all reads gave, and that were handed to write
     pub taken: u64,
     pub printed: u64,
     // reads that may still be made
@@ -157,10 +160,10 @@ fn take_block(
         end = line_end(block, start, n);
     }
     let card = s.card;
-    let len = keep(line, &block[start..n]);
+    let rest = keep(line, &block[start..n]);
     State {
         card: card,
-        len: len,
+        len: rest,
         used: s.used,
     }
 }

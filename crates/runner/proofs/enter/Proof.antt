@@ -1,5 +1,4 @@
 -- `runner::enter` meets its contract: the line is entered, and what it prints stands behind what is printed already.
-use mathlib.Core.Path.{_≡_}
 use native.Mathlib.Omega.{arith}
 use Rattle.runner.proofs.Runs.{printed-behind}
 use borrow.Author.Needs.{needs}

@@ -36,7 +36,8 @@ returns c =
     let len : c .copy .result ≡ k = omega (arith, e .1, size, n, l .least .ensures) in
     let whole : length (a .line .now) ≡ kept = search needs in
     let front = (λ i. take (len i) (e .0 i)) ∙ ap (λ (m : ℕ). take k (sets (a .line .now) 0 (take m (a .text .now)))) n in
-    (front ∙ kept-cut (a .line .now) (a .text .now) k whole (l .least .ensures .0), (omega (arith, len, l .least .ensures), ap length (e .0) ∙ simp length-sets whole))
+    let cuts = kept-cut (a .line .now) (a .text .now) k whole (l .least .ensures .0) in
+    (front ∙ cuts, (omega (arith, len, l .least .ensures), ap length (e .0) ∙ simp length-sets whole))
 
 pub keep-spec : {M : Type 1} → statement M
 keep-spec =

@@ -1,8 +1,6 @@
 -- `runner::read_at` meets its contract: what stands before the place is as it was.
-use Prim.Native.Nat.{_≤_}
-use mathlib.Core.Path.{_≡_}
 use native.Mathlib.Omega.{arith}
-use lib.ListN.{length, take, length-take}
+use lib.ListN.{take}
 use lib.Seq.{take-at, length-take-le}
 use borrow.Author.Needs.{needs}
 use Rattle.runner.proofs.read_at.Statement.{statement}

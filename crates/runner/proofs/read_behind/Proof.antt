@@ -1,5 +1,5 @@
 -- `runner::read_behind` meets its contract: the line stands at the front of the block, and the read leaves it there.
-use Prim.Native.Nat.{ℕ, _≤_, _-_}
+use Prim.Native.Nat.{_≤_, _-_}
 use mathlib.Core.Path.{_≡_, sym, ap, _∙_}
 use native.Mathlib.Omega.{arith}
 use lib.ListN.{length, take}

@@ -1,13 +1,12 @@
 -- `runner::run_from` meets its contract: the invariant says where the run stands between two turns, and the measure is the number of reads that are left.
-use Prim.Native.Nat.{ℕ, _+_, _<_}
-use mathlib.Core.Path.{_≡_, refl, sym, ap, _∙_}
+use Prim.Native.Nat.{_+_, _<_}
+use mathlib.Core.Path.{_≡_, refl}
 use mathlib.Core.Bool.{true}
 use native.Mathlib.Omega.{arith}
-use lib.ListN.{length, take}
 use lib.Seq.{length-take-le}
-use Rattle.runner.specs.Run.{part, mostReads, runStateOf, Ran}
+use Rattle.runner.specs.Run.{part, mostReads, runStateOf}
 use Rattle.runner.proofs.Runs.{part-length}
-use Rattle.runner.proofs.Turns.{Reached, reached-start, reached-turn, Underway, ran, has-read}
+use Rattle.runner.proofs.Turns.{reached-start, reached-turn, Underway, ran, has-read}
 use borrow.Author.Needs.{needs}
 use Rattle.runner.proofs.run_from.Statement.{statement}
 use Rattle.runner.proofs.run_from.Tie as tie

@@ -2,11 +2,10 @@
 -- the block's end. The measure is what is left of the block.
 use Prim.Native.Nat.{ℕ, _≤_, _<_, _+_, _*_, _-_}
 use mathlib.Core.Path.{_≡_, sym, ap, _∙_}
-use mathlib.Core.List.{List}
 use native.Mathlib.Omega.{arith}
 use lib.ListN.{length, take, getD}
 use Rattle.console.specs.Console.{longestPrint}
-use Rattle.runner.specs.Run.{RunState, part, takesAll, keptOf, stateOf, ended, longer}
+use Rattle.runner.specs.Run.{part, takesAll, keptOf, stateOf, ended, longer}
 use Rattle.runner.proofs.Runs.{inBlock, first-line, next-line}
 use borrow.Author.Needs.{needs}
 use Rattle.runner.proofs.take_block.Statement.{statement}
@@ -74,6 +73,7 @@ loop-again c =
     let next = c .line-end2 .result in
     let behind : l .end + 1 ≤ next = f .0 in
     let within : next ≤ a .n = f .1 .0 in
+    let fits : next ≤ length (a .block .now) = omega (arith, within, o .pre .1 .0) in
     let rest = part (l .end + 1) next (a .block .now) in
     let left : inBlock (w .enter .result) (a .block .now) (w .enter .last .1 .1 .0) (w .enter .last .1 .1 .1 .0) (l .end + 1) next ≡ longer (ended x) rest =
     λ i. record { card = e .0 i; store = e .1 .0 i; line = rest; printed = e .1 .1 .0 i } in (
@@ -82,8 +82,7 @@ loop-again c =
       f .1 .0,
       f .1 .1 .1,
       omega (arith, e .1 .1 .1, l .inv .0, l .inv .1, l .inv .4),
-      left
-          ∙ next-line _ x (a .block .now) (a .state .len) (l .end) next (l .inv .1) (omega (arith, behind)) (omega (arith, within, o .pre .1 .0)) lf (f .1 .1 .0) (l .inv .5),
+      left ∙ next-line _ x (a .block .now) (a .state .len) (l .end) next (l .inv .1) (omega (arith, behind)) fits lf (f .1 .1 .0) (l .inv .5),
     )
 
 sub-keep : tie.Need-sub-keep Inv-loop μ-loop
@@ -104,8 +103,9 @@ returns c =
     let a = c .before .before .before .before .before .before .before .before .args in
     let k = c .keep .ensures in
     let over : l .end ≡ a .n = omega (arith, l .inv .2, c .before .before .before .before .loop-test .left) in
+    let x₀ = stateOf (a .state) (a .store .now) (a .block .now) (a .out .now) in
     let x = ap keptOf (ap (inBlock (l .s) (a .block .now) (l .store) (l .out) (l .start)) (sym over) ∙ l .inv .5) in
-    let bytes = ap (λ (n : ℕ). keptOf (takesAll (stateOf (a .state) (a .store .now) (a .block .now) (a .out .now)) (part (a .state .len) n (a .block .now)))) over in
+    let bytes = ap (λ (n : ℕ). keptOf (takesAll x₀ (part (a .state .len) n (a .block .now)))) over in
     let line : stateOf (record { card = l .s .card; len = c .keep .result; used = l .s .used }) (l .store) (c .keep .last .0) (l .out)
     ≡ keptOf (inBlock (l .s) (a .block .now) (l .store) (l .out) (l .start) (a .n)) =
     λ i. record { card = l .s .card; store = l .store; line = k .0 i; printed = take (l .s .used) (l .out) } in

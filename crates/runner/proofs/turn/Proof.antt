@@ -1,10 +1,12 @@
 -- `runner::turn` meets its contract: the bytes read are taken on from an empty output, and the totals grow by what they are and print.
-use Prim.Native.Nat.{ℕ, _≤_, _+_, _*_}
-use mathlib.Core.Path.{_≡_, refl, sym, ap, _∙_}
+use Prim.Native.Nat.{ℕ, _≤_, _+_, _-_, _*_}
+use mathlib.Core.Path.{_≡_, refl, ap, _∙_}
 use mathlib.Core.List.{List, []}
 use native.Mathlib.Omega.{arith}
-use lib.ListN.{length, take}
-use Rattle.runner.specs.Run.{part, takesAll, keptOf, stateOf, Counted}
+use lib.ListN.{length}
+use Rattle.console.specs.Console.{longestPrint}
+use Rattle.runner.specs.Run.{part, takesAll, keptOf, stateOf}
+use Rattle.runner.proofs.Turns.{counted-turn}
 use borrow.Author.Needs.{needs}
 use Rattle.runner.proofs.turn.Statement.{statement}
 use Rattle.runner.proofs.turn.Tie as tie
@@ -38,8 +40,7 @@ add-t31 c =
 sub-t32 : tie.Need-sub-t32
 sub-t32 c =
     let b = c .before .before .before .before .before .before .before .before .before .before .before .before .before .before in
-    let o = b .before .before .before .before .before in
-    o .pre .1 .1 .0
+    b .before .before .before .before .before .pre .1 .1 .0
 
 returns : tie.Need-returns
 returns c =
@@ -52,16 +53,22 @@ returns c =
     let took = t .take-block .ensures in
     let wrote = w .write-front .ensures in
     let any = o .pre .1 .1 .0 in
-    let totals = o .pre .1 .1 .1 in
     let s = t .take-block .result in
     let last = t .take-block .last .1 .1 .1 in
     let printed = ap (λ (n : ℕ). stateOf (record { card = s .card; len = s .len; used = n }) (last .1 .0) (last .0) (last .1 .1 .0)) (wrote .0) in
     let bytes = part (a .run .len) (a .run .len + b .read-behind .result) (b .read-behind .last .1 .0) in
     let line = ap (λ (l : List ℕ). keptOf (takesAll (record { card = a .run .card; store = a .store .now; line = l; printed = [] }) bytes)) (got .1) in
     let within : a .run .len + b .read-behind .result ≤ length (b .read-behind .last .1 .0) = omega (arith, t .before, got .0, o .pre .0) in
-    let reads = totals .by-reads in
-    let prints = totals .by-bytes in
-    (got .0, (printed ∙ took .0 ∙ line, (refl, (took .1 .0, (took .1 .1 .0, (refl, (refl, (omega (arith, any), (record { by-reads = omega (arith, got .0, reads, any); by-bytes = omega (arith, wrote .0, took .1 .1 .1, prints) }, (within, wrote .1))))))))))
+    let left : (a .run .left - 1) + 1 ≡ a .run .left = omega (arith, any) in
+    let few : w .write-front .result .used ≤ longestPrint * b .read-behind .result = omega (arith, wrote .0, took .1 .1 .1) in
+    let old = o .pre .1 .1 .1 in
+    let new = counted-turn (a .run) in (
+      got .0,
+      (
+        printed ∙ took .0 ∙ line,
+        (refl, (took .1 .0, (took .1 .1 .0, (refl, (refl, (left, (new _ old refl refl left (got .0) few, (within, wrote .1)))))))),
+      ),
+    )
 
 pub turn-spec : {M : Type 1} → statement M
 turn-spec =
