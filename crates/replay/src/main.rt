@@ -2,6 +2,10 @@
 //
 // `pair-a` and `pair-b` differ only in which ticks are quick, so that what they print differs only
 // in woken sets and their counts. The wirings that end in `.lines` are those of the folder examples.
+// `long` is more than a buffer of input and of output: lines cut at every place by the end of a
+// block of 2048 bytes, lines of thousands of bytes, NUL bytes, and a last line without LF. Ticks,
+// pointer and loads of the store come again and again, so that a card, store or line that is lost
+// between two blocks shows.
 fn replay(path: &[u8]) {
     let input = os::open_read(path);
     if input < 0 {
@@ -33,4 +37,5 @@ fn main() {
     replay(b"conditional-pulse.lines");
     replay(b"counter.lines");
     replay(b"readout.lines");
+    replay(b"long.in");
 }

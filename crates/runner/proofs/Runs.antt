@@ -1,5 +1,5 @@
 -- Laws of a run: what the buffers hold, and the bytes of a block part by part.
-use Prim.Native.Nat.{ℕ, zero, suc, _+_, _-_, _≤_, _<_, min}
+use Prim.Native.Nat.{ℕ, suc, _+_, _-_, _≤_, _<_, min}
 use mathlib.Core.Path.{_≡_, refl, sym, ap, ap₂, _∙_}
 use mathlib.Core.Bool.{Bool, true, false, cond}
 use mathlib.Core.List.{List, [], _∷_, _++_, append-assoc, append-nil}
@@ -7,33 +7,20 @@ use native.Mathlib.Decide.{decLt}
 use native.Mathlib.Nat.{le-refl}
 use native.Mathlib.Numerals.{add-one}
 use native.Mathlib.Omega.{arith}
-use lib.Dec.{eqb, leb, ltb}
-use lib.ListN.{length, getD, take, drop, length-append, length-take, length-drop}
-use lib.Seq.{take-nil, sets, length-sets, sets-eq, take-all, take-at, take-add, take-append-add, take-take, take-append-le, take-suc, getD-take, getD-drop}
-use borrow.Author.Tests.{le-leb, lt-leb, lt-ltb, le-ltb, ne-eqb}
+use lib.Dec.{eqb}
+use lib.ListN.{length, getD, take, drop, length-take, length-drop}
+use lib.Seq.{sets, length-sets, sets-eq, take-all, take-at, take-add, take-append-add, take-take, take-append-le, getD-take, getD-drop, drop-cons, drop-drop}
+use borrow.Author.Tests.{ne-eqb}
 use Rattle.card.specs.declared.card.Card.{Card}
-use Rattle.console.specs.Console.{longestPrint, Entry, entered}
+use Rattle.console.specs.Console.{longestPrint, entered}
 use Rattle.console.proofs.Long.{entered-long}
-use Rattle.runner.specs.Run.{Course, kept, cut, outputRoom, held, after, ended, longer, takes, takesAll, keptOf}
+use Rattle.runner.specs.declared.State.{State}
+use Rattle.runner.specs.Run.{RunState, part, kept, cut, after, ended, longer, takes, takesAll, keptOf, stateOf}
 
 -- ---- the output
 
-pub held-all : (l : List ℕ) (n : ℕ) → n ≤ outputRoom - longestPrint → held (take n l) ≡ take n l
-unfolding held
-held-all l n h =
-    let e = length-take n l in
-    let k : length (take n l) ≤ outputRoom - longestPrint = omega (arith, e) in
-    rw (le-leb (length (take n l)) (outputRoom - longestPrint) k)
-
-pub held-none : (l : List ℕ) (n : ℕ) → n ≤ length l → outputRoom - longestPrint < n → held (take n l) ≡ []
-unfolding held
-held-none l n hl h =
-    let e = length-take n l in
-    let k : outputRoom - longestPrint < length (take n l) = omega (arith, e) in
-    rw (lt-leb (length (take n l)) (outputRoom - longestPrint) k)
-
 -- the front of what is stored is what was stored
-stored : (l p : List ℕ) → length p ≤ length l → take (length p) (sets l 0 p) ≡ p
+pub stored : (l p : List ℕ) → length p ≤ length l → take (length p) (sets l 0 p) ≡ p
 stored l p h =
     let k : 0 + length p ≤ length l = omega arith in
     rw (sets-eq p l 0 k) (take-at p (drop (0 + length p) l) (length p) refl)
@@ -56,51 +43,37 @@ printed-behind xs ys post p a n ha hn en ey =
 -- ---- the line
 
 -- the first bytes, as many as there is room for, are the cut
-pub add-cut : (l more : List ℕ) (len k : ℕ) → length l ≡ kept → len ≤ kept → k ≡ min (length more) (kept - len)
-    → take (len + k) (sets l len (take k more)) ≡ cut (take len l ++ more)
-add-cut l more len k hl h ek =
-    let lk = length-take k more in
-    let vs : length (take k more) ≡ k = omega (arith, lk) in
-    let front : length (take len l) ≡ len = length-take len l ∙ omega arith in
-    let fits : len + length (take k more) ≤ length l = omega arith in
-    let rest = drop (len + length (take k more)) l in
-    let left : take (len + k) (sets l len (take k more)) ≡ take len l ++ take k more =
-    ap (take (len + k)) (sets-eq (take k more) l len fits ∙ append-assoc (take len l) (take k more) rest)
-    ∙ (λ i. take (sym front i + k) (take len l ++ (take k more ++ rest)))
-    ∙ take-append-add (take len l) (take k more ++ rest) k
-    ∙ ap (λ (t : List ℕ). take len l ++ t) (take-at (take k more) rest k vs) in
-    let whole : kept ≡ len + (kept - len) = omega arith in
-    let right : cut (take len l ++ more) ≡ take len l ++ take (kept - len) more =
-    ap (λ (n : ℕ). take n (take len l ++ more)) whole
-    ∙ (λ i. take (sym front i + (kept - len)) (take len l ++ more))
-    ∙ take-append-add (take len l) more (kept - len) in
-    left ∙ ap (λ (t : List ℕ). take len l ++ t) (enough (decLt (kept - len) (length more))) ∙ sym right
+pub kept-cut : (l text : List ℕ) (k : ℕ) → length l ≡ kept → k ≡ min (length text) kept → take k (sets l 0 (take k text)) ≡ cut text
+kept-cut l text k hl ek =
+    let size = length-take k text in
+    let all : length (take k text) ≡ k = omega (arith, size) in
+    ap (λ (n : ℕ). take n (sets l 0 (take k text))) (sym all) ∙ stored l (take k text) (omega (arith, all)) ∙ enough (decLt kept (length text))
   where
-    enough : Dec (kept - len < length more) → take k more ≡ take (kept - len) more
+    enough : Dec (kept < length text) → take k text ≡ cut text
     enough (yes g) =
-        let e : k ≡ kept - len = omega (arith, ek) in
-        ap (λ (n : ℕ). take n more) e
+        let e : k ≡ kept = omega (arith, ek) in
+        ap (λ (n : ℕ). take n text) e
     enough (no g) =
-        let e : length more ≤ k = omega (arith, ek) in
-        let f : length more ≤ kept - len = omega arith in
-        take-all k more e ∙ sym (take-all (kept - len) more f)
+        let e : length text ≤ k = omega (arith, ek) in
+        let f : length text ≤ kept = omega arith in
+        take-all k text e ∙ sym (take-all kept text f)
 
 -- ---- the bytes of a block
 
-pub takes-append : (s : Course) (xs ys : List ℕ) → takesAll s (xs ++ ys) ≡ takesAll (takesAll s xs) ys
+pub takes-append : (s : RunState) (xs ys : List ℕ) → takesAll s (xs ++ ys) ≡ takesAll (takesAll s xs) ys
 unfolding takesAll
 takes-append s [] ys = refl
 takes-append s (b ∷ bs) ys = takes-append (takes s b) bs ys
 
 -- bytes without LF make the line longer
-takes-part : (s : Course) (bs : List ℕ) → ((k : ℕ) → k < length bs → getD bs k 0 ≡ 10 → ⊥) → takesAll s bs ≡ longer s bs
+takes-part : (s : RunState) (bs : List ℕ) → ((k : ℕ) → k < length bs → getD bs k 0 ≡ 10 → ⊥) → takesAll s bs ≡ longer s bs
 unfolding takesAll
-takes-part s [] none = λ i. record { card = s .card; store = s .store; line = sym (append-nil (s .line)) i; pending = s .pending }
+takes-part s [] none = λ i. record { card = s .card; store = s .store; line = sym (append-nil (s .line)) i; printed = s .printed }
 takes-part s (b ∷ bs) none =
     let first : b ≡ 10 → ⊥ = none 0 (omega arith) in
     let ih = takes-part (longer s (b ∷ [])) bs (λ k g. none (suc k) (omega arith)) in
     rw (ne-eqb b 10 first)
-    (ih ∙ (λ i. record { card = s .card; store = s .store; line = append-assoc (s .line) (b ∷ []) bs i; pending = s .pending }))
+    (ih ∙ (λ i. record { card = s .card; store = s .store; line = append-assoc (s .line) (b ∷ []) bs i; printed = s .printed }))
 
 -- ---- a line that is cut
 
@@ -123,99 +96,82 @@ entered-cut c l store = go (decLt kept (length l))
         entered-long c (cut l) l store (omega (arith, e)) (omega arith)
     go (no h) = ap (λ (t : List ℕ). entered c t store) (take-all kept l (omega arith))
 
-ended-kept : (s : Course) → ended (keptOf s) ≡ ended s
+ended-kept : (s : RunState) → ended (keptOf s) ≡ ended s
 ended-kept s = ap (after s) (entered-cut (s .card) (s .line) (s .store))
 
-kept-longer : (s : Course) (more : List ℕ) → keptOf (longer (keptOf s) more) ≡ keptOf (longer s more)
-kept-longer s more = λ i. record { card = s .card; store = s .store; line = cut-cut (s .line) more i; pending = s .pending }
-
-kept-ended : (s : Course) → keptOf (ended s) ≡ ended s
-kept-ended s = λ i. record { card = ended s .card; store = ended s .store; line = take-nil {A = ℕ} kept i; pending = ended s .pending }
-
-pub kept-short : (s : Course) → length (s .line) ≤ kept → keptOf s ≡ s
-kept-short s h = λ i. record { card = s .card; store = s .store; line = take-all kept (s .line) h i; pending = s .pending }
+kept-longer : (s : RunState) (more : List ℕ) → keptOf (longer (keptOf s) more) ≡ keptOf (longer s more)
+kept-longer s more = λ i. record { card = s .card; store = s .store; line = cut-cut (s .line) more i; printed = s .printed }
 
 -- the bytes that follow do the same to a line that was cut
-kept-takes : (s : Course) (bs : List ℕ) → keptOf (takesAll (keptOf s) bs) ≡ keptOf (takesAll s bs)
+kept-takes : (s : RunState) (bs : List ℕ) → keptOf (takesAll (keptOf s) bs) ≡ keptOf (takesAll s bs)
 unfolding takesAll
-kept-takes s [] = λ i. record { card = s .card; store = s .store; line = take-take kept kept (s .line) (le-refl kept) i; pending = s .pending }
+kept-takes s [] = λ i. record { card = s .card; store = s .store; line = take-take kept kept (s .line) (le-refl kept) i; printed = s .printed }
 kept-takes s (b ∷ bs) = go (λ x. kept-takes x bs) (eqb b 10)
   where
-    go : ((x : Course) → keptOf (takesAll (keptOf x) bs) ≡ keptOf (takesAll x bs)) → (lf : Bool)
+    go : ((x : RunState) → keptOf (takesAll (keptOf x) bs) ≡ keptOf (takesAll x bs)) → (lf : Bool)
         → keptOf (takesAll (cond lf (ended (keptOf s)) (longer (keptOf s) (b ∷ []))) bs) ≡ keptOf (takesAll (cond lf (ended s) (longer s (b ∷ []))) bs)
-    go ih true = ap (λ (x : Course). keptOf (takesAll x bs)) (ended-kept s)
+    go ih true = ap (λ (x : RunState). keptOf (takesAll x bs)) (ended-kept s)
     go ih false =
-        sym (ih (longer (keptOf s) (b ∷ []))) ∙ ap (λ (x : Course). keptOf (takesAll x bs)) (kept-longer s (b ∷ [])) ∙ ih (longer s (b ∷ []))
+        sym (ih (longer (keptOf s) (b ∷ []))) ∙ ap (λ (x : RunState). keptOf (takesAll x bs)) (kept-longer s (b ∷ [])) ∙ ih (longer s (b ∷ []))
 
 -- so a run that takes its input block by block stands where all the bytes at once would have brought it
-pub block-by-block : (s : Course) (xs ys : List ℕ) → keptOf (takesAll (keptOf (takesAll s xs)) ys) ≡ keptOf (takesAll s (xs ++ ys))
+pub block-by-block : (s : RunState) (xs ys : List ℕ) → keptOf (takesAll (keptOf (takesAll s xs)) ys) ≡ keptOf (takesAll s (xs ++ ys))
 block-by-block s xs ys = kept-takes (takesAll s xs) ys ∙ ap keptOf (sym (takes-append s xs ys))
 
 -- ---- a part of a block
 
--- the first bytes of a block up to an end: those up to a place, and the part from there
-split : (block : List ℕ) (at end : ℕ) → at ≤ end → take end block ≡ take at block ++ take (end - at) (drop at block)
-split block at end h =
-    let e : end ≡ at + (end - at) = omega arith in
-    ap (λ (k : ℕ). take k block) e ∙ take-add at (end - at) block
+pub part-length : (l : List ℕ) (a b : ℕ) → b ≤ length l → length (part a b l) ≡ b - a
+part-length l a b h =
+    let rest = length-drop a l in
+    length-take (b - a) (drop a l) ∙ omega (arith, rest)
 
--- a part that ends with an LF, or with the block
-pub block-step : (s₀ s r : Course) (block : List ℕ) (at end n : ℕ) → at ≤ end → end ≤ n → n ≤ length block
-    → ((k : ℕ) → k < end → at ≤ k → getD block k 0 ≡ 10 → ⊥) → (end < n → getD block end 0 ≡ 10)
-    → s ≡ keptOf (takesAll s₀ (take at (take n block)))
-    → r ≡ cond (ltb end n) (ended (keptOf (longer s (take (end - at) (drop at block))))) (keptOf (longer s (take (end - at) (drop at block))))
-    → r ≡ keptOf (takesAll s₀ (take (end + 1) (take n block)))
+part-append : (l : List ℕ) (a b d : ℕ) → a ≤ b → b ≤ d → part a d l ≡ part a b l ++ part b d l
+part-append l a b d h k =
+    let e : d - a ≡ (b - a) + (d - b) = omega arith in
+    let f : a + (b - a) ≡ b = omega arith in
+    ap (λ (n : ℕ). take n (drop a l)) e
+    ∙ take-add (b - a) (d - b) (drop a l)
+    ∙ ap (λ (t : List ℕ). part a b l ++ take (d - b) t) (drop-drop (b - a) a l ∙ ap (λ (n : ℕ). drop n l) f)
+
+part-cons : (l : List ℕ) (a b : ℕ) → a < b → b ≤ length l → part a b l ≡ getD l a 0 ∷ part (a + 1) b l
+part-cons l a b h k =
+    let e : b - a ≡ suc (b - (a + 1)) = omega arith in
+    ap₂ (λ (n : ℕ) (t : List ℕ). take n t) e (drop-cons l a 0 (omega arith)) ∙ ap (λ (n : ℕ). getD l a 0 ∷ take (b - (a + 1)) (drop n l)) (sym (add-one a))
+
+-- a part where no LF stands
+free-part : (block : List ℕ) (a b : ℕ) → ((k : ℕ) → k < b → a ≤ k → getD block k 0 ≡ 10 → ⊥)
+    → (k : ℕ) → k < length (part a b block) → getD (part a b block) k 0 ≡ 10 → ⊥
+free-part block a b none k h e =
+    let size = length-take (b - a) (drop a block) in
+    let inside : k < b - a = omega (arith, size) in
+    let byte = getD-take (b - a) (drop a block) k 0 inside ∙ getD-drop a block k 0 in
+    none (a + k) (omega arith) (omega arith) (sym byte ∙ e)
+
+-- where a block stands: the line from `start` to `end` has not ended, or ends there
+abbrev pub inBlock : State → (block store out : List ℕ) → (start end : ℕ) → RunState
+inBlock s block store out start end = record { card = s .card; store = store; line = part start end block; printed = take (s .used) out }
+
+-- the first line, which may have begun in an earlier block
+pub first-line : (s : State) (block store out : List ℕ) (end : ℕ) → s .len ≤ end → end ≤ length block
+    → ((k : ℕ) → k < end → s .len ≤ k → getD block k 0 ≡ 10 → ⊥)
+    → inBlock s block store out 0 end ≡ takesAll (stateOf s store block out) (part (s .len) end block)
+first-line s block store out end h k none =
+    let len : s .len - 0 ≡ s .len = omega arith in
+    let line : part 0 end block ≡ take (s .len) block ++ part (s .len) end block =
+    part-append block 0 (s .len) end (omega arith) h ∙ ap (λ (n : ℕ). take n block ++ part (s .len) end block) len in
+    (λ i. record { card = s .card; store = store; line = line i; printed = take (s .used) out })
+    ∙ sym (takes-part (stateOf s store block out) (part (s .len) end block) (free-part block (s .len) end none))
+
+-- an LF, and the bytes up to the next one
+pub next-line : (x₀ x : RunState) (block : List ℕ) (from end next : ℕ) → from ≤ end → end < next → next ≤ length block → getD block end 0 ≡ 10
+    → ((k : ℕ) → k < next → end + 1 ≤ k → getD block k 0 ≡ 10 → ⊥) → x ≡ takesAll x₀ (part from end block)
+    → longer (ended x) (part (end + 1) next block) ≡ takesAll x₀ (part from next block)
 unfolding takesAll
-block-step s₀ s r block at end n ha he hn none lf es er = go (decLt end n)
-  where
-    part : List ℕ
-    part = take (end - at) (drop at block)
-
-    y : Course
-    y = takesAll s₀ (take at (take n block))
-
-    size : length part ≤ end - at
-    size =
-        let e = length-take (end - at) (drop at block) in
-        omega (arith, e)
-
-    free : (k : ℕ) → k < length part → getD part k 0 ≡ 10 → ⊥
-    free k h e =
-        let inside : k < end - at = omega (arith, size) in
-        let byte = getD-take (end - at) (drop at block) k 0 inside ∙ getD-drop at block k 0 in
-        none (at + k) (omega arith) (omega arith) (sym byte ∙ e)
-
-    grown : keptOf (longer s part) ≡ keptOf (longer y part)
-    grown = ap (λ (x : Course). keptOf (longer x part)) es ∙ kept-longer y part
-
-    front : take at (take n block) ≡ take at block
-    front = take-take at n block (omega arith)
-
-    go : Dec (end < n) → r ≡ keptOf (takesAll s₀ (take (end + 1) (take n block)))
-    go (yes h) =
-        let byte : take (suc end) block ≡ take end block ++ (10 ∷ []) =
-        take-suc block end 0 (omega arith) ∙ ap (λ (b : ℕ). take end block ++ (b ∷ [])) (lf h) in
-        let next : take (end + 1) (take n block) ≡ take at (take n block) ++ (part ++ (10 ∷ [])) =
-        take-take (end + 1) n block (omega arith)
-        ∙ ap (λ (k : ℕ). take k block) (add-one end)
-        ∙ byte
-        ∙ ap (λ (t : List ℕ). t ++ (10 ∷ [])) (split block at end ha)
-        ∙ append-assoc (take at block) part (10 ∷ [])
-        ∙ ap (λ (t : List ℕ). t ++ (part ++ (10 ∷ []))) (sym front) in
-        let all : takesAll s₀ (take (end + 1) (take n block)) ≡ ended (longer y part) =
-        ap (takesAll s₀) next
-        ∙ takes-append s₀ (take at (take n block)) (part ++ (10 ∷ []))
-        ∙ takes-append y part (10 ∷ [])
-        ∙ ap (λ (x : Course). takesAll x (10 ∷ [])) (takes-part y part free) in
-        (rw (lt-ltb end n h) at er) ∙ ap ended grown ∙ ended-kept (longer y part) ∙ sym (ap keptOf all ∙ kept-ended (longer y part))
-    go (no h) =
-        let last : end ≡ n = omega arith in
-        let whole = length-take n block in
-        let all : take (end + 1) (take n block) ≡ take at (take n block) ++ part =
-        take-all (end + 1) (take n block) (omega (arith, whole))
-        ∙ ap (λ (k : ℕ). take k block) (sym last)
-        ∙ split block at end ha
-        ∙ ap (λ (t : List ℕ). t ++ part) (sym front) in
-        let stays : n ≤ end = omega (arith, last) in
-        (rw (le-ltb end n stays) at er) ∙ grown
-        ∙ sym (ap keptOf (ap (takesAll s₀) all ∙ takes-append s₀ (take at (take n block)) part ∙ takes-part y part free))
+next-line x₀ x block from end next h k fits lf none e =
+    let rest = part (end + 1) next block in
+    let bytes : part from next block ≡ part from end block ++ (10 ∷ rest) =
+    part-append block from end next h (omega arith)
+    ∙ ap (λ (t : List ℕ). part from end block ++ t) (part-cons block end next k fits ∙ ap (λ (b : ℕ). b ∷ rest) lf) in
+    sym (takes-part (ended x) rest (free-part block (end + 1) next none))
+    ∙ ap (λ (y : RunState). takesAll (ended y) rest) e
+    ∙ sym (ap (takesAll x₀) bytes ∙ takes-append x₀ (part from end block) (10 ∷ rest))

@@ -1,55 +1,96 @@
 -- Document 01, "One run": lines of input end at LF, each is entered when its LF comes, and what stands behind the last LF is dropped, since no LF comes.
-use Prim.Native.Nat.{ℕ, _-_}
-use mathlib.Core.Bool.{Bool, cond}
+use Prim.Native.Nat.{ℕ, _+_, _-_, _*_, _^_, _≤_}
+use mathlib.Core.Path.{_≡_}
+use mathlib.Core.Bool.{cond}
 use mathlib.Core.List.{List, [], _∷_, _++_}
-use lib.Dec.{eqb, leb}
-use lib.ListN.{length, take}
+use lib.Dec.{eqb}
+use lib.ListN.{length, take, drop, replicate}
 use Rattle.card.specs.declared.card.Card.{Card}
+use Rattle.card.specs.Address.{cellCount}
+use Rattle.card.specs.Fresh.{fresh}
+use Rattle.card.specs.Record.{configWidth, recordLength}
 use Rattle.console.specs.Console.{longestPrint, Entry, entered}
+use Rattle.runner.specs.declared.State.{State}
 use Rattle.runner.specs.declared.Run.{Run}
 
--- the input so far: the card, the store, the line that has not ended, and what is printed and not yet written
-pub record Course : Type 0 where
+-- ---- what bytes of input do
+
+-- after some bytes of input: the card, the store, the line that has not ended, and all that has been printed
+pub record RunState : Type 0 where
   pub card : Card
   pub store : List ℕ
   pub line : List ℕ
-  pub pending : List ℕ
+  pub printed : List ℕ
 
--- the bytes that are held back from writing: all, unless the room that is left might not do for a line
-abbrev pub outputRoom : ℕ
-outputRoom = 65536
-
-unfoldable pub held : List ℕ → List ℕ
-held p = cond (leb (length p) (outputRoom - longestPrint)) p []
+-- "Fresh: ...", and "the store, 276 zeros at start"
+unfoldable pub startState : RunState
+startState = record { card = fresh; store = replicate (recordLength cellCount configWidth) 0; line = []; printed = [] }
 
 -- LF: the line is entered
-abbrev pub after : Course → Entry → Course
-after s e = record { card = e .card; store = e .store; line = []; pending = held (s .pending) ++ e .printed }
+abbrev pub after : RunState → Entry → RunState
+after s e = record { card = e .card; store = e .store; line = []; printed = s .printed ++ e .printed }
 
-abbrev pub ended : Course → Course
+abbrev pub ended : RunState → RunState
 ended s = after s (entered (s .card) (s .line) (s .store))
 
-abbrev pub longer : Course → List ℕ → Course
-longer s more = record { card = s .card; store = s .store; line = s .line ++ more; pending = s .pending }
+abbrev pub longer : RunState → List ℕ → RunState
+longer s more = record { card = s .card; store = s .store; line = s .line ++ more; printed = s .printed }
 
 -- a byte of input, and all of them
-abbrev pub takes : Course → ℕ → Course
+abbrev pub takes : RunState → ℕ → RunState
 takes s b = cond (eqb b 10) (ended s) (longer s (b ∷ []))
 
-unfoldable pub takesAll : Course → List ℕ → Course
+unfoldable pub takesAll : RunState → List ℕ → RunState
 takesAll s [] = s
 takesAll s (b ∷ bs) = takesAll (takes s b) bs
 
--- what is kept of a line that has not ended. A longer one is malformed, and cut to these bytes it still is (law `entered-cut`)
+-- ---- what the program keeps
+
+-- the bytes from one place to another
+abbrev pub part : (from to : ℕ) → List ℕ → List ℕ
+part from to l = take (to - from) (drop from l)
+
+-- of a line that has not ended. A longer one is malformed, and cut to these bytes it still is (law `entered-cut`)
 abbrev pub kept : ℕ
 kept = 96
 
 abbrev pub cut : List ℕ → List ℕ
 cut l = take kept l
 
-abbrev pub keptOf : Course → Course
-keptOf s = record { card = s .card; store = s .store; line = cut (s .line); pending = s .pending }
+abbrev pub keptOf : RunState → RunState
+keptOf s = record { card = s .card; store = s .store; line = cut (s .line); printed = s .printed }
 
--- where a run stands, by what it holds: the line and the output are the front of their buffers
-abbrev pub courseOf : Run → (store line out : List ℕ) → Course
-courseOf r store line out = record { card = r .card; store = store; line = take (r .len) line; pending = take (r .used) out }
+-- a block of input, and what it can print at most
+abbrev pub blockLength : ℕ
+blockLength = 2048
+
+abbrev pub outputLength : ℕ
+outputLength = longestPrint * blockLength
+
+-- the reads of a run
+abbrev pub mostReads : ℕ
+mostReads = 2 ^ 47
+
+-- where a run stands, by what it holds: the line and what is printed are the front of their buffers
+abbrev pub stateOf : State → (store line out : List ℕ) → RunState
+stateOf s store line out = record { card = s .card; store = store; line = take (s .len) line; printed = take (s .used) out }
+
+abbrev pub runStateOf : Run → (store line out : List ℕ) → RunState
+runStateOf r store line out = record { card = r .card; store = store; line = take (r .len) line; printed = take (r .used) out }
+
+-- what was printed has been handed to write
+abbrev pub flushed : RunState → RunState
+flushed s = record { card = s .card; store = s .store; line = s .line; printed = [] }
+
+-- the totals grow by a block a read at most, and by what a block prints, so that they do not wrap
+pub record Counted (r : Run) : Type 0 where
+  pub by-reads : r .taken + blockLength * r .left ≤ blockLength * mostReads
+  pub by-bytes : r .printed ≤ longestPrint * r .taken
+
+-- a run that has taken this input: as many bytes as its reads gave have brought card and line where they stand, and what they print is as long as what
+-- was handed to write
+pub record Ran (r : Run) (input : List ℕ) : Type 0 where
+  pub taken : length input ≡ r .taken
+  pub card : r .card ≡ takesAll startState input .card
+  pub len : r .len ≡ length (cut (takesAll startState input .line))
+  pub printed : r .printed ≡ length (takesAll startState input .printed)

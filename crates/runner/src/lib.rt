@@ -1,40 +1,80 @@
 // One run: the lines of an input go through one card, and what they print to standard output.
 //
-// The program takes constant memory, whatever the input: a block of input, a line, the store and a
-// block of output. What the bytes of a block do to them is a definition, `takesAll`. No contract can
-// say what is read or written, so `turn` and `run_from` promise only that they stay within their
-// buffers.
-ghost use mathlib.Core.Bool.{cond};
-ghost use mathlib.Core.List.{_++_};
+// The program takes constant memory, whatever the input: a block of input with room for a line
+// before it, the line that has not ended, the store and the output. A block is so small that all it
+// can print fits the output. So a turn is one read, all its bytes taken and all that they printed
+// handed to one write, and nothing printed waits for the next turn.
+//
+// What bytes of input do is a definition, `takesAll`. `turn` does it for the bytes of its read, and
+// `run_from` for all that its reads gave, one after the other. The calls that read and write stand
+// in `read_at` and `write_front`; no contract can say which bytes come and go there.
+ghost use mathlib.Core.Bool.{true, _&&_};
+ghost use mathlib.Core.List.{List, _++_};
 ghost use mathlib.Core.Path.{_≡_};
-ghost use Prim.Native.Nat.{ℕ, _≤_, _<_, _+_, _-_, min};
+ghost use Prim.Native.Nat.{ℕ, _≤_, _<_, _+_, _-_, _*_, min};
+ghost use lib.Dec.{ltb};
 ghost use lib.ListN.{length, take, getD};
-ghost use lib.Seq.{sets};
 ghost use Rattle.card.specs.Fresh.{fresh};
 ghost use Rattle.console.specs.Console.{longestPrint, entered};
-ghost use Rattle.runner.specs.Run.{held, ended, longer, takesAll, keptOf, courseOf};
+ghost use Rattle.runner.specs.Run.{part, takesAll, kept, cut, keptOf, flushed, blockLength, outputLength, mostReads, stateOf, runStateOf, Counted, Ran};
 use card::card::Card;
-use console::Entered;
 use libc::STDOUT_FILENO;
 
-// Of the input and of the output.
-const BLOCK: usize = 65536;
+// `blockLength`: of a block of input.
+const BLOCK: usize = 2048;
 
-// More than the 80 bytes of the longest line, so that a longer one, cut to this, is still too long.
-const LONGEST: usize = 96;
+// `kept`: more than the 80 bytes of the longest line, so that a longer one, cut to this, is still
+// too long.
+const LINE: usize = 96;
 
-// `longestPrint`: the room that `console::enter` asks for, and no line prints more.
+// A line that has not ended, and behind it a block.
+const BUFFER: usize = LINE + BLOCK;
+
+// "276 zeros at start"
+const STORE: usize = 276;
+
+// `longestPrint`: no line prints more.
 const ROOM: usize = 32;
 
-// Between two bytes of the input.
+// `outputLength`: each byte of a block ends one line at most.
+const OUTPUT: usize = ROOM * BLOCK;
+
+// `mostReads`: a proved loop has to end, and nothing says that the input does. At a microsecond a
+// read these last for more than four years.
+const READS: u64 = 1 << 47;
+
+// Between two bytes of the input: the card, the bytes of the line that has not ended yet, and the
+// bytes of the output that are printed.
+pub struct State {
+    pub card: Card,
+    pub len: usize,
+    pub used: usize,
+}
+
+// Between two reads.
 pub struct Run {
     pub card: Card,
     // bytes of the line that has not ended yet
     pub len: usize,
-    // bytes that are printed and not yet written
+    // bytes that the last read gave: 0 at the input's end, and where it failed
+    pub got: usize,
+    // bytes that were then handed to write, from the front of the output
     pub used: usize,
+    // what write answered
+    pub wrote: bool,
     // nothing has failed, and the input goes on
     pub going: bool,
+    // bytes that all reads gave, and that were handed to write
+    pub taken: u64,
+    pub printed: u64,
+    // reads that may still be made
+    pub left: u64,
+}
+
+// How many bytes were handed to write, and what it answered.
+pub struct Written {
+    pub used: usize,
+    pub wrote: bool,
 }
 
 fn least(a: usize, b: usize) -> usize
@@ -64,229 +104,189 @@ fn line_end(block: &[u8], at: usize, n: usize) -> usize
     i
 }
 
-// Puts more bytes behind the first `len` of a line. A full line takes no more.
-fn add(line: &mut [u8; 96], len: usize, more: &[u8]) -> usize
-    requires { ⌜ len ≤ 96 ⌝ }
-    ensures { λ r. ⌜ now (line .exit) ≡ sets (now (line .entry)) len (take (min (length (now (more .entry))) (96 - len)) (now (more .entry))) ⌝ }
-    ensures { λ r. ⌜ r ≡ len + min (length (now (more .entry))) (96 - len) ⌝ }
-    ensures { λ r. ⌜ r ≤ 96 ⌝ }
-    ensures { λ r. ⌜ length (now (line .entry)) ≡ 96 ⌝ }
+// What is kept of a line that has not ended: its first bytes, as many as there is room for.
+fn keep(line: &mut [u8; LINE], text: &[u8]) -> usize
+    ensures { λ r. ⌜ take r (now (line .exit)) ≡ cut (now (text .entry)) ⌝ }
+    ensures { λ r. ⌜ r ≤ kept ⌝ }
+    ensures { λ r. ⌜ length (now (line .exit)) ≡ kept ⌝ }
 {
-    let n = least(more.len(), LONGEST - len);
-    text::copy(line, len, &more[0..n])
+    let n = least(text.len(), LINE);
+    text::copy(line, 0, &text[0..n])
 }
 
-// Writes the first n bytes, and answers whether the run goes on. After a write that failed nothing
-// more is written, so that what came out is never without its middle.
-fn write_front(out: &[u8], n: usize, going: bool) -> bool
-    requires { ⌜ n ≤ length (now out) ⌝ }
+// A line has ended: it is entered, and what it prints goes behind what is printed already.
+fn enter(state: State, text: &[u8], store: &mut [u8], out: &mut [u8]) -> State
+    requires { ⌜ state .used + longestPrint ≤ length (now out) ⌝ }
+    ensures { λ r. ⌜ r .card ≡ entered (state .card) (now (text .entry)) (now (store .entry)) .card ⌝ }
+    ensures { λ r. ⌜ now (store .exit) ≡ entered (state .card) (now (text .entry)) (now (store .entry)) .store ⌝ }
+    ensures { λ r. ⌜ take (r .used) (now (out .exit)) ≡ take (state .used) (now (out .entry)) ++ entered (state .card) (now (text .entry)) (now (store .entry)) .printed ⌝ }
+    ensures { λ r. ⌜ r .used ≤ state .used + longestPrint ⌝ }
 {
-    if !going {
-        return false;
-    }
-    io::write_all(STDOUT_FILENO, &out[0..n])
-}
-
-fn flush(run: Run, out: &[u8; 65536]) -> Run
-    requires { ⌜ run .used ≤ 65536 ⌝ }
-    ensures { λ r. ⌜ r .card ≡ run .card ⌝ }
-    ensures { λ r. ⌜ r .len ≡ run .len ⌝ }
-    ensures { λ r. ⌜ r .used ≡ 0 ⌝ }
-{
-    let used = run.used;
-    let card = run.card;
-    let going = write_front(out, used, run.going);
-    Run {
-        card: card,
-        len: run.len,
-        used: 0,
-        going: going,
-    }
-}
-
-// The output's size, which is that of a block.
-fn size(out: &[u8; 65536]) -> usize
-    ensures { λ n. ⌜ (n ≡ 65536) × (length (now (out .entry)) ≡ 65536) ⌝ }
-{
-    let bytes: &[u8] = out;
-    bytes.len()
-}
-
-// Makes room for what one line prints.
-fn make_room(run: Run, out: &[u8; 65536]) -> Run
-    requires { ⌜ run .used ≤ 65536 ⌝ }
-    ensures { λ r. ⌜ r .card ≡ run .card ⌝ }
-    ensures { λ r. ⌜ r .len ≡ run .len ⌝ }
-    ensures { λ r. ⌜ take (r .used) (now (out .entry)) ≡ held (take (run .used) (now (out .entry))) ⌝ }
-    ensures { λ r. ⌜ r .used + longestPrint ≤ 65536 ⌝ }
-{
-    if run.used <= size(out) - ROOM {
-        return run;
-    }
-    flush(run, out)
-}
-
-// Enters the first `len` bytes of a line; what they print goes to the output from `used` on.
-fn enter_at(
-    card: Card,
-    line: &[u8],
-    len: usize,
-    store: &mut [u8],
-    out: &mut [u8],
-    used: usize,
-) -> Entered
-    requires { ⌜ len ≤ length (now line) ⌝ }
-    requires { ⌜ used + longestPrint ≤ length (now out) ⌝ }
-    ensures { λ r. ⌜ r .card ≡ entered card (take len (now (line .entry))) (now (store .entry)) .card ⌝ }
-    ensures { λ r. ⌜ now (store .exit) ≡ entered card (take len (now (line .entry))) (now (store .entry)) .store ⌝ }
-    ensures { λ r. ⌜ take (used + r .len) (now (out .exit)) ≡ take used (now (out .entry)) ++ entered card (take len (now (line .entry))) (now (store .entry)) .printed ⌝ }
-    ensures { λ r. ⌜ r .len ≤ longestPrint ⌝ }
-{
-    console::enter(card, &line[0..len], store, &mut out[used..])
-}
-
-// A line has ended.
-fn enter(run: Run, line: &[u8; 96], store: &mut [u8; 276], out: &mut [u8; 65536]) -> Run
-    requires { ⌜ run .len ≤ 96 ⌝ }
-    requires { ⌜ run .used ≤ 65536 ⌝ }
-    ensures { λ r. ⌜ courseOf r (now (store .exit)) (now (line .entry)) (now (out .exit)) ≡ ended (courseOf run (now (store .entry)) (now (line .entry)) (now (out .entry))) ⌝ }
-    ensures { λ r. ⌜ r .len ≡ 0 ⌝ }
-    ensures { λ r. ⌜ r .used ≤ 65536 ⌝ }
-{
-    let r = make_room(run, out);
-    let card = r.card;
-    let len = r.len;
-    let used = r.used;
-    let entered = enter_at(card, line, len, store, out, used);
+    let card = state.card;
+    let used = state.used;
+    let entered = console::enter(card, text, store, &mut out[used..]);
     let next = entered.card;
-    Run {
+    State {
         card: next,
         len: 0,
         used: used + entered.len,
-        going: r.going,
     }
 }
 
-// A part of a line, which ends with it or not.
-fn take_part(
-    run: Run,
-    part: &[u8],
-    ends: bool,
-    line: &mut [u8; 96],
-    store: &mut [u8; 276],
-    out: &mut [u8; 65536],
-) -> Run
-    requires { ⌜ run .len ≤ 96 ⌝ }
-    requires { ⌜ run .used ≤ 65536 ⌝ }
-    ensures { λ r. ⌜ courseOf r (now (store .exit)) (now (line .exit)) (now (out .exit)) ≡ cond ends (ended (keptOf (longer (courseOf run (now (store .entry)) (now (line .entry)) (now (out .entry))) (now (part .entry))))) (keptOf (longer (courseOf run (now (store .entry)) (now (line .entry)) (now (out .entry))) (now (part .entry)))) ⌝ }
-    ensures { λ r. ⌜ r .len ≤ 96 ⌝ }
-    ensures { λ r. ⌜ r .used ≤ 65536 ⌝ }
-{
-    let card = run.card;
-    let len = add(line, run.len, part);
-    let r = Run {
-        card: card,
-        len: len,
-        used: run.used,
-        going: run.going,
-    };
-    if !ends {
-        return r;
-    }
-    enter(r, line, store, out)
-}
-
-// The n bytes of a block of input.
+// The bytes of a block from the unfinished line's end up to n. Each line that ends is entered where
+// it lies, and what is left is kept.
 fn take_block(
-    run: Run,
+    state: State,
     block: &[u8],
     n: usize,
-    line: &mut [u8; 96],
-    store: &mut [u8; 276],
-    out: &mut [u8; 65536],
-) -> Run
+    line: &mut [u8; LINE],
+    store: &mut [u8; STORE],
+    out: &mut [u8; OUTPUT],
+) -> State
+    requires { ⌜ state .len ≤ n ⌝ }
     requires { ⌜ n ≤ length (now block) ⌝ }
-    requires { ⌜ run .len ≤ 96 ⌝ }
-    requires { ⌜ run .used ≤ 65536 ⌝ }
-    ensures { λ r. ⌜ courseOf r (now (store .exit)) (now (line .exit)) (now (out .exit)) ≡ keptOf (takesAll (courseOf run (now (store .entry)) (now (line .entry)) (now (out .entry))) (take n (now (block .entry)))) ⌝ }
-    ensures { λ r. ⌜ r .len ≤ 96 ⌝ }
-    ensures { λ r. ⌜ r .used ≤ 65536 ⌝ }
+    requires { ⌜ state .used + longestPrint * (n - state .len) ≤ outputLength ⌝ }
+    ensures { λ r. ⌜ stateOf r (now (store .exit)) (now (line .exit)) (now (out .exit)) ≡ keptOf (takesAll (stateOf state (now (store .entry)) (now (block .entry)) (now (out .entry))) (part (state .len) n (now (block .entry)))) ⌝ }
+    ensures { λ r. ⌜ r .len ≤ kept ⌝ }
+    ensures { λ r. ⌜ length (now (line .exit)) ≡ kept ⌝ }
+    ensures { λ r. ⌜ r .used ≤ state .used + longestPrint * (n - state .len) ⌝ }
 {
-    let mut r = run;
-    let mut at: usize = 0;
-    while at < n {
-        let end = line_end(block, at, n);
-        r = take_part(r, &block[at..end], end < n, line, store, out);
-        at = end + 1;
+    let mut s = state;
+    let mut start: usize = 0;
+    let mut end = line_end(block, state.len, n);
+    while end < n {
+        s = enter(s, &block[start..end], store, out);
+        start = end + 1;
+        end = line_end(block, start, n);
     }
-    r
-}
-
-// The end of the input, or a read that failed: what has been printed is written already.
-fn stop(run: Run) -> Run
-    ensures { λ r. ⌜ r .card ≡ run .card ⌝ }
-    ensures { λ r. ⌜ r .len ≡ run .len ⌝ }
-    ensures { λ r. ⌜ r .used ≡ run .used ⌝ }
-{
-    let card = run.card;
-    Run {
+    let card = s.card;
+    let rest = keep(line, &block[start..n]);
+    State {
         card: card,
-        len: run.len,
-        used: run.used,
-        going: false,
+        len: rest,
+        used: s.used,
     }
 }
 
-// One read, and what its lines print.
+// One read, to a place of a block. Where it fails, it gives no bytes.
+fn read_at(input: i32, block: &mut [u8], at: usize) -> usize
+    requires { ⌜ at + blockLength ≤ length (now block) ⌝ }
+    ensures { λ r. ⌜ r ≤ blockLength ⌝ }
+    ensures { λ r. ⌜ take at (now (block .exit)) ≡ take at (now (block .entry)) ⌝ }
+{
+    let part = &mut block[at..at + BLOCK];
+    let got = libc::read(input, part);
+    io::count(got, part)
+}
+
+// One read, behind the first `len` bytes of a line.
+fn read_behind(input: i32, block: &mut [u8], line: &[u8], len: usize) -> usize
+    requires { ⌜ len ≤ length (now line) ⌝ }
+    requires { ⌜ len + blockLength ≤ length (now block) ⌝ }
+    ensures { λ r. ⌜ r ≤ blockLength ⌝ }
+    ensures { λ r. ⌜ take len (now (block .exit)) ≡ take len (now (line .entry)) ⌝ }
+{
+    text::copy(block, 0, &line[0..len]);
+    read_at(input, block, len)
+}
+
+// One write, of the first `used` bytes.
+fn write_front(out: &[u8], used: usize) -> Written
+    requires { ⌜ used ≤ length (now out) ⌝ }
+    ensures { λ r. ⌜ r .used ≡ used ⌝ }
+    ensures { λ r. ⌜ r .used ≤ length (now (out .entry)) ⌝ }
+{
+    let wrote = io::write_all(STDOUT_FILENO, &out[0..used]);
+    Written {
+        used: used,
+        wrote: wrote,
+    }
+}
+
+// One read, and what its lines print. After a write that failed nothing more is written, so that
+// what came out is never without its middle.
 fn turn(
     run: Run,
     input: i32,
-    block: &mut [u8; 65536],
-    line: &mut [u8; 96],
-    store: &mut [u8; 276],
-    out: &mut [u8; 65536],
+    block: &mut [u8; BUFFER],
+    line: &mut [u8; LINE],
+    store: &mut [u8; STORE],
+    out: &mut [u8; OUTPUT],
 ) -> Run
-    requires { ⌜ run .len ≤ 96 ⌝ }
-    requires { ⌜ run .used ≤ 65536 ⌝ }
-    ensures { λ r. ⌜ r .len ≤ 96 ⌝ }
-    ensures { λ r. ⌜ r .used ≤ 65536 ⌝ }
+    requires { ⌜ run .len ≤ kept ⌝ }
+    requires { ⌜ length (now line) ≡ kept ⌝ }
+    requires { ⌜ 0 < run .left ⌝ }
+    requires { ⌜ Counted run ⌝ }
+    ensures { λ r. ⌜ r .got ≤ blockLength ⌝ }
+    ensures { λ r. ⌜ runStateOf r (now (store .exit)) (now (line .exit)) (now (out .exit)) ≡ keptOf (takesAll (flushed (runStateOf run (now (store .entry)) (now (line .entry)) (now (out .entry)))) (part (run .len) (run .len + r .got) (now (block .exit)))) ⌝ }
+    ensures { λ r. ⌜ r .going ≡ (ltb 0 (r .got) && r .wrote) ⌝ }
+    ensures { λ r. ⌜ r .len ≤ kept ⌝ }
+    ensures { λ r. ⌜ length (now (line .exit)) ≡ kept ⌝ }
+    ensures { λ r. ⌜ r .taken ≡ run .taken + r .got ⌝ }
+    ensures { λ r. ⌜ r .printed ≡ run .printed + r .used ⌝ }
+    ensures { λ r. ⌜ r .left + 1 ≡ run .left ⌝ }
+    ensures { λ r. ⌜ Counted r ⌝ }
+    ensures { λ r. ⌜ run .len + r .got ≤ length (now (block .exit)) ⌝ }
+    ensures { λ r. ⌜ r .used ≤ length (now (out .exit)) ⌝ }
 {
-    let got = libc::read(input, block);
-    if got <= 0 {
-        return stop(run);
+    let card = run.card;
+    let len = run.len;
+    let s = State {
+        card: card,
+        len: len,
+        used: 0,
+    };
+    let got = read_behind(input, block, line, len);
+    let next = take_block(s, block, len + got, line, store, out);
+    let written = write_front(out, next.used);
+    let after = next.card;
+    Run {
+        card: after,
+        len: next.len,
+        got: got,
+        used: written.used,
+        wrote: written.wrote,
+        going: (got > 0) & written.wrote,
+        taken: run.taken + got as u64,
+        printed: run.printed + written.used as u64,
+        left: run.left - 1,
     }
-    let n = io::count(got, block);
-    let r = take_block(run, block, n, line, store, out);
-    flush(r, out)
 }
 
 fn start() -> Run
     ensures { λ r. ⌜ r .card ≡ fresh ⌝ }
     ensures { λ r. ⌜ r .len ≡ 0 ⌝ }
-    ensures { λ r. ⌜ r .used ≡ 0 ⌝ }
+    ensures { λ r. ⌜ r .going ≡ true ⌝ }
+    ensures { λ r. ⌜ (r .taken ≡ 0) × (r .printed ≡ 0) × (r .left ≡ mostReads) ⌝ }
 {
     let card = card::card::fresh();
     Run {
         card: card,
         len: 0,
+        got: 0,
         used: 0,
+        wrote: true,
         going: true,
+        taken: 0,
+        printed: 0,
+        left: READS,
     }
 }
 
 // A fresh card and a store of zeros, fed with the lines of an input to its end.
-//
-// A proved loop has to end, and nothing says that the input does. So the loop counts its reads down
-// from a number that no run uses up.
-pub fn run_from(input: i32) {
-    let mut block = io::large_buffer();
+pub fn run_from(input: i32) -> Run
+    ensures { λ r. ⌜ ((bytes : List ℕ) × Ran r bytes) ⌝ }
+    ensures { λ r. ⌜ r .left < mostReads ⌝ }
+    ensures { λ r. ⌜ r .going ≡ (ltb 0 (r .got) && r .wrote) ⌝ }
+    ensures { λ r. ⌜ (r .going ≡ true → r .left ≡ 0) ⌝ }
+{
+    let mut block = [0u8; BUFFER];
     let mut out = io::large_buffer();
-    let mut line = [0u8; 96];
-    let mut store = [0u8; 276];
+    let mut line = [0u8; LINE];
+    let mut store = [0u8; STORE];
     let mut r = start();
-    let mut turns = u64::MAX;
-    while turns > 0 && r.going {
+    while r.left > 0 && r.going {
         r = turn(r, input, &mut block, &mut line, &mut store, &mut out);
-        turns -= 1;
     }
+    r
 }

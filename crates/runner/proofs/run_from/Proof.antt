@@ -1,44 +1,84 @@
--- `runner::run_from` is safe and ends: the measure is the number of reads that are left.
-use Prim.Native.Nat.{_≤_}
+-- `runner::run_from` meets its contract: the invariant says where the run stands between two turns, and the measure is the number of reads that are left.
+use Prim.Native.Nat.{_+_, _<_}
+use mathlib.Core.Path.{_≡_, refl}
+use mathlib.Core.Bool.{true}
+use native.Mathlib.Omega.{arith}
+use lib.Seq.{length-take-le}
+use Rattle.runner.specs.Run.{part, mostReads, runStateOf}
+use Rattle.runner.proofs.Runs.{part-length}
+use Rattle.runner.proofs.Turns.{reached-start, reached-turn, Underway, ran, has-read}
 use borrow.Author.Needs.{needs}
 use Rattle.runner.proofs.run_from.Statement.{statement}
 use Rattle.runner.proofs.run_from.Tie as tie
 
 abbrev Inv-loop : tie.InvT-loop
-Inv-loop input block₀ out₀ line₀ store₀ r₀ turns₀ block out line store r turns = (r .len ≤ 96) × (r .used ≤ 65536)
+Inv-loop input block₀ out₀ line₀ store₀ r₀ block out line store r = Underway r store line out
 
 abbrev μ-loop : tie.MeasureT-loop
-μ-loop input block₀ out₀ line₀ store₀ r₀ turns₀ block out line store r turns = turns
+μ-loop input block₀ out₀ line₀ store₀ r₀ block out line store r = r .left
 
 large-buffer-requires : tie.Need-large-buffer-requires Inv-loop μ-loop
 large-buffer-requires c κs = search needs
-
-large-buffer-requires-2 : tie.Need-large-buffer-requires-2 Inv-loop μ-loop
-large-buffer-requires-2 c κs = search needs
 
 start-requires : tie.Need-start-requires Inv-loop μ-loop
 start-requires c κs = search needs
 
 loop-holds : tie.Need-loop-holds Inv-loop μ-loop
-loop-holds c = search needs
+loop-holds c =
+    let s = c .start .ensures in
+    let n = s .1 .1 .1 in
+    record {
+      short = omega (arith, s .1 .0);
+      whole = refl;
+      counted = record { by-reads = omega (arith, n); by-bytes = omega (arith, n) };
+      reached = reached-start (c .start .result) _ _ (s .0) (s .1 .0) (n .0) (n .1);
+      first = λ _. s .1 .1 .0;
+      later = λ h. absurd (omega (arith, n, h));
+    }
 
 turn-requires : tie.Need-turn-requires Inv-loop μ-loop
-turn-requires c κs = search needs
-
-sub-turns : tie.Need-sub-turns Inv-loop μ-loop
-sub-turns c = search needs
+turn-requires c κs =
+    let u = c .before .before .before .before .before .before .before .loop .inv in
+    (u .short, (u .whole, (c .before .before .before .before .before .if1 .taken, u .counted)))
 
 loop-less : tie.Need-loop-less Inv-loop μ-loop
-loop-less c = search needs
+loop-less c = let t = c .turn .ensures .1 .1 .1 .1 .1 .1 .1 in omega (arith, t .0)
 
 loop-again : tie.Need-loop-again Inv-loop μ-loop
-loop-again c = search needs
+loop-again c =
+    let l = c .before .before .before .before .before .before .before .before .loop in
+    let u = l .inv in
+    let e = c .turn .ensures in
+    let totals = e .1 .1 .1 .1 .1 in
+    let left = totals .1 .1 .0 in
+    let fronts = totals .1 .1 .1 .1 in
+    let less : c .turn .result .left < mostReads = omega (arith, left, u .counted .by-reads) in
+    let block = c .turn .last .1 .1 .0 in
+    let q = c .turn .result in
+    let bytes = part-length block (l .r .len) (l .r .len + q .got) (fronts .0) in
+    let printed = length-take-le (q .used) (c .turn .last .1 .1 .1 .1 .1 .0) (fronts .1) in
+    record {
+      short = e .1 .1 .1 .0;
+      whole = e .1 .1 .1 .1 .0;
+      counted = totals .1 .1 .1 .0;
+      reached =
+          reached-turn (runStateOf (l .r) (l .store) (l .line) (l .out)) _ (part (l .r .len) (l .r .len + q .got) block) (l .r .taken) (l .r .printed) _ _
+          (u .reached) (e .1 .0) (omega (arith, totals .0, bytes)) (omega (arith, totals .1 .0, printed));
+      first = λ h. absurd (omega (arith, h, less));
+      later = λ _. e .1 .1 .0;
+    }
 
 returns : tie.Need-returns Inv-loop μ-loop
-returns c = search needs
+returns c =
+    let u = c .before .before .before .loop .inv in
+    let over : c .before .before .before .loop .r .going ≡ true → c .before .before .before .loop .r .left ≡ 0 = λ h. cc (c .if2 .left) in
+    (ran u, (has-read u over, (u .later (has-read u over), over)))
 
 returns-2 : tie.Need-returns-2 Inv-loop μ-loop
-returns-2 c = search needs
+returns-2 c =
+    let u = c .before .before .loop .inv in
+    let over : c .before .before .loop .r .going ≡ true → c .before .before .loop .r .left ≡ 0 = λ h. omega (arith, c .if1 .left) in
+    (ran u, (has-read u over, (u .later (has-read u over), over)))
 
 pub run-from-spec : {M : Type 1} → statement M
 run-from-spec =
@@ -47,11 +87,9 @@ run-from-spec =
     Inv-loop
     μ-loop
     large-buffer-requires
-    large-buffer-requires-2
     start-requires
     loop-holds
     turn-requires
-    sub-turns
     loop-less
     loop-again
     returns
