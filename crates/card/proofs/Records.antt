@@ -3,11 +3,11 @@
 use Prim.Native.Nat.{ℕ, suc, _+_, _*_, _^_, _≤_, _<_}
 use mathlib.Core.Path.{_≡_, refl, sym, ap, _∙_}
 use mathlib.Core.Bool.{Bool, true, false, not, _&&_, cond}
-use mathlib.Core.List.{List, [], _∷_, _++_, map, append-assoc}
+use mathlib.Core.List.{List, [], _∷_, _++_, map, append-assoc, append-nil}
 use native.Mathlib.Nat.{zero-add, le-of-lt, lt-of-le-of-lt, le-trans, mul-le-mul-right}
 use native.Mathlib.Omega.{arith}
 use lib.Dec.{leb, eqb, lit<}
-use lib.ListN.{length, getD, take, drop, length-append, length-map, List·getD-append, List·getD-map}
+use lib.ListN.{length, getD, take, drop, length-append, length-map, drop-of-length-le, List·getD-append, List·getD-map}
 use lib.Seq.{take-at, drop-at, drop-drop, drop-append-le, getD-drop, getD-append-add, ext-getD, sets-eq}
 use borrow.Author.Tests.{le-ltb, leb-true, eqb-true}
 use Rattle.words.proofs.Listed.{length-listed, listed-at}
@@ -312,6 +312,14 @@ saved-front n width c store ok room =
     let sized = valid-length n width c ok in
     rw (le-ltb (length store) (recordLength n width) room)
     (sets-eq (recordOf width c) store 0 (omega arith) ∙ ap (λ (k : ℕ). recordOf width c ++ drop k store) (zero-add (length (recordOf width c)) ∙ sized))
+
+-- a store of just that length holds the record and no more
+pub saved-whole : (n width : ℕ) (c : Card) (store : List ℕ) → validCard n c ≡ true → length store ≡ recordLength n width
+    → savedTo n width c store ≡ recordOf width c
+saved-whole n width c store ok e =
+    saved-front n width c store ok (omega arith)
+    ∙ ap (λ (l : List ℕ). recordOf width c ++ l) (drop-of-length-le store {i = recordLength n width} (omega arith))
+    ∙ append-nil (recordOf width c)
 
 -- the record of a valid card is accepted, and gives its settings
 module _ (n width : ℕ) (wide : largestConfig < 256 ^ width) (c : Card) (ok : validCard n c ≡ true) where
