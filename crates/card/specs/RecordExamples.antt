@@ -72,7 +72,7 @@ whole =
     ++ (3 ∷ 0 ∷ 3 ∷ 47 ∷ 0 ∷ 0 ∷ [])
     ++ (3 ∷ 0 ∷ 3 ∷ 48 ∷ 1 ∷ 74 ∷ [])
 
--- bytes of it from one place to before another
+-- some of its bytes, from a place on
 part : ℕ → ℕ → List ℕ
 part from count = take count (drop from whole)
 
@@ -141,7 +141,7 @@ table =
     ∷ (with ((42, 1) ∷ (43, 0) ∷ []), 15 ∷ [])
     ∷ (with ((65, 1) ∷ []), 15 ∷ [])
     ∷ (with ((20, 1) ∷ []), 15 ∷ [])
-    -- 15: "unused slot .. not 0", Z of AND2 and X of a constant
+    -- 15: "unused slot ... not 0", Z of AND2 and X of a constant
     ∷ (with ((68, 1) ∷ []), 15 ∷ [])
     ∷ (with ((11, 64) ∷ []), 15 ∷ [])
     -- 15: "edge slot under 128", the clock of a D-flop and of JK, the triggers of types 8 and 16; 128 itself is allowed

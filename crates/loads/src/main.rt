@@ -1,4 +1,5 @@
-// Loads records into fresh cards: a row of standard input is a record in small hex digits, two a byte, or `-` for one of no bytes, and ends with LF.
+// Loads records into fresh cards: a row of standard input is a record in small hex digits, two a byte, and ends with LF. `-`, or a row of no digits, is a
+// record of no bytes.
 //
 // Each row prints `K SAVED`: the number of the load, 0 where it is accepted, and the record that a save of the loaded card writes, in hex, `-` where
 // the load was refused. A row of another form, or of more than 1100 digits, prints `?`. Bytes after the last LF are dropped.
@@ -6,7 +7,7 @@
 // The program takes constant memory, whatever the input. What a row prints is a definition, `printed`; no contract can say what is read or written.
 ghost use mathlib.Core.Bool.{true};
 ghost use mathlib.Core.Path.{_≡_};
-ghost use Prim.Native.Nat.{_+_, _*_, _/_, _≤_};
+ghost use Prim.Native.Nat.{_+_, _*_, _≤_};
 ghost use lib.ListN.{length, take};
 ghost use lib.Seq.{sets};
 ghost use Rattle.text.specs.Digits.{every};
