@@ -1,4 +1,4 @@
--- Laws of a run: what the buffers hold, and the bytes of a block part by part.
+-- Laws of a run: what the buffers hold, a line that is cut, and the bytes of a block line by line.
 use Prim.Native.Nat.{ℕ, suc, _+_, _-_, _≤_, _<_, min}
 use mathlib.Core.Path.{_≡_, refl, sym, ap, ap₂, _∙_}
 use mathlib.Core.Bool.{Bool, true, false, cond}
@@ -152,10 +152,10 @@ abbrev pub inBlock : State → (block store out : List ℕ) → (start end : ℕ
 inBlock s block store out start end = record { card = s .card; store = store; line = part start end block; printed = take (s .used) out }
 
 -- the first line, which may have begun in an earlier block
-pub first-line : (s : State) (block store out : List ℕ) (end : ℕ) → s .len ≤ end → end ≤ length block
+pub first-line : (s : State) (block store out : List ℕ) (end : ℕ) → s .len ≤ end
     → ((k : ℕ) → k < end → s .len ≤ k → getD block k 0 ≡ 10 → ⊥)
     → inBlock s block store out 0 end ≡ takesAll (stateOf s store block out) (part (s .len) end block)
-first-line s block store out end h k none =
+first-line s block store out end h none =
     let len : s .len - 0 ≡ s .len = omega arith in
     let line : part 0 end block ≡ take (s .len) block ++ part (s .len) end block =
     part-append block 0 (s .len) end (omega arith) h ∙ ap (λ (n : ℕ). take n block ++ part (s .len) end block) len in

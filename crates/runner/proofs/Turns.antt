@@ -12,7 +12,8 @@ use Rattle.card.specs.Address.{cellCount}
 use Rattle.card.specs.Fresh.{fresh}
 use Rattle.card.specs.Record.{configWidth, recordLength}
 use Rattle.console.specs.Console.{longestPrint, Entry, entered}
-use Rattle.runner.specs.Run.{RunState, startState, ended, longer, takes, takesAll, kept, keptOf, flushed, blockLength, mostReads, runStateOf, Counted, Ran}
+use Rattle.runner.specs.Run.{RunState, startState, ended, longer, takes, takesAll, kept, keptOf, flushed}
+use Rattle.runner.specs.Run.{blockLength, mostReads, runStateOf, Counted, Ran}
 use Rattle.runner.specs.declared.Run.{Run}
 use Rattle.runner.proofs.Runs.{block-by-block}
 

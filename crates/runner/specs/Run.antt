@@ -76,7 +76,7 @@ abbrev pub stateOf : State → (store line out : List ℕ) → RunState
 stateOf s store line out = record { card = s .card; store = store; line = take (s .len) line; printed = take (s .used) out }
 
 abbrev pub runStateOf : Run → (store line out : List ℕ) → RunState
-runStateOf r store line out = record { card = r .card; store = store; line = take (r .len) line; printed = take (r .used) out }
+runStateOf r = stateOf (record { card = r .card; len = r .len; used = r .used })
 
 -- what was printed has been handed to write
 abbrev pub flushed : RunState → RunState

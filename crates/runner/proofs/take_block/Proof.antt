@@ -29,14 +29,13 @@ line-end-requires c κs = search needs
 loop-holds : tie.Need-loop-holds Inv-loop μ-loop
 loop-holds c =
     let a = c .before .before .args in
-    let f = c .line-end .ensures in
-    let fits : c .line-end .result ≤ length (a .block .now) = omega (arith, f .1 .0) in (
+    let f = c .line-end .ensures in (
       omega arith,
       f .0,
       f .1 .0,
       f .1 .1 .1,
       omega arith,
-      first-line (a .state) (a .block .now) (a .store .now) (a .out .now) (c .line-end .result) (f .0) fits (f .1 .1 .0),
+      first-line (a .state) (a .block .now) (a .store .now) (a .out .now) (c .line-end .result) (f .0) (f .1 .1 .0),
     )
 
 sub-enter : tie.Need-sub-enter Inv-loop μ-loop
