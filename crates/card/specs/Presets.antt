@@ -102,7 +102,7 @@ cellPresets =
     ∷ sets 36 ((10, and2 8 64) ∷ [])
     ∷ []
 
--- "13: cell 12 type 3 code 168 (44, 10, 1), BNC4 from 12. 31: AND4 6 for BNC5, 7 and 7 for BNC6, 8"
+-- "13: cell 12 type 3 code 168 (44, 10, 1), BNC4 from 12. 31: AND4 6 ... for BNC5, 7 and 7 ... for BNC6, 8"
 abbrev pub mixedPresets : List Entry
 mixedPresets =
     (13, record { cells = (12, lookup3 168 44 10 1) ∷ []; sources = (4, 12) ∷ [] })

@@ -108,8 +108,8 @@ sameBytes [] (b ∷ bs) = false
 sameBytes (a ∷ s) [] = false
 sameBytes (a ∷ s) (b ∷ bs) = eqb a b && sameBytes s bs
 
--- "14: record not 276 bytes; a field's length, tag, or a cell number or connector address out of order": the settings read out of the bytes,
--- written again, are not these bytes; byte by byte in specs/Headers. "15: record value no line could set" and what else `valid` says
+-- 14: "record not 276 bytes; a field's length, tag, or a cell number or connector address out of order": the settings read out of the bytes,
+-- written again, are not these bytes; byte by byte in specs/Headers. 15: "record value no line could set" and what else `valid` says
 unfoldable pub loadNumber : ℕ → ℕ → List ℕ → ℕ
 loadNumber n width bytes =
     cond (sameBytes (encode width (triggerIn bytes) (cellsIn n width bytes) (connectorsIn n width bytes)) bytes)

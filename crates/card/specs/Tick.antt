@@ -130,7 +130,7 @@ readIn n full c sample i s =
     let w = wiresOf c (lines n c sample .levels) in
     readNow n i w (outputsBelow n full (c .cells) (c .edited) w i) s
 
--- "driven word, cell word, woken set, and the number of ones in that set"
+-- "driven word ..., cell word ..., woken set ..., and the number of ones in that set"
 abbrev pub answerOf : Lines → Turned → Answer
 answerOf l t = record { ran = true; driven = l .driven; cells = t .outputs; woken = t .woken; count = ones (t .woken) }
 

@@ -17,7 +17,7 @@ use Rattle.console.specs.declared.TickLine.{TickLine}
 
 -- ---- a tick
 
--- "`T c w F` or `T c w Q` (clock, one digit 0-9; sample, four hex digits, letters small; full or quick)"
+-- "`T c w F` or `T c w Q` (clock, one digit 0-9; sample, four hex digits, letters small ...; full or quick)"
 abbrev pub tickHead : List ℕ → Bool
 tickHead t = (eqb (getD t 0 0) 84 && eqb (getD t 1 0) 32) && (isDigit (getD t 2 0) && eqb (getD t 3 0) 32)
 

@@ -22,8 +22,8 @@ pub data SameCalls : List Call → List Call → Type 0 where
   no-calls : SameCalls [] []
   more-calls : {a b : Call} {s t : List Call} → SameCall a b → SameCalls s t → SameCalls (a ∷ s) (b ∷ t)
 
--- "At each call: of a line k, the reply's length and bytes, and the bytes that `36SS Z` wrote; of a load k; of a tick whether it ran, driven
--- word and cell word"
+-- "At each call: of a line k, the reply's length and bytes, and the bytes that `36SS Z` wrote; of a load k; of a tick whether it ran
+-- ..., driven word and cell word"
 pub data AlikeReply : Reply → Reply → Type 0 where
   alike-line : (k : ℕ) (reply saved : List ℕ) → AlikeReply (lineReply k reply saved) (lineReply k reply saved)
   alike-load : (k : ℕ) → AlikeReply (loadReply k) (loadReply k)
@@ -33,7 +33,7 @@ pub data AlikeReplies : List Reply → List Reply → Type 0 where
   no-replies : AlikeReplies [] []
   more-replies : {a b : Reply} {s t : List Reply} → AlikeReply a b → AlikeReplies s t → AlikeReplies (a ∷ s) (b ∷ t)
 
--- "Compared after the list: pointer; settings; states; outputs, levels and driven word": the whole cards are equal
+-- "Compared after the list: pointer; settings ...; states ...; outputs, levels and driven word": the whole cards are equal
 unfoldable pub Demand3 : Type 0
 Demand3 = (calls others : List Call) → SameCalls calls others
     → (end fresh calls ≡ end fresh others) × AlikeReplies (answers fresh calls) (answers fresh others)

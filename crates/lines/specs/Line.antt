@@ -116,13 +116,13 @@ decision n x store command = decided (refusal n x store command) (changeFor x co
 abbrev pub refused : ℕ → Decision
 refused k = record { k = k; change = Changes.Nothing; response = silent }
 
--- "2: line of another form or length", "3: two digits, not 36, before a card command"
+-- 2: "line of another form or length", 3: "two digits, not 36, before a card command"
 unfoldable pub decisionFor : ℕ → Context → ℕ → Parsed → Decision
 decisionFor n x store Malformed = refused 2
 decisionFor n x store Elsewhere = refused 3
 decisionFor n x store (Here command) = decision n x store command
 
--- "1: reply under 16 bytes"
+-- 1: "reply under 16 bytes"
 abbrev pub shortestReply : ℕ
 shortestReply = 16
 
