@@ -6,6 +6,7 @@ pub mod Outcomes
 pub mod Printed
 pub mod Reached
 pub mod Replies
+pub mod Said
 pub mod Settable
 pub mod Wired
 pub mod Words
