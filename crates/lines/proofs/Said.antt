@@ -8,7 +8,6 @@ use lib.ListN.{length}
 use borrow.Author.Tests.{lt-ltb}
 use Rattle.text.specs.Decimal.{isDigit, numberAt, maxDigits}
 use Rattle.text.proofs.DecimalLaws.{at-below}
-use Rattle.cells.proofs.Rows.{and-right}
 use Rattle.lines.specs.declared.grammar.Pairs.{Pairs}
 use Rattle.lines.specs.declared.grammar.Ending.{Ending}
 use Rattle.lines.specs.declared.grammar.Reading.{Reading}
@@ -18,7 +17,7 @@ use Rattle.lines.specs.declared.grammar.Command.{Command}
 use Rattle.lines.specs.declared.grammar.Command.the-variants.{Move, Where, Trigger, Home, Preset, SetKind, SetConfig, SetState, GetKind, GetConfig, GetState, SetSlots, GetSlot, Front, Back, Cells, Save}
 use Rattle.lines.specs.declared.grammar.Parsed.{Parsed}
 use Rattle.lines.specs.declared.grammar.Parsed.the-variants.{Malformed, Elsewhere, Here}
-use Rattle.lines.specs.Grammar.{byteAt, isWord, isWhole, toEnd, slotOf, give, begun, isPair, stepped, anySlot, finished, pairsOf, writeOf, ccaWrite, ccaRead, ccaForm, slotForm, ccbForm, readOf, readForm, cardForm, numbered, plainForm, addressed, longestLine, parse, equals, query, blank, CCA, CCB, RDADC, SS-Z, M-E=, PM-E=, W-E, HOME-E, !-E}
+use Rattle.lines.specs.Grammar.{byteAt, isWord, isWhole, toEnd, slotOf, give, begun, isPair, stepped, anySlot, finished, pairsOf, writeOf, ccaWrite, ccaRead, ccaForm, slotForm, ccbForm, readOf, readForm, cardForm, plainForm, addressed, longestLine, parse, equals, query, blank, CCA, CCB, RDADC, SS-Z, M-E=, PM-E=, W-E, HOME-E, !-E}
 use Rattle.lines.specs.Wiring.{commandText, printable, printableSlots, printableCommand}
 use Rattle.lines.proofs.Printed.{pairs-each, text-parses}
 
