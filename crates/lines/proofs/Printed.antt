@@ -23,7 +23,7 @@ use Rattle.lines.specs.declared.grammar.Command.{Command}
 use Rattle.lines.specs.declared.grammar.Command.the-variants.{Move, Where, Trigger, Home, Preset, SetKind, SetConfig, SetState, GetKind, GetConfig, GetState, SetSlots, GetSlot, Front, Back, Cells, Save}
 use Rattle.lines.specs.declared.grammar.Parsed.the-variants.{Here}
 use Rattle.lines.specs.Grammar.{byteAt, isWord, isWhole, toEnd, slotOf, noPairs, gave, give, begun, stepped, finished, pairsOf, writeOf, ccaWrite, ccaRead, ccaForm, slotForm, ccbForm, readOf, readForm, cardForm, plainForm, addressed, longestLine, parse, equals, blank, CCA, CCB, M-E=, PM-E=}
-use Rattle.lines.specs.Wiring.{letterOf, cardLine, ccaText, givenPair, givenPairs, pairsText, commandText, printable, printableSlot, printableCommand}
+use Rattle.lines.specs.Wiring.{letterOf, cardLine, ccaText, givenPair, givenPairs, pairsText, commandText, printable, printableSlot, printableSlots, printableCommand}
 
 -- ---- numbers and letters
 
@@ -218,15 +218,19 @@ unfolding ccbForm pairsText
 no-read [] = refl
 no-read (pair ∷ pairs) = refl
 
-module _ (p : Pairs) (prints : printableCommand (SetSlots p) ≡ true) where
-  each : (printableSlot (p .given .x) (p .x) ≡ true) × (printableSlot (p .given .y) (p .y) ≡ true)
-      × (printableSlot (p .given .z) (p .z) ≡ true) × (printableSlot (p .given .f) (p .f) ≡ true)
-  unfolding printableCommand
-  each = all-four _ _ _ _ (and-right (anySlot (p .given)) _ prints)
+pub pairs-each : (p : Pairs) → printableSlots p ≡ true → (printableSlot (p .given .x) (p .x) ≡ true) × (printableSlot (p .given .y) (p .y) ≡ true)
+    × (printableSlot (p .given .z) (p .z) ≡ true) × (printableSlot (p .given .f) (p .f) ≡ true)
+pairs-each p ok = all-four _ _ _ _ ok
 
+module _ (p : Pairs) (prints : printableCommand (SetSlots p) ≡ true) where
   some : anySlot (p .given) ≡ true
   unfolding printableCommand
   some = and-left (anySlot (p .given)) _ prints
+
+  each : (printableSlot (p .given .x) (p .x) ≡ true) × (printableSlot (p .given .y) (p .y) ≡ true)
+      × (printableSlot (p .given .z) (p .z) ≡ true) × (printableSlot (p .given .f) (p .f) ≡ true)
+  unfolding printableCommand
+  each = pairs-each p (and-right (anySlot (p .given)) _ prints)
 
   takes-all : Takes noPairs (givenPairs p) p
   takes-all =
@@ -299,7 +303,7 @@ text-sized Save prints = (lit≤ tt, lit≤ tt)
 
 -- what is printed reads as the command
 pub text-parses : (command : Command) → printableCommand command ≡ true → parse (commandText command) ≡ Here command
-unfolding commandText printableCommand parse isDigit byteAt addressed cardForm plainForm isWord isWhole ccaForm ccaRead ccbForm slotForm readForm readOf slotOf writeOf
+unfolding commandText printableCommand parse isDigit addressed cardForm plainForm isWord isWhole ccaForm ccaRead ccbForm slotForm readForm readOf slotOf writeOf
 text-parses (Move v) prints = move-parses v prints
 text-parses Where prints = refl
 text-parses (Trigger v) prints = trigger-parses v prints
