@@ -2,6 +2,7 @@
 //
 // `pair-a` and `pair-b` differ only in which ticks are quick, so that what they print differs only
 // in woken sets and their counts. The wirings that end in `.lines` are those of the folder examples.
+// `edge` and `late` are worked out by hand from the rules of ticks; `count-quick` and `count-full` are one counter, ticked both ways.
 // `long` is more than a buffer of input and of output: lines cut at every place by the end of a
 // block of 2048 bytes, lines of thousands of bytes, NUL bytes, and a last line without LF. Ticks,
 // pointer and loads of the store come again and again, so that a card, store or line that is lost
@@ -38,4 +39,8 @@ fn main() {
     replay(b"counter.lines");
     replay(b"readout.lines");
     replay(b"long.in");
+    replay(b"edge.in");
+    replay(b"late.in");
+    replay(b"count-quick.in");
+    replay(b"count-full.in");
 }
