@@ -2,7 +2,7 @@
 ghost use mathlib.Core.Path.{_≡_};
 ghost use Rattle.cells.specs.Work;
 ghost use Rattle.cells.specs.Work.{slotsOf, lookupOut, dFlop, syncDFlop, clearDFlop, nextCount, nextPulse, pulses};
-ghost use Rattle.cells.specs.Work.{and2, or2, xor2, and4, or4, keeping, holding, oneShot, workAs, workOut};
+ghost use Rattle.cells.specs.Work.{and2, or2, xor2, and4, or4, keeping, holding, countAfter, pulseAfter, oneShot, workAs, workOut};
 use crate::cell::Pulses;
 use crate::cell::State;
 use crate::cell::Worked;
@@ -140,11 +140,26 @@ fn hold(s: State, bit: bool) -> Worked
     }
 }
 
+// A timer's count after this tick, of duration `d`.
+fn count_after(retrigger: bool, d: Pulses, s: State, r: Slots) -> Pulses
+    ensures { λ n. ⌜ n ≡ pulses (countAfter retrigger (d .0) s r) ⌝ }
+{
+    let took = taken(retrigger, r, s.count);
+    next_count(r.z, took, r.y, d, s.count)
+}
+
+// A delay's pulse after this tick.
+fn pulse_after(retrigger: bool, d: Pulses, s: State, r: Slots) -> bool
+    ensures { λ q. ⌜ q ≡ pulseAfter retrigger (d .0) s r ⌝ }
+{
+    let took = taken(retrigger, r, s.count);
+    next_pulse(r.z, took, r.y, d, s.count, s.pulse)
+}
+
 fn one_shot(retrigger: bool, config: u16, s: State, r: Slots) -> Worked
     ensures { λ w. ⌜ w ≡ oneShot retrigger config s r ⌝ }
 {
-    let took = taken(retrigger, r, s.count);
-    let count = next_count(r.z, took, r.y, Pulses(config), s.count);
+    let count = count_after(retrigger, Pulses(config), s, r);
     let mut next = s;
     next.count = count;
     Worked {
@@ -156,9 +171,8 @@ fn one_shot(retrigger: bool, config: u16, s: State, r: Slots) -> Worked
 fn delay(retrigger: bool, config: u16, s: State, r: Slots) -> Worked
     ensures { λ w. ⌜ w ≡ Work.delay retrigger config s r ⌝ }
 {
-    let took = taken(retrigger, r, s.count);
-    let count = next_count(r.z, took, r.y, Pulses(config), s.count);
-    let pulse = next_pulse(r.z, took, r.y, Pulses(config), s.count, s.pulse);
+    let count = count_after(retrigger, Pulses(config), s, r);
+    let pulse = pulse_after(retrigger, Pulses(config), s, r);
     let mut next = s;
     next.count = count;
     next.pulse = pulse;
