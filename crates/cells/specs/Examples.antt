@@ -4,7 +4,6 @@ use mathlib.Core.Path.{_≡_, refl}
 use mathlib.Core.Bool.{Bool, true, false}
 use mathlib.Core.List.{List, [], _∷_, map}
 use Rattle.cells.specs.declared.table.Slots.{Slots}
-use Rattle.cells.specs.declared.cell.State.{State}
 use Rattle.cells.specs.declared.cell.Worked.{Worked}
 use Rattle.cells.specs.Table.{slots, rowOf}
 use Rattle.cells.specs.Work.{pulses, taken, workAs, workOut}

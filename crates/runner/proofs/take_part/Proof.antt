@@ -6,7 +6,7 @@ use native.Mathlib.Omega.{arith}
 use lib.ListN.{take, length}
 use lib.Seq.{sets}
 use Rattle.runner.specs.Run.{Course, courseOf, longer, ended, keptOf}
-use Rattle.cells.proofs.Laws.{not-true, not-false}
+use borrow.Author.Tests.{not-true, not-false}
 use Rattle.runner.proofs.Runs.{add-cut}
 use borrow.Author.Needs.{needs}
 use Rattle.runner.proofs.take_part.Statement.{statement}

@@ -10,7 +10,7 @@ next-count-requires : tie.Need-next-count-requires
 next-count-requires c κs = search needs
 
 returns : tie.Need-returns
-returns c = rw (c .next-count .ensures, c .before .taken .ensures)
+returns c = cc
 
 pub count-after-spec : {M : Type 1} → statement M
 count-after-spec = tie.close (tie.spec taken-requires next-count-requires returns)

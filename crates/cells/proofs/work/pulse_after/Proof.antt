@@ -10,7 +10,7 @@ next-pulse-requires : tie.Need-next-pulse-requires
 next-pulse-requires c κs = search needs
 
 returns : tie.Need-returns
-returns c = rw (c .next-pulse .ensures, c .before .taken .ensures)
+returns c = cc
 
 pub pulse-after-spec : {M : Type 1} → statement M
 pulse-after-spec = tie.close (tie.spec taken-requires next-pulse-requires returns)
