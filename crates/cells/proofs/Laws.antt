@@ -26,7 +26,7 @@ pub or-right : (a b : Bool) → (a || b) ≡ false → b ≡ false
 or-right true b e = absurd (true≢false e)
 or-right false b e = e
 
--- no slot of a set is in it
+-- no slot is in the set
 record Empty (s : Slots) : Type 0 where
   x : s .x ≡ false
   y : s .y ≡ false

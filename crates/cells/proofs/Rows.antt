@@ -50,7 +50,7 @@ pub every-row : (P : Row → Bool) → allRows P lines ≡ true → (n : ℕ) �
 unfolding rowOf
 every-row P a n = in-all P n lines a
 
--- what a class keeps is all that the table says of it
+-- a type keeps what its class keeps
 Keeps : Row → Type 0
 Keeps w = w .kept ≡ keptBy (w .class)
 

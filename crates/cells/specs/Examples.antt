@@ -52,14 +52,14 @@ table =
     (shot 8 3 0 trigger-clock, (3, false, true))
     ∷ (shot 14 3 0 trigger-clock, (3, false, true))
     ∷ (shot 16 3 0 other-trigger-clock, (3, false, true))
-    -- "else a clock edge lowers a count above 0 by 1. High while the count is above 0"
+    -- "Else a clock edge lowers a count above 0 by 1. High while the count is above 0"
     ∷ (shot 8 3 3 clock, (2, false, true))
     ∷ (shot 8 3 1 clock, (0, false, false))
     ∷ (shot 8 3 0 clock, (0, false, false))
     ∷ (shot 8 3 2 nothing, (2, false, true))
     -- "reset sets the count to 0", whatever else is high
     ∷ (shot 8 3 2 trigger-clock-reset, (0, false, false))
-    -- "types 14 and 16 ignore triggers while the count is above 0", and the clock is not ignored then; type 8 takes them
+    -- "Types 14 and 16 ignore triggers while the count is above 0", and the clock is not ignored then; type 8 takes them
     ∷ (shot 14 3 2 trigger-clock, (1, false, true))
     ∷ (shot 16 3 2 other-trigger-clock, (1, false, true))
     ∷ (shot 8 3 2 trigger-clock, (3, false, true))
@@ -68,10 +68,10 @@ table =
     ∷ (pulsed 9 1 1 false clock, (0, true, true))
     ∷ (pulsed 9 1 0 true nothing, (0, true, true))
     ∷ (pulsed 9 1 0 true clock, (0, false, false))
-    -- "a taken trigger sets count d and ends a pulse"; "reset also ends the pulse"
+    -- "A taken trigger sets count d and ends a pulse"; "Reset also ends the pulse"
     ∷ (pulsed 15 2 0 true trigger, (2, false, false))
     ∷ (pulsed 15 2 0 true trigger-clock-reset, (0, false, false))
-    -- "types 15 and 17 ignore triggers while the count is above 0"; type 9 takes them
+    -- "Types 15 and 17 ignore triggers while the count is above 0"; type 9 takes them
     ∷ (pulsed 15 2 1 false trigger-clock, (0, true, true))
     ∷ (pulsed 17 2 2 false other-trigger-clock, (1, false, false))
     ∷ (pulsed 9 2 1 false trigger-clock, (2, false, false))

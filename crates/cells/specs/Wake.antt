@@ -12,7 +12,7 @@ use Rattle.cells.specs.declared.cell.State.{State}
 use Rattle.cells.specs.Table.{rowOf, masked, levelSlots, anySlot}
 use Rattle.cells.specs.Work.{trigger}
 
--- "a timer's trigger is high; a timer's clock is high while its count is above 0 or its pulse is on"
+-- "a timer's ... trigger is high; a timer's clock is high while its count is above 0 or its pulse is on"
 abbrev pub timerStirred : State → Slots → Bool
 timerStirred s r = trigger r || (r .y && (ltb 0 (s .count .0) || s .pulse))
 

@@ -20,7 +20,7 @@ use Rattle.cells.specs.Table.{slots, rowOf, masked}
 abbrev pub pulses : ℕ → Pulses
 pulses n = record { 0 = n }
 
--- "constant: high unless 0"
+-- a constant: "high unless 0"
 abbrev pub constantOut : ℕ → Bool
 constantOut config = not (eqb config 0)
 
@@ -76,13 +76,13 @@ trigger r = r .x || r .f
 unfoldable pub taken : Bool → Slots → ℕ → Bool
 taken retrigger r count = trigger r && (retrigger || not (ltb 0 count))
 
--- a timer's count, of duration d: "reset sets the count to 0. Else a taken trigger sets it to d and the clock is ignored. Else a clock edge
+-- a timer's count, of duration d: "reset sets the count to 0. Else a taken trigger ... sets it to d and the clock is ignored. Else a clock edge
 -- lowers a count above 0 by 1." A delay's goes in the "same order"
 abbrev pub nextCount : (reset taken clock : Bool) → ℕ → ℕ → ℕ
 nextCount reset taken clock d count = cond reset 0 (cond taken d (cond clock (count - 1) count))
 
--- a delay's pulse: "a taken trigger ... ends a pulse; with d = 0 it starts the pulse"; at a clock edge "reaching 0 starts the pulse; an edge
--- that finds the count at 0 ends a pulse"; "reset also ends the pulse"
+-- a delay's pulse: "A taken trigger ... ends a pulse; with d = 0 it starts the pulse"; at a clock edge "reaching 0 starts the pulse; an edge
+-- that finds the count at 0 ends a pulse"; "Reset also ends the pulse"
 abbrev pub nextPulse : (reset taken clock : Bool) → ℕ → ℕ → Bool → Bool
 nextPulse reset taken clock d count pulse =
     cond reset false (cond taken (eqb d 0) (cond clock (cond (ltb 0 count) (eqb count 1 || pulse) false) pulse))
@@ -104,11 +104,11 @@ countAfter retrigger d s r = nextCount (r .z) (taken retrigger r (s .count .0)) 
 abbrev pub pulseAfter : Bool → ℕ → State → Slots → Bool
 pulseAfter retrigger d s r = nextPulse (r .z) (taken retrigger r (s .count .0)) (r .y) d (s .count .0) (s .pulse)
 
--- one-shot: "high while the count is above 0"
+-- one-shot: "High while the count is above 0"
 abbrev pub oneShot : Bool → ℕ → State → Slots → Worked
 oneShot retrigger d s r = counting s (countAfter retrigger d s r) (s .pulse) (ltb 0 (countAfter retrigger d s r))
 
--- delay: "high during the pulse"
+-- delay: "High during the pulse"
 abbrev pub delay : Bool → ℕ → State → Slots → Worked
 delay retrigger d s r = counting s (countAfter retrigger d s r) (pulseAfter retrigger d s r) (pulseAfter retrigger d s r)
 

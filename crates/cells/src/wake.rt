@@ -47,7 +47,7 @@ fn stirred_as(class: Class, s: State, r: Slots) -> bool
     }
 }
 
-// Whether a cell of a type is stirred by what its slots read, packed.
+// Whether a cell of a type is stirred by what its slots read, packed. Slots that the type does not use do not count.
 pub fn stirred(kind: u8, s: State, now: u32) -> bool
     ensures { λ q. ⌜ q ≡ Wake.stirred kind s (slotsOf now) ⌝ }
 {
