@@ -1,19 +1,22 @@
--- Laws of a cell that the card uses: a cell that is not stirred and whose level slots agree may sleep; when a cell wakes; what its output shows.
+-- Laws of a cell that the card uses: a cell that is not stirred and whose level slots agree may sleep; only edges stir it; when a cell wakes.
 use Prim.Native.Nat.{ℕ, _≤_}
 use mathlib.Core.Path.{_≡_, refl, sym, ap, _∙_}
-use mathlib.Core.Bool.{Bool, true, false, not, _&&_, _||_, Bool·beq, cond, false≢true, true≢false}
+use mathlib.Core.Bool.{Bool, true, false, not, _&&_, _||_, cond, true≢false}
 use native.Mathlib.Omega.{arith}
 use lib.Dec.{ltb}
-use borrow.Author.Tests.{ltb-false}
+use borrow.Author.Tests.{not-true, ltb-false}
 use Rattle.cells.specs.declared.table.Slots.{Slots}
 use Rattle.cells.specs.declared.table.Row.{Row}
 use Rattle.cells.specs.declared.table.Class.{Class}
-use Rattle.cells.specs.declared.table.Class.the-variants.{Nothing, Constant, Lookup, And2, Or2, Xor2, And4, Or4, DFlop, SyncDFlop, ClearDFlop, Jk, OneShot, Delay}
+use Rattle.cells.specs.declared.table.Class.the-variants.{Nothing, Constant, Gate, Flop, OneShot, Delay}
+use Rattle.cells.specs.declared.table.FlopKind.{FlopKind}
+use Rattle.cells.specs.declared.table.FlopKind.the-variants.{DFlop, SyncDFlop, ClearDFlop, Jk}
 use Rattle.cells.specs.declared.cell.State.{State}
-use Rattle.cells.specs.Table.{rowOf, masked, levelSlots, anySlot, slots, no-slot}
-use Rattle.cells.specs.Work.{constantOut, trigger, taken, nextCount, nextPulse, countAfter, pulseAfter, keeping, holding, counting, shown, workAs, workOut}
-use Rattle.cells.specs.Wake.{timerStirred, stirredAs, stirred, hasEdges, NeverStirred, differ, disagreeOn, disagree, wakes}
-use Rattle.cells.proofs.Rows.{and-left, and-right, every-row}
+use Rattle.cells.specs.Table.{rowOf, masked, levelSlots, anySlot, slots, no-slot, only-Y, only-Z, XYF, XYZF}
+use Rattle.cells.specs.Work.{constantOut, gateOut, flopNext, trigger, taken, nextCount, nextPulse, countAfter, pulseAfter}
+use Rattle.cells.specs.Work.{keeping, holding, counting, workAs, workOut}
+use Rattle.cells.specs.Wake.{timerStirred, flopClock, stirredAs, stirred, hasEdges, NeverStirred, differ, disagreeOn, disagree, wakes}
+use Rattle.cells.proofs.Rows.{every-row}
 
 pub or-left : (a b : Bool) → (a || b) ≡ false → a ≡ false
 or-left true b e = e
@@ -23,94 +26,104 @@ pub or-right : (a b : Bool) → (a || b) ≡ false → b ≡ false
 or-right true b e = absurd (true≢false e)
 or-right false b e = e
 
-pub not-false : (b : Bool) → not b ≡ false → b ≡ true
-not-false true e = refl
-not-false false e = absurd (true≢false e)
+-- no slot is in the set
+record Empty (s : Slots) : Type 0 where
+  x : s .x ≡ false
+  y : s .y ≡ false
+  z : s .z ≡ false
+  f : s .f ≡ false
 
-pub not-true : (b : Bool) → not b ≡ true → b ≡ false
-not-true true e = absurd (false≢true e)
-not-true false e = refl
+empty : (s : Slots) → anySlot s ≡ false → Empty s
+empty s h =
+    let xy = or-left (s .x || s .y) (s .z || s .f) h in
+    let zf = or-right (s .x || s .y) (s .z || s .f) h in
+    record {
+      x = or-left (s .x) (s .y) xy;
+      y = or-right (s .x) (s .y) xy;
+      z = or-left (s .z) (s .f) zf;
+      f = or-right (s .z) (s .f) zf;
+    }
+
+none-in : (s : Slots) → Empty s → anySlot s ≡ false
+none-in s e = rw (e .x, e .y, e .z, e .f)
 
 -- ---- why a cell may sleep
 
--- a class has only edge slots by which it is stirred, or which it reads only when it is stirred
-edgesFit : Class → Slots → Bool
-edgesFit Nothing e = true
-edgesFit Constant e = true
-edgesFit Lookup e = not (e .x) && (not (e .y) && (not (e .z) && not (e .f)))
-edgesFit And2 e = not (e .x) && not (e .y)
-edgesFit Or2 e = not (e .x) && not (e .y)
-edgesFit Xor2 e = not (e .x) && not (e .y)
-edgesFit And4 e = not (e .x) && (not (e .y) && (not (e .z) && not (e .f)))
-edgesFit Or4 e = not (e .x) && (not (e .y) && (not (e .z) && not (e .f)))
-edgesFit DFlop e = not (e .z) && not (e .f)
-edgesFit SyncDFlop e = true
-edgesFit ClearDFlop e = not (e .z)
-edgesFit Jk e = true
-edgesFit (OneShot t) e = not (e .z)
-edgesFit (Delay t) e = not (e .z)
+-- the slots that a class reads whether or not it is stirred: no edge slot of a type may be among them
+flopAlways : FlopKind → Slots
+flopAlways DFlop = slots false false true true
+flopAlways SyncDFlop = no-slot
+flopAlways ClearDFlop = only-Z
+flopAlways Jk = no-slot
+
+always : Class → Slots
+always Nothing = no-slot
+always Constant = no-slot
+always (Gate g) = XYZF
+always (Flop f) = flopAlways f
+always (OneShot t) = only-Z
+always (Delay t) = only-Z
 
 rowFits : Row → Bool
-rowFits w = edgesFit (w .class) (w .edge)
+rowFits w = not (anySlot (masked (always (w .class)) (w .edge)))
 
 rows-fit : (kind : ℕ) → rowFits (rowOf kind) ≡ true
-unfolding rowFits edgesFit
+unfolding rowFits always flopAlways
 rows-fit kind = every-row rowFits refl kind
 
 -- two readings agree in every slot that is no edge slot
 record Same (edge m n : Slots) : Type 0 where
-  x : not (edge .x) ≡ true → n .x ≡ m .x
-  y : not (edge .y) ≡ true → n .y ≡ m .y
-  z : not (edge .z) ≡ true → n .z ≡ m .z
-  f : not (edge .f) ≡ true → n .f ≡ m .f
+  x : edge .x ≡ false → n .x ≡ m .x
+  y : edge .y ≡ false → n .y ≡ m .y
+  z : edge .z ≡ false → n .z ≡ m .z
+  f : edge .f ≡ false → n .f ≡ m .f
 
-slot-same : (u e a b : Bool) → differ (u && not e) a b ≡ false → not e ≡ true → (u && b) ≡ (u && a)
+slot-same : (u e a b : Bool) → differ (u && not e) a b ≡ false → e ≡ false → (u && b) ≡ (u && a)
 slot-same false e a b d h = refl
-slot-same true true a b d h = absurd (false≢true h)
+slot-same true true a b d h = absurd (true≢false h)
 slot-same true false true true d h = refl
 slot-same true false true false d h = absurd (true≢false d)
 slot-same true false false true d h = absurd (true≢false d)
 slot-same true false false false d h = refl
 
+-- the slots of a set in which two readings have other values
+differing : Slots → Slots → Slots → Slots
+differing s a b = slots (differ (s .x) (a .x) (b .x)) (differ (s .y) (a .y) (b .y)) (differ (s .z) (a .z) (b .z)) (differ (s .f) (a .f) (b .f))
+
+agree : (s a b : Slots) → disagreeOn s a b ≡ false → Empty (differing s a b)
+unfolding differing
+agree s a b d = empty (differing s a b) d
+
 same : (w : Row) (a b : Slots) → disagreeOn (levelSlots w) a b ≡ false → Same (w .edge) (masked (w .used) a) (masked (w .used) b)
+unfolding differing
 same w a b d =
-    let l = levelSlots w in
-    let xy = differ (l .x) (a .x) (b .x) || differ (l .y) (a .y) (b .y) in
-    let zf = differ (l .z) (a .z) (b .z) || differ (l .f) (a .f) (b .f) in
-    let p = or-left xy zf d in
-    let q = or-right xy zf d in
+    let e = agree (levelSlots w) a b d in
     record {
-      x = slot-same (w .used .x) (w .edge .x) (a .x) (b .x) (or-left _ _ p);
-      y = slot-same (w .used .y) (w .edge .y) (a .y) (b .y) (or-right (differ (l .x) (a .x) (b .x)) _ p);
-      z = slot-same (w .used .z) (w .edge .z) (a .z) (b .z) (or-left _ _ q);
-      f = slot-same (w .used .f) (w .edge .f) (a .f) (b .f) (or-right (differ (l .z) (a .z) (b .z)) _ q);
+      x = slot-same (w .used .x) (w .edge .x) (a .x) (b .x) (e .x);
+      y = slot-same (w .used .y) (w .edge .y) (a .y) (b .y) (e .y);
+      z = slot-same (w .used .z) (w .edge .z) (a .z) (b .z) (e .z);
+      f = slot-same (w .used .f) (w .edge .f) (a .f) (b .f) (e .f);
     }
 
-all-same : (e m n : Slots) → Same e m n → (not (e .x) && (not (e .y) && (not (e .z) && not (e .f)))) ≡ true → n ≡ m
-all-same e m n s h =
-    let yzf = and-right (not (e .x)) _ h in
-    let zf = and-right (not (e .y)) _ yzf in
-    let px = s .x (and-left (not (e .x)) _ h) in
-    let py = s .y (and-left (not (e .y)) _ yzf) in
-    let pz = s .z (and-left (not (e .z)) _ zf) in
-    let pf = s .f (and-right (not (e .z)) _ zf) in
-    λ i. slots (px i) (py i) (pz i) (pf i)
+all-same : (e m n : Slots) → Empty e → Same e m n → n ≡ m
+all-same e m n none s = λ i. slots (s .x (none .x) i) (s .y (none .y) i) (s .z (none .z) i) (s .f (none .f) i)
 
--- a gate of X and Y reads the same where these two agree
-two-same : (g : Bool → Bool → Bool) (e m n : Slots) → Same e m n → (not (e .x) && not (e .y)) ≡ true → g (n .x) (n .y) ≡ g (m .x) (m .y)
-two-same g e m n s h =
-    let px = s .x (and-left (not (e .x)) _ h) in
-    let py = s .y (and-right (not (e .x)) _ h) in
-    λ i. g (px i) (py i)
-
-flop-again : (z f b : Bool) → cond z false (cond f true (cond z false (cond f true b))) ≡ cond z false (cond f true b)
-flop-again true f b = refl
-flop-again false true b = refl
-flop-again false false b = refl
+d-again : (z f b : Bool) → cond z false (cond f true (cond z false (cond f true b))) ≡ cond z false (cond f true b)
+d-again true f b = refl
+d-again false true b = refl
+d-again false false b = refl
 
 clear-again : (z b : Bool) → cond z false (cond z false b) ≡ cond z false b
 clear-again true b = refl
 clear-again false b = refl
+
+flop-again : (f : FlopKind) (e m n : Slots) (bit : Bool) → Empty (masked (flopAlways f) e) → Same e m n
+    → flopClock f n ≡ false → flopNext f n (flopNext f m bit) ≡ flopNext f m bit
+unfolding flopAlways
+flop-again DFlop e m n bit fit same h = rw (same .z (fit .z), same .f (fit .f), h) (d-again (m .z) (m .f) _)
+flop-again SyncDFlop e m n bit fit same h = rw h
+flop-again ClearDFlop e m n bit fit same h = rw (same .z (fit .z), h) (clear-again (m .z) _)
+flop-again Jk e m n bit fit same h = rw h
 
 -- with no trigger, a count that is 0 under reset stays, and so does one that no clock lowers
 count-again : (z y : Bool) (n v : ℕ) → n ≡ cond z 0 v → (y && ltb 0 n) ≡ false → nextCount z false y 0 n ≡ n
@@ -145,7 +158,7 @@ quiet-pulse s r h = and-or-right (r .y) (ltb 0 (s .count .0)) (s .pulse) (or-rig
 
 not-taken : (t : Bool) (r : Slots) (n : ℕ) → trigger r ≡ false → taken t r n ≡ false
 unfolding taken
-not-taken t r n h = ap (λ (b : Bool). b && (t || not (ltb 0 n))) h
+not-taken t r n h = rw h
 
 -- a taken trigger aside, the duration does not matter
 count-quiet : (t : Bool) (d : ℕ) (s : State) (m n : Slots) → n .z ≡ m .z
@@ -162,29 +175,22 @@ pulse-quiet t d s m n z u e h =
     rw (not-taken t n (u .count .0) (quiet-trigger u n h), z)
     (pulse-again (m .z) (n .y) (u .count .0) (u .pulse) _ e (quiet-pulse u n h) (quiet-clock u n h) ∙ e)
 
-again-as : (k : Class) (config : ℕ) (s : State) (e m n : Slots) → edgesFit k e ≡ true → Same e m n
+again-as : (k : Class) (config : ℕ) (s : State) (e m n : Slots) → Empty (masked (always k) e) → Same e m n
     → stirredAs k (workAs k config s m .state) n ≡ false → workAs k config (workAs k config s m .state) n ≡ workAs k config s m
-unfolding workAs stirredAs edgesFit
+unfolding workAs stirredAs always
 again-as Nothing config s e m n fit same h = refl
 again-as Constant config s e m n fit same h = refl
-again-as Lookup config s e m n fit same h = ap (workAs Lookup config s) (all-same e m n same fit)
-again-as And2 config s e m n fit same h = ap (keeping s) (two-same _&&_ e m n same fit)
-again-as Or2 config s e m n fit same h = ap (keeping s) (two-same _||_ e m n same fit)
-again-as Xor2 config s e m n fit same h = ap (keeping s) (two-same (λ a b. not (Bool·beq a b)) e m n same fit)
-again-as And4 config s e m n fit same h = ap (workAs And4 config s) (all-same e m n same fit)
-again-as Or4 config s e m n fit same h = ap (workAs Or4 config s) (all-same e m n same fit)
-again-as DFlop config s e m n fit same h =
-    rw (same .z (and-left _ _ fit), same .f (and-right (not (e .z)) _ fit), h) (ap (holding s) (flop-again (m .z) (m .f) _))
-again-as SyncDFlop config s e m n fit same h = rw h
-again-as ClearDFlop config s e m n fit same h = rw (same .z fit, h) (ap (holding s) (clear-again (m .z) _))
-again-as Jk config s e m n fit same h = rw h
+again-as (Gate g) config s e m n fit same h =
+    let none : Empty e = record { x = fit .x; y = fit .y; z = fit .z; f = fit .f } in
+    ap (λ (r : Slots). keeping s (gateOut g config r)) (all-same e m n none same)
+again-as (Flop f) config s e m n fit same h = ap (holding s) (flop-again f e m n (s .bit) fit same h)
 again-as (OneShot t) config s e m n fit same h =
     let u = workAs (OneShot t) config s m .state in
-    ap (λ (c : ℕ). counting s c (s .pulse) (ltb 0 c)) (count-quiet t config s m n (same .z fit) u refl h)
+    ap (λ (c : ℕ). counting s c (s .pulse) (ltb 0 c)) (count-quiet t config s m n (same .z (fit .z)) u refl h)
 again-as (Delay t) config s e m n fit same h =
     let u = workAs (Delay t) config s m .state in
-    let c = count-quiet t config s m n (same .z fit) u refl h in
-    let p = pulse-quiet t config s m n (same .z fit) u refl h in
+    let c = count-quiet t config s m n (same .z (fit .z)) u refl h in
+    let p = pulse-quiet t config s m n (same .z (fit .z)) u refl h in
     λ i. counting s (c i) (p i) (p i)
 
 -- after a cell has been worked out, working it out again with readings that agree on the level slots and stir nothing changes nothing
@@ -193,54 +199,79 @@ pub again : (kind config : ℕ) (s : State) (last now : Slots) → disagree kind
     → workOut kind config (workOut kind config s last .state) now ≡ workOut kind config s last
 unfolding workOut stirred disagree rowFits
 again kind config s last now d h =
-    again-as (rowOf kind .class) config s (rowOf kind .edge) (masked (rowOf kind .used) last) (masked (rowOf kind .used) now) (rows-fit kind)
-    (same (rowOf kind) last now d) h
+    let w = rowOf kind in
+    let fit = empty (masked (always (w .class)) (w .edge)) (not-true _ (rows-fit kind)) in
+    again-as (w .class) config s (w .edge) (masked (w .used) last) (masked (w .used) now) fit (same w last now d) h
 
--- ---- what nothing stirs
+-- ---- only edges stir
 
--- gates and constants
-stillClass : Class → Bool
-stillClass Nothing = true
-stillClass Constant = true
-stillClass Lookup = true
-stillClass And2 = true
-stillClass Or2 = true
-stillClass Xor2 = true
-stillClass And4 = true
-stillClass Or4 = true
-stillClass DFlop = false
-stillClass SyncDFlop = false
-stillClass ClearDFlop = false
-stillClass Jk = false
-stillClass (OneShot t) = false
-stillClass (Delay t) = false
+-- the slots by which a class is stirred: no level slot of a type may be among them
+flopStirs : FlopKind → Slots
+flopStirs DFlop = only-Y
+flopStirs SyncDFlop = only-Y
+flopStirs ClearDFlop = only-Y
+flopStirs Jk = only-Z
 
-still-as : (k : Class) (s : State) (r : Slots) → stillClass k ≡ true → stirredAs k s r ≡ false
-unfolding stillClass stirredAs
-still-as Nothing s r h = refl
-still-as Constant s r h = refl
-still-as Lookup s r h = refl
-still-as And2 s r h = refl
-still-as Or2 s r h = refl
-still-as Xor2 s r h = refl
-still-as And4 s r h = refl
-still-as Or4 s r h = refl
-still-as DFlop s r h = absurd (false≢true h)
-still-as SyncDFlop s r h = absurd (false≢true h)
-still-as ClearDFlop s r h = absurd (false≢true h)
-still-as Jk s r h = absurd (false≢true h)
-still-as (OneShot t) s r h = absurd (false≢true h)
-still-as (Delay t) s r h = absurd (false≢true h)
+stirs : Class → Slots
+stirs Nothing = no-slot
+stirs Constant = no-slot
+stirs (Gate g) = no-slot
+stirs (Flop f) = flopStirs f
+stirs (OneShot t) = XYF
+stirs (Delay t) = XYF
 
-rowStill : Row → Bool
-rowStill w = anySlot (w .edge) || stillClass (w .class)
+rowStirs : Row → Bool
+rowStirs w = not (anySlot (masked (stirs (w .class)) (levelSlots w)))
 
--- a type without edge slots is one of them
+rows-stir : (kind : ℕ) → rowStirs (rowOf kind) ≡ true
+unfolding rowStirs stirs flopStirs
+rows-stir kind = every-row rowStirs refl kind
+
+flop-still : (f : FlopKind) (r : Slots) → Empty (masked (flopStirs f) r) → flopClock f r ≡ false
+unfolding flopStirs
+flop-still DFlop r e = e .y
+flop-still SyncDFlop r e = e .y
+flop-still ClearDFlop r e = e .y
+flop-still Jk r e = e .z
+
+timer-still : (s : State) (r : Slots) → Empty (masked XYF r) → timerStirred s r ≡ false
+timer-still s r e = rw (e .x, e .y, e .f)
+
+still-as : (k : Class) (s : State) (r : Slots) → Empty (masked (stirs k) r) → stirredAs k s r ≡ false
+unfolding stirs stirredAs
+still-as Nothing s r e = refl
+still-as Constant s r e = refl
+still-as (Gate g) s r e = refl
+still-as (Flop f) s r e = flop-still f r e
+still-as (OneShot t) s r e = timer-still s r e
+still-as (Delay t) s r e = timer-still s r e
+
+slot-still : (s u e a : Bool) → (s && (u && not e)) ≡ false → (e && a) ≡ false → (s && (u && a)) ≡ false
+slot-still false u e a p q = refl
+slot-still true false e a p q = refl
+slot-still true true true a p q = q
+slot-still true true false a p q = absurd (true≢false p)
+
+-- a cell is stirred only by an edge: not while its edge slots read low
+pub only-edges-stir : (kind : ℕ) (s : State) (r : Slots) → anySlot (masked (rowOf kind .edge) r) ≡ false → stirred kind s r ≡ false
+unfolding stirred rowStirs
+only-edges-stir kind s r h =
+    let w = rowOf kind in
+    let k = stirs (w .class) in
+    let level = empty (masked k (levelSlots w)) (not-true _ (rows-stir kind)) in
+    let edge = empty (masked (w .edge) r) h in
+    still-as (w .class) s (masked (w .used) r) (record {
+      x = slot-still (k .x) (w .used .x) (w .edge .x) (r .x) (level .x) (edge .x);
+      y = slot-still (k .y) (w .used .y) (w .edge .y) (r .y) (level .y) (edge .y);
+      z = slot-still (k .z) (w .used .z) (w .edge .z) (r .z) (level .z) (edge .z);
+      f = slot-still (k .f) (w .used .f) (w .edge .f) (r .f) (level .f) (edge .f);
+    })
+
+-- so nothing stirs a type without edge slots
 pub edgeless-still : (kind : ℕ) → hasEdges kind ≡ false → NeverStirred kind
-unfolding stirred rowStill stillClass
-edgeless-still kind e s r =
-    let still = ap (λ (edges : Bool). edges || stillClass (rowOf kind .class)) (sym e) ∙ every-row rowStill refl kind in
-    still-as (rowOf kind .class) s (masked (rowOf kind .used) r) still
+edgeless-still kind h s r =
+    let e = empty (rowOf kind .edge) h in
+    only-edges-stir kind s r (rw (e .x, e .y, e .z, e .f))
 
 -- ---- when a cell wakes
 
@@ -290,22 +321,18 @@ differ-trans true true false c p q = absurd (true≢false p)
 differ-trans true false true c p q = absurd (true≢false p)
 differ-trans true false false c p q = q
 
-or-join : (a b : Bool) → a ≡ false → b ≡ false → (a || b) ≡ false
-or-join a b p q = rw (p, q)
-
 pub disagree-trans : (kind : ℕ) (a b c : Slots) → disagree kind a b ≡ false → disagree kind b c ≡ false → disagree kind a c ≡ false
-unfolding disagree
+unfolding disagree differing
 disagree-trans kind a b c p q =
     let l = levelSlots (rowOf kind) in
-    let p1 = or-left (differ (l .x) (a .x) (b .x) || differ (l .y) (a .y) (b .y)) _ p in
-    let p2 = or-right (differ (l .x) (a .x) (b .x) || differ (l .y) (a .y) (b .y)) _ p in
-    let q1 = or-left (differ (l .x) (b .x) (c .x) || differ (l .y) (b .y) (c .y)) _ q in
-    let q2 = or-right (differ (l .x) (b .x) (c .x) || differ (l .y) (b .y) (c .y)) _ q in
-    let x = differ-trans (l .x) (a .x) (b .x) (c .x) (or-left _ _ p1) (or-left _ _ q1) in
-    let y = differ-trans (l .y) (a .y) (b .y) (c .y) (or-right (differ (l .x) (a .x) (b .x)) _ p1) (or-right (differ (l .x) (b .x) (c .x)) _ q1) in
-    let z = differ-trans (l .z) (a .z) (b .z) (c .z) (or-left _ _ p2) (or-left _ _ q2) in
-    let f = differ-trans (l .f) (a .f) (b .f) (c .f) (or-right (differ (l .z) (a .z) (b .z)) _ p2) (or-right (differ (l .z) (b .z) (c .z)) _ q2) in
-    or-join _ _ (or-join _ _ x y) (or-join _ _ z f)
+    let u = agree l a b p in
+    let v = agree l b c q in
+    none-in (differing l a c) (record {
+      x = differ-trans (l .x) (a .x) (b .x) (c .x) (u .x) (v .x);
+      y = differ-trans (l .y) (a .y) (b .y) (c .y) (u .y) (v .y);
+      z = differ-trans (l .z) (a .z) (b .z) (c .z) (u .z) (v .z);
+      f = differ-trans (l .f) (a .f) (b .f) (c .f) (u .f) (v .f);
+    })
 
 -- ---- the constant
 
@@ -313,29 +340,3 @@ disagree-trans kind a b c p q =
 pub constant-works : (config : ℕ) (s : State) (r : Slots) → workOut 0 config s r ≡ keeping s (constantOut config)
 unfolding workOut workAs rowOf
 constant-works config s r = refl
-
--- ---- what an output shows
-
-output-as : (k : Class) (config : ℕ) (s : State) (r : Slots)
-    → shown k (workAs k config s r .state) (workAs k config s r .out) ≡ workAs k config s r .out
-unfolding workAs shown
-output-as Nothing config s r = refl
-output-as Constant config s r = refl
-output-as Lookup config s r = refl
-output-as And2 config s r = refl
-output-as Or2 config s r = refl
-output-as Xor2 config s r = refl
-output-as And4 config s r = refl
-output-as Or4 config s r = refl
-output-as DFlop config s r = refl
-output-as SyncDFlop config s r = refl
-output-as ClearDFlop config s r = refl
-output-as Jk config s r = refl
-output-as (OneShot t) config s r = refl
-output-as (Delay t) config s r = refl
-
--- the output of a cell that was worked out is what its state shows
-pub output-shown : (kind config : ℕ) (s : State) (r : Slots)
-    → shown (rowOf kind .class) (workOut kind config s r .state) (workOut kind config s r .out) ≡ workOut kind config s r .out
-unfolding workOut
-output-shown kind config s r = output-as (rowOf kind .class) config s (masked (rowOf kind .used) r)

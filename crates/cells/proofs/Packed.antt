@@ -1,5 +1,5 @@
 -- Laws of packed slots: a set of slots and the readings of the four are held as four bits.
-use Prim.Native.Nat.{ℕ, _+_, _*_, _^_, _≤_, _<_}
+use Prim.Native.Nat.{ℕ, _≤_, _<_}
 use mathlib.Core.Path.{_≡_, refl, sym, ap, _∙_}
 use mathlib.Core.Bool.{Bool, true, false, not, _&&_, _||_, Bool·beq}
 use native.Mathlib.Nat.{lt-of-le-of-lt}
@@ -10,7 +10,7 @@ use Rattle.words.specs.Bits.{bitAt, bitNumber, wordOf}
 use Rattle.words.proofs.Laws.{bit-and, bit-xor, built-of-bits}
 use Rattle.cells.specs.declared.table.Slots.{Slots}
 use Rattle.cells.specs.declared.table.Row.{Row}
-use Rattle.cells.specs.Table.{slots, no-slot, masked, levelSlots, anySlot}
+use Rattle.cells.specs.Table.{slots, masked, levelSlots, anySlot}
 use Rattle.cells.specs.Work.{placeOf, slotsOf}
 use Rattle.cells.specs.Wake.{disagreeOn}
 
@@ -45,7 +45,7 @@ one-bit : (b : Bool) → bitNumber b ≤ 1
 one-bit true = omega arith
 one-bit false = omega arith
 
-pub place-lt : (r : Slots) → placeOf r < 16
+place-lt : (r : Slots) → placeOf r < 16
 place-lt r =
     let x = one-bit (r .x) in
     let y = one-bit (r .y) in
@@ -59,10 +59,6 @@ column s p e = (e, rw e (place-lt s))
 
 pub set-of : (s : Slots) (p : ℕ) → p ≡ placeOf s → slotsOf p ≡ s
 set-of s p e = ap slotsOf e ∙ slots-place s
-
-pub slots-none : slotsOf 0 ≡ no-slot
-unfolding slotsOf bitAt
-slots-none = refl
 
 pub slots-and : (a b : ℕ) → slotsOf (bitAnd a b) ≡ masked (slotsOf a) (slotsOf b)
 unfolding slotsOf

@@ -1,14 +1,14 @@
--- Laws of the table by cell type: a test that holds of every row, and the row of a number past the table.
+-- Laws of the table by cell type: a test that holds of every row, columns that follow from others, and the row of a number past the table.
 use Prim.Native.Nat.{ℕ, _≤_, _<_}
 use mathlib.Core.Path.{_≡_, refl, _∙_}
-use mathlib.Core.Bool.{Bool, true, false, _&&_, cond, false≢true}
+use mathlib.Core.Bool.{Bool, true, false, _&&_, Bool·beq, cond, false≢true}
 use mathlib.Core.List.{List, [], _∷_}
 use native.Mathlib.Omega.{arith}
 use lib.Dec.{eqb, ltb}
 use borrow.Author.Tests.{ltb-true, ne-eqb}
 use Rattle.cells.specs.declared.table.Row.{Row}
 use Rattle.cells.specs.declared.table.Class.{Class}
-use Rattle.cells.specs.Table.{Line, lines, rowAs, rowAmong, rowIn, rowOf, no-row, typeCount}
+use Rattle.cells.specs.Table.{Line, lines, keptBy, rowAs, rowAmong, rowIn, rowOf, no-row, typeCount}
 
 pub and-left : (a b : Bool) → (a && b) ≡ true → a ≡ true
 and-left true b e = refl
@@ -27,7 +27,7 @@ abbrev pub allRows : (Row → Bool) → List Line → Bool
 allRows P [] = P no-row
 allRows P (l ∷ ls) = allAmong P l (l .types) && allRows P ls
 
-either : (P : Row → Bool) (b : Bool) (v w : Row) → P v ≡ true → P w ≡ true → P (cond b v w) ≡ true
+either : (P : Row → Type 0) (b : Bool) (v w : Row) → P v → P w → P (cond b v w)
 either P true v w p q = p
 either P false v w p q = q
 
@@ -35,8 +35,9 @@ among-all : (P : Row → Bool) (n : ℕ) (l : Line) (ts : List (ℕ × Class)) (
     → allAmong P l ts ≡ true → P other ≡ true → P (rowAmong n l ts other) ≡ true
 among-all P n l [] other a o = o
 among-all P n l (t ∷ ts) other a o =
-    either P (eqb n (t .0)) (rowAs l (t .1)) (rowAmong n l ts other) (and-left (P (rowAs l (t .1))) (allAmong P l ts) a)
-    (among-all P n l ts other (and-right (P (rowAs l (t .1))) (allAmong P l ts) a) o)
+    let here = and-left (P (rowAs l (t .1))) (allAmong P l ts) a in
+    let rest = and-right (P (rowAs l (t .1))) (allAmong P l ts) a in
+    either (λ (w : Row). P w ≡ true) (eqb n (t .0)) (rowAs l (t .1)) (rowAmong n l ts other) here (among-all P n l ts other rest o)
 
 in-all : (P : Row → Bool) (n : ℕ) (ls : List Line) → allRows P ls ≡ true → P (rowIn n ls) ≡ true
 in-all P n [] a = a
@@ -48,6 +49,34 @@ in-all P n (l ∷ ls) a =
 pub every-row : (P : Row → Bool) → allRows P lines ≡ true → (n : ℕ) → P (rowOf n) ≡ true
 unfolding rowOf
 every-row P a n = in-all P n lines a
+
+-- a type keeps what its class keeps
+Keeps : Row → Type 0
+Keeps w = w .kept ≡ keptBy (w .class)
+
+among-keeps : (n : ℕ) (l : Line) (ts : List (ℕ × Class)) (other : Row) → Keeps other → Keeps (rowAmong n l ts other)
+unfolding Keeps
+among-keeps n l [] other o = o
+among-keeps n l (t ∷ ts) other o = either Keeps (eqb n (t .0)) (rowAs l (t .1)) (rowAmong n l ts other) refl (among-keeps n l ts other o)
+
+in-keeps : (n : ℕ) (ls : List Line) → Keeps (rowIn n ls)
+unfolding Keeps
+in-keeps n [] = refl
+in-keeps n (l ∷ ls) = among-keeps n l (l .types) (rowIn n ls) (in-keeps n ls)
+
+pub row-keeps : (n : ℕ) → rowOf n .kept ≡ keptBy (rowOf n .class)
+unfolding rowOf Keeps
+row-keeps n = in-keeps n lines
+
+-- a type has a configuration exactly where its largest is above 0
+beq-same : (a b : Bool) → Bool·beq a b ≡ true → a ≡ b
+beq-same true true e = refl
+beq-same true false e = absurd (false≢true e)
+beq-same false true e = absurd (false≢true e)
+beq-same false false e = refl
+
+pub row-configured : (n : ℕ) → rowOf n .configured ≡ ltb 0 (rowOf n .largest)
+row-configured n = beq-same _ _ (every-row (λ (w : Row). Bool·beq (w .configured) (ltb 0 (w .largest))) refl n)
 
 -- the lines name no type from m on
 belowAll : ℕ → List (ℕ × Class) → Bool

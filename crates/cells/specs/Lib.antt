@@ -1,3 +1,4 @@
 pub mod Table
 pub mod Work
 pub mod Wake
+pub mod Examples

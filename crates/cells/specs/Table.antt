@@ -10,7 +10,9 @@ use Rattle.cells.specs.declared.table.Row.{Row}
 use Rattle.cells.specs.declared.table.Class.{Class}
 use Rattle.cells.specs.declared.table.Kept.{Kept}
 use Rattle.cells.specs.declared.table.Kept.the-variants.{Stateless, Bit, Count}
-use Rattle.cells.specs.declared.table.Class.the-variants.{Nothing, Constant, Lookup, And2, Or2, Xor2, And4, Or4, DFlop, SyncDFlop, ClearDFlop, Jk, OneShot, Delay}
+use Rattle.cells.specs.declared.table.Class.the-variants.{Nothing, Constant, Gate, Flop, OneShot, Delay}
+use Rattle.cells.specs.declared.table.GateKind.the-variants.{Lookup, And2, Or2, Xor2, And4, Or4}
+use Rattle.cells.specs.declared.table.FlopKind.the-variants.{DFlop, SyncDFlop, ClearDFlop, Jk}
 
 abbrev pub slots : Bool → Bool → Bool → Bool → Slots
 slots x y z f = record { x = x; y = y; z = z; f = f }
@@ -62,17 +64,17 @@ line types used edge config = record { types = types; used = used; edge = edge; 
 abbrev pub lines : List Line
 lines =
     line ((0, Constant) ∷ []) no-slot no-slot (some largestConfig)
-    ∷ line ((1, DFlop) ∷ (12, SyncDFlop) ∷ []) XYZF only-Y none
-    ∷ line ((2, Lookup) ∷ []) XY no-slot (some 15)
-    ∷ line ((3, Lookup) ∷ []) XYZ no-slot (some 255)
-    ∷ line ((4, Lookup) ∷ []) XYZF no-slot (some largestConfig)
-    ∷ line ((5, And2) ∷ (6, Or2) ∷ (7, Xor2) ∷ []) XY no-slot none
+    ∷ line ((1, Flop DFlop) ∷ (12, Flop SyncDFlop) ∷ []) XYZF only-Y none
+    ∷ line ((2, Gate Lookup) ∷ []) XY no-slot (some 15)
+    ∷ line ((3, Gate Lookup) ∷ []) XYZ no-slot (some 255)
+    ∷ line ((4, Gate Lookup) ∷ []) XYZF no-slot (some largestConfig)
+    ∷ line ((5, Gate And2) ∷ (6, Gate Or2) ∷ (7, Gate Xor2) ∷ []) XY no-slot none
     ∷ line ((8, OneShot retriggerable) ∷ (14, OneShot not-retriggerable) ∷ []) XYZ XY (some largestConfig)
     ∷ line ((9, Delay retriggerable) ∷ (15, Delay not-retriggerable) ∷ []) XYZ XY (some largestConfig)
-    ∷ line ((10, And4) ∷ (11, Or4) ∷ []) XYZF no-slot none
-    ∷ line ((13, Jk) ∷ []) XYZ only-Z none
+    ∷ line ((10, Gate And4) ∷ (11, Gate Or4) ∷ []) XYZF no-slot none
+    ∷ line ((13, Flop Jk) ∷ []) XYZ only-Z none
     ∷ line ((16, OneShot not-retriggerable) ∷ (17, Delay not-retriggerable) ∷ []) XYZF XYF (some largestConfig)
-    ∷ line ((18, ClearDFlop) ∷ []) XYZF only-Y none
+    ∷ line ((18, Flop ClearDFlop) ∷ []) XYZF only-Y none
     ∷ []
 
 -- the number of cell types: the table has 0 to 18
@@ -91,16 +93,8 @@ configLimit (some n) = n
 abbrev pub keptBy : Class → Kept
 keptBy Nothing = Stateless
 keptBy Constant = Stateless
-keptBy Lookup = Stateless
-keptBy And2 = Stateless
-keptBy Or2 = Stateless
-keptBy Xor2 = Stateless
-keptBy And4 = Stateless
-keptBy Or4 = Stateless
-keptBy DFlop = Bit
-keptBy SyncDFlop = Bit
-keptBy ClearDFlop = Bit
-keptBy Jk = Bit
+keptBy (Gate g) = Stateless
+keptBy (Flop f) = Bit
 keptBy (OneShot t) = Count
 keptBy (Delay t) = Count
 

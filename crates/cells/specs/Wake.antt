@@ -5,29 +5,30 @@ use mathlib.Core.Bool.{Bool, false, not, _&&_, _||_, Bool·beq}
 use lib.Dec.{ltb}
 use Rattle.cells.specs.declared.table.Slots.{Slots}
 use Rattle.cells.specs.declared.table.Class.{Class}
-use Rattle.cells.specs.declared.table.Class.the-variants.{Nothing, Constant, Lookup, And2, Or2, Xor2, And4, Or4, DFlop, SyncDFlop, ClearDFlop, Jk, OneShot, Delay}
+use Rattle.cells.specs.declared.table.Class.the-variants.{Nothing, Constant, Gate, Flop, OneShot, Delay}
+use Rattle.cells.specs.declared.table.FlopKind.{FlopKind}
+use Rattle.cells.specs.declared.table.FlopKind.the-variants.{DFlop, SyncDFlop, ClearDFlop, Jk}
 use Rattle.cells.specs.declared.cell.State.{State}
 use Rattle.cells.specs.Table.{rowOf, masked, levelSlots, anySlot}
 use Rattle.cells.specs.Work.{trigger}
 
--- "a timer's trigger is high; a timer's clock is high while its count is above 0 or its pulse is on"
+-- "a timer's ... trigger is high; a timer's clock is high while its count is above 0 or its pulse is on"
 abbrev pub timerStirred : State → Slots → Bool
 timerStirred s r = trigger r || (r .y && (ltb 0 (s .count .0) || s .pulse))
+
+-- a flip-flop's clock: Z in a JK, Y in the others
+abbrev pub flopClock : FlopKind → Slots → Bool
+flopClock DFlop r = r .y
+flopClock SyncDFlop r = r .y
+flopClock ClearDFlop r = r .y
+flopClock Jk r = r .z
 
 -- stirred: "a flip-flop's clock slot is high", or the above; gates and constants are never stirred
 unfoldable pub stirredAs : Class → State → Slots → Bool
 stirredAs Nothing s r = false
 stirredAs Constant s r = false
-stirredAs Lookup s r = false
-stirredAs And2 s r = false
-stirredAs Or2 s r = false
-stirredAs Xor2 s r = false
-stirredAs And4 s r = false
-stirredAs Or4 s r = false
-stirredAs DFlop s r = r .y
-stirredAs SyncDFlop s r = r .y
-stirredAs ClearDFlop s r = r .y
-stirredAs Jk s r = r .z
+stirredAs (Gate g) s r = false
+stirredAs (Flop f) s r = flopClock f r
 stirredAs (OneShot t) s r = timerStirred s r
 stirredAs (Delay t) s r = timerStirred s r
 

@@ -1,4 +1,4 @@
--- Document 01, "Cells": what working out a cell gives, class by class.
+-- Document 01, "Cells": what working out a cell gives, family by family.
 -- In every definition `r` holds the readings of the used slots; a slot that is not used reads low.
 use Prim.Native.Nat.{ℕ, _+_, _-_, _*_}
 use mathlib.Core.Bool.{Bool, true, false, not, _&&_, _||_, Bool·beq, cond}
@@ -6,7 +6,11 @@ use lib.Dec.{eqb, ltb}
 use Rattle.words.specs.Bits.{bitAt, bitNumber}
 use Rattle.cells.specs.declared.table.Slots.{Slots}
 use Rattle.cells.specs.declared.table.Class.{Class}
-use Rattle.cells.specs.declared.table.Class.the-variants.{Nothing, Constant, Lookup, And2, Or2, Xor2, And4, Or4, DFlop, SyncDFlop, ClearDFlop, Jk, OneShot, Delay}
+use Rattle.cells.specs.declared.table.Class.the-variants.{Nothing, Constant, Gate, Flop, OneShot, Delay}
+use Rattle.cells.specs.declared.table.GateKind.{GateKind}
+use Rattle.cells.specs.declared.table.GateKind.the-variants.{Lookup, And2, Or2, Xor2, And4, Or4}
+use Rattle.cells.specs.declared.table.FlopKind.{FlopKind}
+use Rattle.cells.specs.declared.table.FlopKind.the-variants.{DFlop, SyncDFlop, ClearDFlop, Jk}
 use Rattle.cells.specs.declared.cell.State.{State}
 use Rattle.cells.specs.declared.cell.Worked.{Worked}
 use Rattle.cells.specs.declared.cell.Pulses.{Pulses}
@@ -16,7 +20,7 @@ use Rattle.cells.specs.Table.{slots, rowOf, masked}
 abbrev pub pulses : ℕ → Pulses
 pulses n = record { 0 = n }
 
--- "constant: high unless 0"
+-- a constant: "high unless 0"
 abbrev pub constantOut : ℕ → Bool
 constantOut config = not (eqb config 0)
 
@@ -32,21 +36,14 @@ slotsOf p = slots (bitAt p 0) (bitAt p 1) (bitAt p 2) (bitAt p 3)
 abbrev pub lookupOut : ℕ → Slots → Bool
 lookupOut code r = bitAt code (placeOf r)
 
--- the gates of two and of four slots
-abbrev pub and2 : Slots → Bool
-and2 r = r .x && r .y
-
-abbrev pub or2 : Slots → Bool
-or2 r = r .x || r .y
-
-abbrev pub xor2 : Slots → Bool
-xor2 r = not (Bool·beq (r .x) (r .y))
-
-abbrev pub and4 : Slots → Bool
-and4 r = (r .x && r .y) && (r .z && r .f)
-
-abbrev pub or4 : Slots → Bool
-or4 r = (r .x || r .y) || (r .z || r .f)
+-- the gates: a lookup with its code, and those of two and of four slots
+abbrev pub gateOut : GateKind → ℕ → Slots → Bool
+gateOut Lookup code r = lookupOut code r
+gateOut And2 code r = r .x && r .y
+gateOut Or2 code r = r .x || r .y
+gateOut Xor2 code r = not (Bool·beq (r .x) (r .y))
+gateOut And4 code r = (r .x && r .y) && (r .z && r .f)
+gateOut Or4 code r = (r .x || r .y) || (r .z || r .f)
 
 -- type 1: "reset gives 0; else preset gives 1; else a clock edge takes D; else hold"
 abbrev pub dFlop : Slots → Bool → Bool
@@ -64,6 +61,13 @@ clearDFlop r bit = cond (r .z) false (cond (r .y) (cond (r .f) false (r .x)) bit
 abbrev pub jk : Slots → Bool → Bool
 jk r bit = cond (r .z) (cond (r .x) (cond (r .y) (not bit) true) (cond (r .y) false bit)) bit
 
+-- a flip-flop's next bit
+abbrev pub flopNext : FlopKind → Slots → Bool → Bool
+flopNext DFlop r bit = dFlop r bit
+flopNext SyncDFlop r bit = syncDFlop r bit
+flopNext ClearDFlop r bit = clearDFlop r bit
+flopNext Jk r bit = jk r bit
+
 -- a timer's trigger: X or, where F is used, F
 abbrev pub trigger : Slots → Bool
 trigger r = r .x || r .f
@@ -72,13 +76,13 @@ trigger r = r .x || r .f
 unfoldable pub taken : Bool → Slots → ℕ → Bool
 taken retrigger r count = trigger r && (retrigger || not (ltb 0 count))
 
--- a timer's count, of duration d: "reset sets the count to 0. Else a taken trigger sets it to d and the clock is ignored. Else a clock edge
+-- a timer's count, of duration d: "reset sets the count to 0. Else a taken trigger ... sets it to d and the clock is ignored. Else a clock edge
 -- lowers a count above 0 by 1." A delay's goes in the "same order"
 abbrev pub nextCount : (reset taken clock : Bool) → ℕ → ℕ → ℕ
 nextCount reset taken clock d count = cond reset 0 (cond taken d (cond clock (count - 1) count))
 
--- a delay's pulse: "a taken trigger ... ends a pulse; with d = 0 it starts the pulse"; at a clock edge "reaching 0 starts the pulse; an edge
--- that finds the count at 0 ends a pulse"; "reset also ends the pulse"
+-- a delay's pulse: "A taken trigger ... ends a pulse; with d = 0 it starts the pulse"; at a clock edge "reaching 0 starts the pulse; an edge
+-- that finds the count at 0 ends a pulse"; "Reset also ends the pulse"
 abbrev pub nextPulse : (reset taken clock : Bool) → ℕ → ℕ → Bool → Bool
 nextPulse reset taken clock d count pulse =
     cond reset false (cond taken (eqb d 0) (cond clock (cond (ltb 0 count) (eqb count 1 || pulse) false) pulse))
@@ -100,11 +104,11 @@ countAfter retrigger d s r = nextCount (r .z) (taken retrigger r (s .count .0)) 
 abbrev pub pulseAfter : Bool → ℕ → State → Slots → Bool
 pulseAfter retrigger d s r = nextPulse (r .z) (taken retrigger r (s .count .0)) (r .y) d (s .count .0) (s .pulse)
 
--- one-shot: "high while the count is above 0"
+-- one-shot: "High while the count is above 0"
 abbrev pub oneShot : Bool → ℕ → State → Slots → Worked
 oneShot retrigger d s r = counting s (countAfter retrigger d s r) (s .pulse) (ltb 0 (countAfter retrigger d s r))
 
--- delay: "high during the pulse"
+-- delay: "High during the pulse"
 abbrev pub delay : Bool → ℕ → State → Slots → Worked
 delay retrigger d s r = counting s (countAfter retrigger d s r) (pulseAfter retrigger d s r) (pulseAfter retrigger d s r)
 
@@ -112,36 +116,11 @@ delay retrigger d s r = counting s (countAfter retrigger d s r) (pulseAfter retr
 unfoldable pub workAs : Class → ℕ → State → Slots → Worked
 workAs Nothing config s r = keeping s false
 workAs Constant config s r = keeping s (constantOut config)
-workAs Lookup config s r = keeping s (lookupOut config r)
-workAs And2 config s r = keeping s (and2 r)
-workAs Or2 config s r = keeping s (or2 r)
-workAs Xor2 config s r = keeping s (xor2 r)
-workAs And4 config s r = keeping s (and4 r)
-workAs Or4 config s r = keeping s (or4 r)
-workAs DFlop config s r = holding s (dFlop r (s .bit))
-workAs SyncDFlop config s r = holding s (syncDFlop r (s .bit))
-workAs ClearDFlop config s r = holding s (clearDFlop r (s .bit))
-workAs Jk config s r = holding s (jk r (s .bit))
+workAs (Gate g) config s r = keeping s (gateOut g config r)
+workAs (Flop f) config s r = holding s (flopNext f r (s .bit))
 workAs (OneShot retrigger) config s r = oneShot retrigger config s r
 workAs (Delay retrigger) config s r = delay retrigger config s r
 
 -- a cell of a type, worked out with the readings of its four slots
 unfoldable pub workOut : ℕ → ℕ → State → Slots → Worked
 workOut kind config s r = workAs (rowOf kind .class) config s (masked (rowOf kind .used) r)
-
--- what a state shows: a flip-flop's bit, whether a one-shot's count is above 0, a delay's pulse; gates and constants keep nothing, and show `out`
-unfoldable pub shown : Class → State → Bool → Bool
-shown Nothing s out = out
-shown Constant s out = out
-shown Lookup s out = out
-shown And2 s out = out
-shown Or2 s out = out
-shown Xor2 s out = out
-shown And4 s out = out
-shown Or4 s out = out
-shown DFlop s out = s .bit
-shown SyncDFlop s out = s .bit
-shown ClearDFlop s out = s .bit
-shown Jk s out = s .bit
-shown (OneShot t) s out = ltb 0 (s .count .0)
-shown (Delay t) s out = s .pulse

@@ -2,7 +2,7 @@
 ghost use mathlib.Core.Path.{_≡_};
 ghost use Prim.Native.Nat.{_<_, _≤_};
 ghost use Rattle.words.specs.Bits.{bitNumber};
-ghost use Rattle.cells.specs.Table.{slots, rowOf, levelSlots};
+ghost use Rattle.cells.specs.Table.{slots, keptBy, rowOf, levelSlots};
 ghost use Rattle.cells.specs.Work.{placeOf, slotsOf};
 
 // One bit for each input slot: the readings of the four, or a set of them.
@@ -14,20 +14,30 @@ pub struct Slots {
     pub f: bool,
 }
 
-// What a type does. One-shots and delays say whether they take a trigger while the count is above 0.
-pub enum Class {
-    Nothing,
-    Constant,
+// The gates. A lookup reads its configuration, the code; the others read their slots alone.
+pub enum GateKind {
     Lookup,
     And2,
     Or2,
     Xor2,
     And4,
     Or4,
+}
+
+// The flip-flops, types 1, 12, 18 and 13.
+pub enum FlopKind {
     DFlop,
     SyncDFlop,
     ClearDFlop,
     Jk,
+}
+
+// What a type does: a family, with what tells its members apart. One-shots and delays say whether they take a trigger while the count is above 0.
+pub enum Class {
+    Nothing,
+    Constant,
+    Gate(GateKind),
+    Flop(FlopKind),
     OneShot(bool),
     Delay(bool),
 }
@@ -39,7 +49,7 @@ pub enum Kept {
     Count,
 }
 
-// What the table holds of a type. Without a configuration the largest is 0.
+// What the table holds of a type. Without a configuration the largest is 0, and with one it is above 0.
 pub struct Row {
     pub used: Slots,
     pub edge: Slots,
@@ -48,6 +58,9 @@ pub struct Row {
     pub class: Class,
     pub kept: Kept,
 }
+
+// The number of cell types. A type is a number below it.
+pub const TYPES: usize = 19;
 
 // Sets of slots, packed: X 1, Y 2, Z 4, F 8. The readings of the four slots are packed in the same way.
 const NONE: u8 = 0;
@@ -67,7 +80,7 @@ const XYF: u8 = 11;
 // The table is kept by columns, each by type number. A constant is made anew wherever it is read, and a tick reads some columns for every cell.
 
 // The slots used.
-const USED: [u8; 19] = [
+const USED: [u8; TYPES] = [
     NONE,
     XYZF,
     XY,
@@ -90,7 +103,7 @@ const USED: [u8; 19] = [
 ];
 
 // The edge slots.
-const EDGE: [u8; 19] = [
+const EDGE: [u8; TYPES] = [
     NONE,
     ONLY_Y,
     NONE,
@@ -113,7 +126,7 @@ const EDGE: [u8; 19] = [
 ];
 
 // The largest configuration, 0 where there is none.
-const LARGEST: [u16; 19] = [
+const LARGEST: [u16; TYPES] = [
     65535,
     0,
     15,
@@ -135,66 +148,21 @@ const LARGEST: [u16; 19] = [
     0,
 ];
 
-// Whether there is a configuration.
-const CONFIGURED: [bool; 19] = [
-    true,
-    false,
-    true,
-    true,
-    true,
-    false,
-    false,
-    false,
-    true,
-    true,
-    false,
-    false,
-    false,
-    false,
-    true,
-    true,
-    true,
-    true,
-    false,
-];
-
-// What is kept between ticks.
-const KEPT: [Kept; 19] = [
-    Kept::Stateless,
-    Kept::Bit,
-    Kept::Stateless,
-    Kept::Stateless,
-    Kept::Stateless,
-    Kept::Stateless,
-    Kept::Stateless,
-    Kept::Stateless,
-    Kept::Count,
-    Kept::Count,
-    Kept::Stateless,
-    Kept::Stateless,
-    Kept::Bit,
-    Kept::Bit,
-    Kept::Count,
-    Kept::Count,
-    Kept::Count,
-    Kept::Count,
-    Kept::Bit,
-];
-
+// A bit as a number.
 fn number(b: bool) -> u32
     ensures { λ n. ⌜ (n ≡ bitNumber b) × (n ≤ 1) ⌝ }
 {
     if b { 1 } else { 0 }
 }
 
-// Four readings, packed.
+// Four readings, packed: a number below 16.
 pub fn packed(x: bool, y: bool, z: bool, f: bool) -> u32
     ensures { λ p. ⌜ (p ≡ placeOf (slots x y z f)) × (p < 16) ⌝ }
 {
     number(x) + 2 * number(y) + 4 * number(z) + 8 * number(f)
 }
 
-// The slots of a packed set, or packed readings.
+// The slots of a packed set, or packed readings. Only the lowest four bits count.
 pub fn unpacked(p: u32) -> Slots
     ensures { λ s. ⌜ s ≡ slotsOf p ⌝ }
 {
@@ -213,25 +181,39 @@ pub fn class_of(kind: u8) -> Class
 {
     match kind {
         0 => Class::Constant,
-        1 => Class::DFlop,
-        2 => Class::Lookup,
-        3 => Class::Lookup,
-        4 => Class::Lookup,
-        5 => Class::And2,
-        6 => Class::Or2,
-        7 => Class::Xor2,
+        1 => Class::Flop(FlopKind::DFlop),
+        2 => Class::Gate(GateKind::Lookup),
+        3 => Class::Gate(GateKind::Lookup),
+        4 => Class::Gate(GateKind::Lookup),
+        5 => Class::Gate(GateKind::And2),
+        6 => Class::Gate(GateKind::Or2),
+        7 => Class::Gate(GateKind::Xor2),
         8 => Class::OneShot(true),
         9 => Class::Delay(true),
-        10 => Class::And4,
-        11 => Class::Or4,
-        12 => Class::SyncDFlop,
-        13 => Class::Jk,
+        10 => Class::Gate(GateKind::And4),
+        11 => Class::Gate(GateKind::Or4),
+        12 => Class::Flop(FlopKind::SyncDFlop),
+        13 => Class::Flop(FlopKind::Jk),
         14 => Class::OneShot(false),
         15 => Class::Delay(false),
         16 => Class::OneShot(false),
         17 => Class::Delay(false),
-        18 => Class::ClearDFlop,
+        18 => Class::Flop(FlopKind::ClearDFlop),
         _ => Class::Nothing,
+    }
+}
+
+// What a class keeps between ticks.
+fn kept_by(class: Class) -> Kept
+    ensures { λ k. ⌜ k ≡ keptBy class ⌝ }
+{
+    match class {
+        Class::Nothing => Kept::Stateless,
+        Class::Constant => Kept::Stateless,
+        Class::Gate(_) => Kept::Stateless,
+        Class::Flop(_) => Kept::Bit,
+        Class::OneShot(_) => Kept::Count,
+        Class::Delay(_) => Kept::Count,
     }
 }
 
@@ -246,44 +228,41 @@ pub fn used_of(kind: u8) -> u32
     ensures { λ u. ⌜ (u ≡ placeOf (rowOf kind .used)) × (u < 16) ⌝ }
 {
     let n = kind as usize;
-    if n < 19 { wide(USED[n]) } else { 0 }
+    if n < TYPES { wide(USED[n]) } else { 0 }
 }
 
-// Its edge slots, packed.
+// Its edge slots, packed; past the table none.
 pub fn edge_of(kind: u8) -> u32
     ensures { λ e. ⌜ (e ≡ placeOf (rowOf kind .edge)) × (e < 16) ⌝ }
 {
     let n = kind as usize;
-    if n < 19 { wide(EDGE[n]) } else { 0 }
+    if n < TYPES { wide(EDGE[n]) } else { 0 }
 }
 
-// The whole row of a type.
+// Its largest configuration; 0 where it has none, and past the table.
+fn largest_of(kind: u8) -> u16
+    ensures { λ l. ⌜ l ≡ rowOf kind .largest ⌝ }
+{
+    let n = kind as usize;
+    if n < TYPES { LARGEST[n] } else { 0 }
+}
+
+// The whole row of a type. A number past the table has no slots and no configuration, keeps nothing and does nothing.
 pub fn row_of(kind: u8) -> Row
     ensures { λ r. ⌜ r ≡ rowOf kind ⌝ }
 {
-    let n = kind as usize;
     let class = class_of(kind);
     let used = unpacked(used_of(kind));
     let edge = unpacked(edge_of(kind));
-    if n < 19 {
-        let kept = KEPT[n];
-        Row {
-            used: used,
-            edge: edge,
-            configured: CONFIGURED[n],
-            largest: LARGEST[n],
-            class: class,
-            kept: kept,
-        }
-    } else {
-        Row {
-            used: used,
-            edge: edge,
-            configured: false,
-            largest: 0,
-            class: class,
-            kept: Kept::Stateless,
-        }
+    let largest = largest_of(kind);
+    let kept = kept_by(class);
+    Row {
+        used: used,
+        edge: edge,
+        configured: 0 < largest,
+        largest: largest,
+        class: class,
+        kept: kept,
     }
 }
 

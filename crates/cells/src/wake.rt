@@ -1,10 +1,11 @@
 // Whether a quick tick works out a cell.
 ghost use mathlib.Core.Path.{_≡_};
 ghost use Rattle.cells.specs.Wake;
-ghost use Rattle.cells.specs.Wake.{timerStirred, stirredAs, hasEdges};
+ghost use Rattle.cells.specs.Wake.{timerStirred, flopClock, stirredAs, hasEdges};
 ghost use Rattle.cells.specs.Work.{slotsOf};
 use crate::cell::State;
 use crate::table::Class;
+use crate::table::FlopKind;
 use crate::table::Slots;
 use crate::table::class_of;
 use crate::table::edge_of;
@@ -20,6 +21,18 @@ fn timer_stirred(s: State, r: Slots) -> bool
     (r.x | r.f) | (r.y & ((0 < count.0) | s.pulse))
 }
 
+// Whether a flip-flop's clock slot is high.
+fn flop_clock(flop: FlopKind, r: Slots) -> bool
+    ensures { λ q. ⌜ q ≡ flopClock flop r ⌝ }
+{
+    match flop {
+        FlopKind::DFlop => r.y,
+        FlopKind::SyncDFlop => r.y,
+        FlopKind::ClearDFlop => r.y,
+        FlopKind::Jk => r.z,
+    }
+}
+
 // Whether an edge that matters to the class is high among the used readings.
 fn stirred_as(class: Class, s: State, r: Slots) -> bool
     ensures { λ q. ⌜ q ≡ stirredAs class s r ⌝ }
@@ -27,22 +40,14 @@ fn stirred_as(class: Class, s: State, r: Slots) -> bool
     match class {
         Class::Nothing => false,
         Class::Constant => false,
-        Class::Lookup => false,
-        Class::And2 => false,
-        Class::Or2 => false,
-        Class::Xor2 => false,
-        Class::And4 => false,
-        Class::Or4 => false,
-        Class::DFlop => r.y,
-        Class::SyncDFlop => r.y,
-        Class::ClearDFlop => r.y,
-        Class::Jk => r.z,
+        Class::Gate(_) => false,
+        Class::Flop(flop) => flop_clock(flop, r),
         Class::OneShot(_) => timer_stirred(s, r),
         Class::Delay(_) => timer_stirred(s, r),
     }
 }
 
-// Whether a cell of a type is stirred by what its slots read, packed.
+// Whether a cell of a type is stirred by what its slots read, packed. Slots that the type does not use do not count.
 pub fn stirred(kind: u8, s: State, now: u32) -> bool
     ensures { λ q. ⌜ q ≡ Wake.stirred kind s (slotsOf now) ⌝ }
 {

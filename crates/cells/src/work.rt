@@ -1,12 +1,14 @@
-// A cell worked out: one function for each class, and the one that picks among them.
+// A cell worked out: one function for each family, and the one that picks among them.
 ghost use mathlib.Core.Path.{_≡_};
 ghost use Rattle.cells.specs.Work;
-ghost use Rattle.cells.specs.Work.{slotsOf, lookupOut, dFlop, syncDFlop, clearDFlop, nextCount, nextPulse, pulses};
-ghost use Rattle.cells.specs.Work.{and2, or2, xor2, and4, or4, keeping, holding, oneShot, workAs, workOut};
+ghost use Rattle.cells.specs.Work.{slotsOf, lookupOut, gateOut, dFlop, syncDFlop, clearDFlop, flopNext, nextCount, nextPulse, pulses};
+ghost use Rattle.cells.specs.Work.{keeping, holding, countAfter, pulseAfter, oneShot, workAs, workOut};
 use crate::cell::Pulses;
 use crate::cell::State;
 use crate::cell::Worked;
 use crate::table::Class;
+use crate::table::FlopKind;
+use crate::table::GateKind;
 use crate::table::Slots;
 use crate::table::class_of;
 use crate::table::packed;
@@ -18,6 +20,20 @@ fn lookup(code: u16, r: Slots) -> bool
     ensures { λ q. ⌜ q ≡ lookupOut code r ⌝ }
 {
     words::bit(code as u64, packed(r.x, r.y, r.z, r.f))
+}
+
+// What a gate answers.
+fn gate_out(gate: GateKind, code: u16, r: Slots) -> bool
+    ensures { λ q. ⌜ q ≡ gateOut gate code r ⌝ }
+{
+    match gate {
+        GateKind::Lookup => lookup(code, r),
+        GateKind::And2 => r.x & r.y,
+        GateKind::Or2 => r.x | r.y,
+        GateKind::Xor2 => r.x ^ r.y,
+        GateKind::And4 => (r.x & r.y) & (r.z & r.f),
+        GateKind::Or4 => (r.x | r.y) | (r.z | r.f),
+    }
 }
 
 fn d_flop(r: Slots, bit: bool) -> bool
@@ -73,6 +89,18 @@ fn jk(r: Slots, bit: bool) -> bool
         }
     } else {
         bit
+    }
+}
+
+// A flip-flop's next bit.
+fn flop_next(flop: FlopKind, r: Slots, bit: bool) -> bool
+    ensures { λ q. ⌜ q ≡ flopNext flop r bit ⌝ }
+{
+    match flop {
+        FlopKind::DFlop => d_flop(r, bit),
+        FlopKind::SyncDFlop => sync_d_flop(r, bit),
+        FlopKind::ClearDFlop => clear_d_flop(r, bit),
+        FlopKind::Jk => jk(r, bit),
     }
 }
 
@@ -140,11 +168,26 @@ fn hold(s: State, bit: bool) -> Worked
     }
 }
 
+// A timer's count after this tick, of duration `d`.
+fn count_after(retrigger: bool, d: Pulses, s: State, r: Slots) -> Pulses
+    ensures { λ n. ⌜ n ≡ pulses (countAfter retrigger (d .0) s r) ⌝ }
+{
+    let took = taken(retrigger, r, s.count);
+    next_count(r.z, took, r.y, d, s.count)
+}
+
+// A delay's pulse after this tick.
+fn pulse_after(retrigger: bool, d: Pulses, s: State, r: Slots) -> bool
+    ensures { λ q. ⌜ q ≡ pulseAfter retrigger (d .0) s r ⌝ }
+{
+    let took = taken(retrigger, r, s.count);
+    next_pulse(r.z, took, r.y, d, s.count, s.pulse)
+}
+
 fn one_shot(retrigger: bool, config: u16, s: State, r: Slots) -> Worked
     ensures { λ w. ⌜ w ≡ oneShot retrigger config s r ⌝ }
 {
-    let took = taken(retrigger, r, s.count);
-    let count = next_count(r.z, took, r.y, Pulses(config), s.count);
+    let count = count_after(retrigger, Pulses(config), s, r);
     let mut next = s;
     next.count = count;
     Worked {
@@ -156,9 +199,8 @@ fn one_shot(retrigger: bool, config: u16, s: State, r: Slots) -> Worked
 fn delay(retrigger: bool, config: u16, s: State, r: Slots) -> Worked
     ensures { λ w. ⌜ w ≡ Work.delay retrigger config s r ⌝ }
 {
-    let took = taken(retrigger, r, s.count);
-    let count = next_count(r.z, took, r.y, Pulses(config), s.count);
-    let pulse = next_pulse(r.z, took, r.y, Pulses(config), s.count, s.pulse);
+    let count = count_after(retrigger, Pulses(config), s, r);
+    let pulse = pulse_after(retrigger, Pulses(config), s, r);
     let mut next = s;
     next.count = count;
     next.pulse = pulse;
@@ -168,36 +210,6 @@ fn delay(retrigger: bool, config: u16, s: State, r: Slots) -> Worked
     }
 }
 
-fn gate_and2(r: Slots) -> bool
-    ensures { λ q. ⌜ q ≡ and2 r ⌝ }
-{
-    r.x & r.y
-}
-
-fn gate_or2(r: Slots) -> bool
-    ensures { λ q. ⌜ q ≡ or2 r ⌝ }
-{
-    r.x | r.y
-}
-
-fn gate_xor2(r: Slots) -> bool
-    ensures { λ q. ⌜ q ≡ xor2 r ⌝ }
-{
-    r.x ^ r.y
-}
-
-fn gate_and4(r: Slots) -> bool
-    ensures { λ q. ⌜ q ≡ and4 r ⌝ }
-{
-    (r.x & r.y) & (r.z & r.f)
-}
-
-fn gate_or4(r: Slots) -> bool
-    ensures { λ q. ⌜ q ≡ or4 r ⌝ }
-{
-    (r.x | r.y) | (r.z | r.f)
-}
-
 // What a class makes of the used readings, packed. Each arm unpacks what it needs.
 fn work_as(class: Class, config: u16, s: State, r: u32) -> Worked
     ensures { λ w. ⌜ w ≡ workAs class config s (slotsOf r) ⌝ }
@@ -205,16 +217,8 @@ fn work_as(class: Class, config: u16, s: State, r: u32) -> Worked
     match class {
         Class::Nothing => keep(s, false),
         Class::Constant => keep(s, config != 0),
-        Class::Lookup => keep(s, lookup(config, unpacked(r))),
-        Class::And2 => keep(s, gate_and2(unpacked(r))),
-        Class::Or2 => keep(s, gate_or2(unpacked(r))),
-        Class::Xor2 => keep(s, gate_xor2(unpacked(r))),
-        Class::And4 => keep(s, gate_and4(unpacked(r))),
-        Class::Or4 => keep(s, gate_or4(unpacked(r))),
-        Class::DFlop => hold(s, d_flop(unpacked(r), s.bit)),
-        Class::SyncDFlop => hold(s, sync_d_flop(unpacked(r), s.bit)),
-        Class::ClearDFlop => hold(s, clear_d_flop(unpacked(r), s.bit)),
-        Class::Jk => hold(s, jk(unpacked(r), s.bit)),
+        Class::Gate(gate) => keep(s, gate_out(gate, config, unpacked(r))),
+        Class::Flop(flop) => hold(s, flop_next(flop, unpacked(r), s.bit)),
         Class::OneShot(retrigger) => one_shot(retrigger, config, s, unpacked(r)),
         Class::Delay(retrigger) => delay(retrigger, config, s, unpacked(r)),
     }

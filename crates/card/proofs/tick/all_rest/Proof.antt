@@ -8,7 +8,7 @@ use lib.ListN.{getD}
 use Rattle.words.specs.Bits.{bitAt}
 use Rattle.card.specs.Address.{cellCount}
 use Rattle.card.specs.Quiet.{AllRest}
-use Rattle.cells.proofs.Laws.{not-false}
+use borrow.Author.Tests.{not-false}
 use Rattle.card.proofs.Quiet.{rest-next}
 use borrow.Author.Needs.{needs}
 use Rattle.card.proofs.tick.all_rest.Statement.{statement}

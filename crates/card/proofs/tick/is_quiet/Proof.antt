@@ -3,10 +3,10 @@ use Prim.Native.Nat.{ℕ}
 use mathlib.Core.Path.{_≡_, sym, ap, _∙_}
 use mathlib.Core.Bool.{Bool, true, false, false≢true}
 use lib.ListN.{getD}
-use borrow.Author.Tests.{eqb-true}
+use borrow.Author.Tests.{eqb-true, not-false}
 use Rattle.words.specs.Bits.{bitAt, wordOf}
 use Rattle.cells.specs.Wake.{stirred}
-use Rattle.cells.proofs.Laws.{or-left, or-right, not-false}
+use Rattle.cells.proofs.Laws.{or-left, or-right}
 use Rattle.card.specs.Address.{cellCount, slotsRead, view}
 use Rattle.card.specs.Quiet.{AllRest}
 use Rattle.card.specs.Tick.{noCell, turned}

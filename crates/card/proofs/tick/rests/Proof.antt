@@ -3,7 +3,8 @@ use mathlib.Core.Path.{_≡_, sym, ap, _∙_}
 use Rattle.words.specs.Bits.{bitAt}
 use Rattle.cells.specs.Work.{slotsOf}
 use Rattle.cells.specs.Wake.{stirred}
-use Rattle.cells.proofs.Laws.{not-true, edgeless-still}
+use borrow.Author.Tests.{not-true}
+use Rattle.cells.proofs.Laws.{edgeless-still}
 use Rattle.cells.proofs.Packed.{slots-place}
 use Rattle.card.specs.Address.{slotsRead}
 use borrow.Author.Needs.{needs}

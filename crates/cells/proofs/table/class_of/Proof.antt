@@ -1,9 +1,8 @@
 -- `cells::table::class_of` meets its contract: at each number of the table antt computes the class, and the rest are past it.
-use Prim.Native.Nat.{ℕ, _+_, _≤_, zero-le}
+use Prim.Native.Nat.{ℕ, _+_, _≤_}
 use mathlib.Core.Path.{_≡_, sym, ap}
 use native.Mathlib.Omega.{arith}
 use Rattle.cells.specs.declared.table.Row.{Row}
-use Rattle.cells.specs.declared.table.Class.{Class}
 use Rattle.cells.specs.Table.{rowOf, typeCount}
 use Rattle.cells.proofs.Rows.{past-table}
 use Rattle.cells.proofs.table.class_of.Statement.{statement}
@@ -95,13 +94,20 @@ past-four n k h a b c d = omega arith
 returns-20 : tie.Need-returns-20
 returns-20 c =
     let n = c .before .args .kind in
-    let r = c .match .rest in
-    let h1 = past-four n 0 zero-le (r .0 .0 .0 .0 .0 .0 .0 .0 .0 .0 .0 .0 .0 .0 .0 .0 .0 .0 .1) (r .0 .0 .0 .0 .0 .0 .0 .0 .0 .0 .0 .0 .0 .0 .0 .0 .0 .1) (r .0 .0 .0 .0 .0 .0 .0 .0 .0 .0 .0 .0 .0 .0 .0 .0 .1) (r .0 .0 .0 .0 .0 .0 .0 .0 .0 .0 .0 .0 .0 .0 .0 .1) in
-    let h2 = past-four n 4 h1 (r .0 .0 .0 .0 .0 .0 .0 .0 .0 .0 .0 .0 .0 .0 .1) (r .0 .0 .0 .0 .0 .0 .0 .0 .0 .0 .0 .0 .0 .1) (r .0 .0 .0 .0 .0 .0 .0 .0 .0 .0 .0 .0 .1) (r .0 .0 .0 .0 .0 .0 .0 .0 .0 .0 .0 .1) in
-    let h3 = past-four n 8 h2 (r .0 .0 .0 .0 .0 .0 .0 .0 .0 .0 .1) (r .0 .0 .0 .0 .0 .0 .0 .0 .0 .1) (r .0 .0 .0 .0 .0 .0 .0 .0 .1) (r .0 .0 .0 .0 .0 .0 .0 .1) in
-    let h4 = past-four n 12 h3 (r .0 .0 .0 .0 .0 .0 .1) (r .0 .0 .0 .0 .0 .1) (r .0 .0 .0 .0 .1) (r .0 .0 .0 .1) in
-    let past : typeCount ≤ n = omega (arith, h4, r .0 .0 .1, r .0 .1, r .1) in
+    let r18 = c .match .rest in
+    let r14 = r18 .0 .0 .0 .0 in
+    let r10 = r14 .0 .0 .0 .0 in
+    let r6 = r10 .0 .0 .0 .0 in
+    let r2 = r6 .0 .0 .0 .0 in
+    let h3 : 3 ≤ n = omega (arith, r2 .0 .0 .1, r2 .0 .1, r2 .1) in
+    let h7 = past-four n 3 h3 (r6 .0 .0 .0 .1) (r6 .0 .0 .1) (r6 .0 .1) (r6 .1) in
+    let h11 = past-four n 7 h7 (r10 .0 .0 .0 .1) (r10 .0 .0 .1) (r10 .0 .1) (r10 .1) in
+    let h15 = past-four n 11 h11 (r14 .0 .0 .0 .1) (r14 .0 .0 .1) (r14 .0 .1) (r14 .1) in
+    let past : typeCount ≤ n = past-four n 15 h15 (r18 .0 .0 .0 .1) (r18 .0 .0 .1) (r18 .0 .1) (r18 .1) in
     sym (ap (λ (r : Row). r .class) (past-table n past))
 
 pub class-of-spec : {M : Type 1} → statement M
-class-of-spec = tie.close (tie.spec returns returns-2 returns-3 returns-4 returns-5 returns-6 returns-7 returns-8 returns-9 returns-10 returns-11 returns-12 returns-13 returns-14 returns-15 returns-16 returns-17 returns-18 returns-19 returns-20)
+class-of-spec =
+    tie.close
+    (tie.spec returns returns-2 returns-3 returns-4 returns-5 returns-6 returns-7 returns-8 returns-9 returns-10
+    returns-11 returns-12 returns-13 returns-14 returns-15 returns-16 returns-17 returns-18 returns-19 returns-20)

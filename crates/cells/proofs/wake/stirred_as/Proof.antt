@@ -1,4 +1,4 @@
--- `cells::wake::stirred_as` meets its contract: in each arm the class is known, and the definition answers by the class.
+-- `cells::wake::stirred_as` meets its contract: in each arm the family is known, and the definition answers by it.
 use Rattle.cells.specs.Wake.{stirredAs}
 use borrow.Author.Needs.{needs}
 use Rattle.cells.proofs.wake.stirred_as.Statement.{statement}
@@ -13,41 +13,20 @@ enum-told-2 c = search needs
 enum-told-3 : tie.Need-enum-told-3
 enum-told-3 c = search needs
 
+enum-known-class : tie.Need-enum-known-class
+enum-known-class c = search needs
+
+flop-clock-requires : tie.Need-flop-clock-requires
+flop-clock-requires c κs = search needs
+
 enum-told-4 : tie.Need-enum-told-4
 enum-told-4 c = search needs
-
-enum-told-5 : tie.Need-enum-told-5
-enum-told-5 c = search needs
-
-enum-told-6 : tie.Need-enum-told-6
-enum-told-6 c = search needs
-
-enum-told-7 : tie.Need-enum-told-7
-enum-told-7 c = search needs
-
-enum-told-8 : tie.Need-enum-told-8
-enum-told-8 c = search needs
-
-enum-told-9 : tie.Need-enum-told-9
-enum-told-9 c = search needs
-
-enum-told-10 : tie.Need-enum-told-10
-enum-told-10 c = search needs
-
-enum-told-11 : tie.Need-enum-told-11
-enum-told-11 c = search needs
-
-enum-told-12 : tie.Need-enum-told-12
-enum-told-12 c = search needs
-
-enum-told-13 : tie.Need-enum-told-13
-enum-told-13 c = search needs
 
 timer-stirred-requires : tie.Need-timer-stirred-requires
 timer-stirred-requires c κs = search needs
 
-enum-told-14 : tie.Need-enum-told-14
-enum-told-14 c = search needs
+enum-told-5 : tie.Need-enum-told-5
+enum-told-5 c = search needs
 
 timer-stirred-requires-2 : tie.Need-timer-stirred-requires-2
 timer-stirred-requires-2 c κs = search needs
@@ -66,47 +45,15 @@ returns-3 c = rw (c .enum-told3 .given .1)
 
 returns-4 : tie.Need-returns-4
 unfolding stirredAs
-returns-4 c = rw (c .enum-told4 .given .1)
+returns-4 c = rw (c .before .before .class .given .1, c .flop-clock .ensures)
 
 returns-5 : tie.Need-returns-5
 unfolding stirredAs
-returns-5 c = rw (c .enum-told5 .given .1)
+returns-5 c = rw (c .before .enum-told4 .given .1, c .timer-stirred .ensures)
 
 returns-6 : tie.Need-returns-6
 unfolding stirredAs
-returns-6 c = rw (c .enum-told6 .given .1)
-
-returns-7 : tie.Need-returns-7
-unfolding stirredAs
-returns-7 c = rw (c .enum-told7 .given .1)
-
-returns-8 : tie.Need-returns-8
-unfolding stirredAs
-returns-8 c = rw (c .enum-told8 .given .1)
-
-returns-9 : tie.Need-returns-9
-unfolding stirredAs
-returns-9 c = rw (c .enum-told9 .given .1)
-
-returns-10 : tie.Need-returns-10
-unfolding stirredAs
-returns-10 c = rw (c .enum-told10 .given .1)
-
-returns-11 : tie.Need-returns-11
-unfolding stirredAs
-returns-11 c = rw (c .enum-told11 .given .1)
-
-returns-12 : tie.Need-returns-12
-unfolding stirredAs
-returns-12 c = rw (c .enum-told12 .given .1)
-
-returns-13 : tie.Need-returns-13
-unfolding stirredAs
-returns-13 c = rw (c .before .enum-told13 .given .1, c .timer-stirred .ensures)
-
-returns-14 : tie.Need-returns-14
-unfolding stirredAs
-returns-14 c = rw (c .before .enum-told14 .given .1, c .timer-stirred2 .ensures)
+returns-6 c = rw (c .before .enum-told5 .given .1, c .timer-stirred2 .ensures)
 
 pub stirred-as-spec : {M : Type 1} → statement M
 stirred-as-spec =
@@ -115,30 +62,15 @@ stirred-as-spec =
     enum-told
     enum-told-2
     enum-told-3
+    enum-known-class
+    flop-clock-requires
     enum-told-4
-    enum-told-5
-    enum-told-6
-    enum-told-7
-    enum-told-8
-    enum-told-9
-    enum-told-10
-    enum-told-11
-    enum-told-12
-    enum-told-13
     timer-stirred-requires
-    enum-told-14
+    enum-told-5
     timer-stirred-requires-2
     returns
     returns-2
     returns-3
     returns-4
     returns-5
-    returns-6
-    returns-7
-    returns-8
-    returns-9
-    returns-10
-    returns-11
-    returns-12
-    returns-13
-    returns-14)
+    returns-6)
