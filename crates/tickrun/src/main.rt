@@ -15,6 +15,7 @@ use card::edits::set_source;
 use card::edits::set_type;
 use card::presets::apply_preset;
 use card::tick::Answer;
+use card::tick::Input;
 use card::tick::full_tick;
 use card::tick::quick_tick;
 use cells::table::Slots;
@@ -26,10 +27,15 @@ const AND2: u8 = 5;
 
 const ONE_SHOT: u8 = 14;
 
-// Samples: TTL0 low, and high.
-const LOW: u16 = 0;
+// What comes in: TTL0 low, and high, on the card's own clock; and another clock.
+const LOW: Input = Input { code: 0, sample: 0 };
 
-const HIGH: u16 = 256;
+const HIGH: Input = Input {
+    code: 0,
+    sample: 256,
+};
+
+const OTHER: Input = Input { code: 3, sample: 0 };
 
 const ALL: Slots = Slots {
     x: true,
@@ -56,19 +62,19 @@ fn put_answer(a: Answer)
 }
 
 // A tick, printed. The result is the card after it.
-fn quick(card: Card, code: u8, sample: u16) -> Card
-    ensures { λ r. ⌜ r ≡ Tick.tick cellCount false card code sample .card ⌝ }
+fn quick(card: Card, input: Input) -> Card
+    ensures { λ r. ⌜ r ≡ Tick.tick cellCount false card input .card ⌝ }
 {
-    let t = quick_tick(card, code, sample);
+    let t = quick_tick(card, input);
     let answer = t.answer;
     put_answer(answer);
     t.card
 }
 
-fn full(card: Card, code: u8, sample: u16) -> Card
-    ensures { λ r. ⌜ r ≡ Tick.tick cellCount true card code sample .card ⌝ }
+fn full(card: Card, input: Input) -> Card
+    ensures { λ r. ⌜ r ≡ Tick.tick cellCount true card input .card ⌝ }
 {
-    let t = full_tick(card, code, sample);
+    let t = full_tick(card, input);
     let answer = t.answer;
     put_answer(answer);
     t.card
@@ -85,7 +91,7 @@ fn put_one_shot() {
     let cell = wired(card::card::fresh(), 1, ONE_SHOT, 2, [41, 192, 0, 0]);
     let mut card = set_source(move_to(cell, 35), 1);
     for _ in 0..4u32 {
-        card = quick(card, 0, HIGH);
+        card = quick(card, HIGH);
     }
 }
 
@@ -93,23 +99,23 @@ fn put_one_shot() {
 fn put_edge() {
     let one = wired(card::card::fresh(), 1, OR2, 0, [41, 0, 0, 0]);
     let card = wired(one, 2, AND2, 0, [129, 64, 0, 0]);
-    let card = quick(card, 0, LOW);
-    let card = quick(card, 0, HIGH);
-    let card = quick(card, 0, HIGH);
-    let card = quick(card, 0, LOW);
-    quick(card, 0, LOW);
+    let card = quick(card, LOW);
+    let card = quick(card, HIGH);
+    let card = quick(card, HIGH);
+    let card = quick(card, LOW);
+    quick(card, LOW);
 }
 
 // Cell 2 follows TTL0, and cell 1 follows cell 2 a tick later. The tick of another clock is idle.
 fn put_late() {
     let one = wired(card::card::fresh(), 1, OR2, 0, [2, 0, 0, 0]);
     let card = wired(one, 2, OR2, 0, [41, 0, 0, 0]);
-    let card = quick(card, 0, HIGH);
-    let card = quick(card, 0, HIGH);
-    let card = quick(card, 3, LOW);
-    let card = quick(card, 0, LOW);
-    let card = quick(card, 0, LOW);
-    quick(card, 0, LOW);
+    let card = quick(card, HIGH);
+    let card = quick(card, HIGH);
+    let card = quick(card, OTHER);
+    let card = quick(card, LOW);
+    let card = quick(card, LOW);
+    quick(card, LOW);
 }
 
 // The counter of preset 4, with cell 1 on BNC3: each quick tick beside the full tick of a card of the same settings.
@@ -118,8 +124,8 @@ fn put_both() {
     let mut a = card;
     let mut b = card;
     for _ in 0..5u32 {
-        a = quick(a, 0, LOW);
-        b = full(b, 0, LOW);
+        a = quick(a, LOW);
+        b = full(b, LOW);
     }
 }
 

@@ -15,7 +15,7 @@ full-tick-requires c κs = search needs
 put-answer-requires : tie.Need-put-answer-requires
 put-answer-requires c κs =
     let a = c .before .before .args in
-    omega (arith, ap (λ (t : Ticked). t .answer .count) (c .before .full-tick .ensures), tick-count cellCount true (a .card) (a .code) (a .sample))
+    omega (arith, ap (λ (t : Ticked). t .answer .count) (c .before .full-tick .ensures), tick-count cellCount true (a .card) (a .input))
 
 returns : tie.Need-returns
 returns c = ap (λ (t : Ticked). t .card) (c .before .before .before .full-tick .ensures)

@@ -15,7 +15,7 @@ quick-tick-requires c κs = search needs
 put-answer-requires : tie.Need-put-answer-requires
 put-answer-requires c κs =
     let a = c .before .before .args in
-    omega (arith, ap (λ (t : Ticked). t .answer .count) (c .before .quick-tick .ensures), tick-count cellCount false (a .card) (a .code) (a .sample))
+    omega (arith, ap (λ (t : Ticked). t .answer .count) (c .before .quick-tick .ensures), tick-count cellCount false (a .card) (a .input))
 
 returns : tie.Need-returns
 returns c = ap (λ (t : Ticked). t .card) (c .before .before .before .quick-tick .ensures)
