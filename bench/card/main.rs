@@ -40,18 +40,31 @@ mod trigger {
 
     #[repr(C)]
     #[derive(Clone, Copy)]
-    pub struct Card {
-        pub pointer: u8,
-        pub trigger: u8,
-        pub cells: [Cell; 16],
-        pub connectors: [Connector; 16],
-        pub edited: u16,
+    pub struct Memory {
         pub driven: u16,
         pub outputs: u16,
         pub outputs2: u16,
         pub outputs3: u16,
         pub levels: u16,
         pub levels2: u16,
+    }
+
+    #[repr(C)]
+    #[derive(Clone, Copy)]
+    pub struct Card {
+        pub pointer: u8,
+        pub trigger: u8,
+        pub cells: [Cell; 16],
+        pub connectors: [Connector; 16],
+        pub edited: u16,
+        pub memory: Memory,
+    }
+
+    #[repr(C)]
+    #[derive(Clone, Copy)]
+    pub struct Input {
+        pub code: u8,
+        pub sample: u16,
     }
 
     #[repr(C)]
@@ -80,8 +93,8 @@ mod trigger {
     #[link(name = "trigger", kind = "static")]
     extern "C" {
         pub fn trigger_fresh() -> Card;
-        pub fn trigger_full_tick(card: Card, code: u8, sample: u16) -> Ticked;
-        pub fn trigger_quick_tick(card: Card, code: u8, sample: u16) -> Ticked;
+        pub fn trigger_full_tick(card: Card, input: Input) -> Ticked;
+        pub fn trigger_quick_tick(card: Card, input: Input) -> Ticked;
         pub fn trigger_line(
             card: Card,
             text: *const u8,
@@ -94,7 +107,7 @@ mod trigger {
     }
 }
 
-use trigger::{Answer, Card, Ticked};
+use trigger::{Answer, Card, Input, Ticked};
 
 // The card after a line that must not be refused.
 fn line(card: Card, text: &str) -> Card {
@@ -172,7 +185,7 @@ fn still() -> Vec<String> {
     (1..=16).flat_map(cell).collect()
 }
 
-fn show(answer: &Answer, code: u8, sample: u16, kind: &str) {
+fn show(answer: &Answer, Input { code, sample }: Input, kind: &str) {
     println!(
         "T {code} {sample:04x} {}",
         if kind == "quick" { 'Q' } else { 'F' }
@@ -200,7 +213,7 @@ fn main() {
         _ => panic!("card CARD KIND N [show]"),
     };
     let n: u32 = n.parse().expect("a number of ticks");
-    let tick: Option<unsafe extern "C" fn(Card, u8, u16) -> Ticked> = match kind {
+    let tick: Option<unsafe extern "C" fn(Card, Input) -> Ticked> = match kind {
         "full" | "idle" => Some(trigger::trigger_full_tick),
         "quick" => Some(trigger::trigger_quick_tick),
         "none" => None,
@@ -227,20 +240,21 @@ fn main() {
     let (mut checksum, mut woken) = (0u32, 0u64);
     for _ in 0..n {
         let sample = if moving { random.next() as u16 } else { 0 };
+        let input = Input { code, sample };
         let Some(tick) = tick else {
-            black_box(sample);
+            black_box(input);
             continue;
         };
         let Ticked {
             card: after,
             answer,
-        } = unsafe { tick(card, code, sample) };
+        } = unsafe { tick(card, input) };
         card = after;
         checksum =
             checksum.rotate_left(1) ^ u32::from(answer.driven) << 16 ^ u32::from(answer.cells);
         woken += u64::from(answer.count);
         if shown {
-            show(&answer, code, sample, kind);
+            show(&answer, input, kind);
         }
     }
     if !shown {

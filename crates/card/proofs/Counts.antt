@@ -5,6 +5,7 @@ use native.Mathlib.Omega.{arith}
 use lib.Dec.{eqb}
 use Rattle.words.specs.Bits.{bitNumber, countOf}
 use Rattle.card.specs.declared.card.Card.{Card}
+use Rattle.card.specs.declared.tick.Input.{Input}
 use Rattle.card.specs.Tick.{wokeAt, wiresOf, lines, ticked, idle, tick}
 use Rattle.card.proofs.Sleep.{count-is}
 
@@ -17,12 +18,12 @@ count-le f (suc n) = go (f n) (count-le f n)
     go true h = omega arith
     go false h = omega arith
 
-pub tick-count : (n : ℕ) (full : Bool) (c : Card) (code sample : ℕ) → tick n full c code sample .answer .count ≤ n
+pub tick-count : (n : ℕ) (full : Bool) (c : Card) (input : Input) → tick n full c input .answer .count ≤ n
 unfolding tick
-tick-count n full c code sample = go (eqb code (c .trigger))
+tick-count n full c input = go (eqb (input .code) (c .trigger))
   where
-    go : (b : Bool) → cond b (ticked n full c sample) (idle c) .answer .count ≤ n
+    go : (b : Bool) → cond b (ticked n full c input) (idle c) .answer .count ≤ n
     go true =
-        let w = wiresOf c (lines n c sample .levels) in
+        let w = wiresOf (c .memory) (lines n c input .levels) in
         rw (count-is n full (c .cells) (c .edited) w) (count-le (wokeAt n full (c .cells) (c .edited) w) n)
     go false = zero-le

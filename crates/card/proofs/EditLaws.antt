@@ -1,7 +1,7 @@
 -- Edits keep a card settled: cells that they change are edited, and so exempt. Said once for edits in general, and then of each edit that it is one.
-use Prim.Native.Nat.{ℕ, _-_, _^_, _≤_, _<_}
+use Prim.Native.Nat.{ℕ, _-_, _^_, _<_}
 use mathlib.Core.Path.{_≡_, refl, sym, ap, _∙_}
-use mathlib.Core.Bool.{Bool, true, false, _||_, cond, true≢false}
+use mathlib.Core.Bool.{Bool, true, false, cond, true≢false}
 use mathlib.Core.List.{List}
 use mathlib.Core.Option.{Option, none, some, Option·getD}
 use lib.ListN.{getD, set}
@@ -15,24 +15,18 @@ use Rattle.cells.specs.declared.table.Slots.{Slots}
 use Rattle.cells.proofs.Laws.{or-left, or-right}
 use Rattle.card.specs.declared.card.Card.{Card}
 use Rattle.card.specs.declared.card.Connector.{Connector}
-use Rattle.card.specs.Address.{cellCount}
 use Rattle.card.specs.Tick.{noCell}
 use Rattle.card.specs.Edits.{atCell, atConnector, withSettings, withCell, putCell, putConnector, move, setTrigger, home, setType, setConfig, setState, setSlots, setConnectorType, setSource}
 use Rattle.card.specs.Presets.{presetCell, has, cellAfter, editedAfter, preset}
 use Rattle.card.specs.Record.{poweredUp}
-use Rattle.card.specs.Settled.{remembered, Keeps, Settled}
+use Rattle.card.specs.Settled.{Settled}
 use Rattle.card.specs.Untouched.{Edit}
-
--- what a reader has read is the same where the memory is
-pub remembered-same : (n i : ℕ) (c d : Card) (s : List ℕ) → Edit n c d → remembered n i d s ≡ remembered n i c s
-unfolding remembered
-remembered-same n i c d s e = rw (e .outputs, e .outputs2, e .outputs3, e .levels, e .levels2)
 
 -- an edit keeps a card settled
 pub edit-settled : (n : ℕ) (c d : Card) → Edit n c d → Settled n c → Settled n d
 unfolding Settled
 edit-settled n c d e settled i h edited =
-    rw (e .kept i h edited, remembered-same n i c d (getD (c .cells) i noCell .slots) e, e .outputs) (settled i h (e .unedited i h edited))
+    rw (e .kept i h edited, e .memory) (settled i h (e .unedited i h edited))
 
 -- ---- the edits
 
@@ -42,7 +36,7 @@ settings-edit : (n : ℕ) (c : Card) (trigger : ℕ) (cells : List Cell) (connec
     → ((i : ℕ) → i < n → bitAt edited i ≡ false → getD cells i noCell ≡ getD (c .cells) i noCell)
     → Edit n c (withSettings c trigger cells connectors edited)
 settings-edit n c trigger cells connectors edited unedited kept =
-    record { driven = refl; outputs = refl; outputs2 = refl; outputs3 = refl; levels = refl; levels2 = refl; unedited = unedited; kept = kept }
+    record { memory = refl; unedited = unedited; kept = kept }
 
 same-edit : (n : ℕ) (c : Card) (trigger : ℕ) (connectors : List Connector) → Edit n c (withSettings c trigger (c .cells) connectors (c .edited))
 same-edit n c trigger connectors = settings-edit n c trigger (c .cells) connectors (c .edited) (λ i h e. e) (λ i h e. refl)
@@ -79,7 +73,7 @@ module _ (n : ℕ) (c : Card) where
   pub move-edit : (p : ℕ) → Edit n c (move c p)
   unfolding move
   move-edit p =
-      record { driven = refl; outputs = refl; outputs2 = refl; outputs3 = refl; levels = refl; levels2 = refl; unedited = λ i h e. e; kept = λ i h e. refl }
+      record { memory = refl; unedited = λ i h e. e; kept = λ i h e. refl }
 
   pub trigger-edit : (t : ℕ) → Edit n c (setTrigger c t)
   unfolding setTrigger

@@ -17,18 +17,11 @@ use Rattle.card.specs.Edits.{withSettings}
 use Rattle.card.specs.Tick.{noCell}
 use Rattle.card.specs.Presets.{Setting, has, settingOf, offered, presetCell, presetSource, cellAfter, connectorAfter, editedAfter, preset}
 
--- a preset moves nothing that ticks, the pointer or the trigger source hold
+-- a preset leaves the memory, the pointer and the trigger source
 pub preset-keeps : (n : ℕ) (c : Card) (v : ℕ) → let d = preset n c v in
-    (d .outputs ≡ c .outputs)
-    × (d .outputs2 ≡ c .outputs2)
-    × (d .outputs3 ≡ c .outputs3)
-    × (d .levels ≡ c .levels)
-    × (d .levels2 ≡ c .levels2)
-    × (d .driven ≡ c .driven)
-    × (d .pointer ≡ c .pointer)
-    × (d .trigger ≡ c .trigger)
+    (d .memory ≡ c .memory) × (d .pointer ≡ c .pointer) × (d .trigger ≡ c .trigger)
 unfolding preset
-preset-keeps n c v = (refl, refl, refl, refl, refl, refl, refl, refl)
+preset-keeps n c v = (refl, refl, refl)
 
 listed-self : {A : Type 0} (l : List A) (d : A) (n : ℕ) → length l ≡ n → listed (λ i. getD l i d) n ≡ l
 listed-self l d n e =

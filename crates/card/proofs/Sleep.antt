@@ -1,36 +1,34 @@
 -- The theorems of ticks: the count is the number of woken cells, the memory holds what was read, and on a settled card a quick tick does what a
 -- full one does. A fresh card is settled and every tick keeps it so.
 use Prim.Native.Nat.{ℕ, zero, suc, _+_, _-_, _*_, _^_, _≤_, _<_}
-use mathlib.Core.Path.{_≡_, refl, sym, ap, ap₂, _∙_, subst}
+use mathlib.Core.Path.{_≡_, refl, sym, ap, ap₂, _∙_}
 use mathlib.Core.Bool.{Bool, true, false, _||_, cond}
 use mathlib.Core.List.{List}
-use native.Mathlib.Nat.{le-refl, lt-of-lt-of-le, lt-suc-self, le-of-lt}
+use native.Mathlib.Nat.{le-refl, lt-of-lt-of-le, le-of-lt}
 use native.Mathlib.Decide.{decLt}
 use native.Mathlib.Omega.{arith}
 use lib.Count.{ones}
 use lib.Dec.{ltb, eqb}
 use lib.ListN.{getD, getD-replicate}
 use borrow.Author.Tests.{lt-ltb, le-ltb}
-use Rattle.words.specs.Bits.{bitAt, bitNumber, wordOf, countOf}
+use Rattle.words.specs.Bits.{bitAt, bitNumber, countOf}
 use Rattle.words.specs.Listed.{listed}
 use Rattle.words.proofs.Laws.{bit-zero, bit-built, built-all, ones-built}
 use Rattle.words.proofs.Listed.{listed-at, listed-same}
 use Rattle.cells.specs.declared.table.Slots.{Slots}
 use Rattle.cells.specs.declared.cell.Cell.{Cell}
 use Rattle.cells.specs.declared.cell.Worked.{Worked}
-use Rattle.cells.specs.Work.{keeping, workOut}
-use Rattle.cells.specs.Wake.{stirred, disagree, wakes}
+use Rattle.cells.specs.Wake.{stirred, disagree}
 use Rattle.cells.proofs.Laws.{again, constant-works, sleeps, disagree-sym, disagree-trans}
 use Rattle.card.specs.declared.card.Card.{Card}
-use Rattle.card.specs.declared.card.Connector.{Connector}
+use Rattle.card.specs.declared.card.Memory.{Memory}
+use Rattle.card.specs.declared.tick.Input.{Input}
 use Rattle.card.specs.declared.tick.Wires.{Wires}
-use Rattle.card.specs.declared.tick.Turn.{Turn}
-use Rattle.card.specs.declared.tick.Ticked.{Ticked}
 use Rattle.card.specs.Address.{cellCount, levelAt, slotsRead, mixed, view}
-use Rattle.card.specs.Fresh.{fresh, clearState, freshCell, started}
-use Rattle.card.specs.Tick.{noCell, readNow, readLast, withState, workedTurn, sleptTurn, named, turnAt, outputsBelow, turnOf, cellAfter, wokeAt, turned, wiresOf, lines, cardAfter, readIn, turnedIn, ticked, idle, tick}
+use Rattle.card.specs.Fresh.{clearState, freshCell, noMemory, fresh}
+use Rattle.card.specs.Tick.{noCell, readNow, readLast, withState, workedTurn, sleptTurn, named, turnAt, outputsBelow, cellAfter, wokeAt, turned, wiresOf, lines, cardAfter, readIn, ticked, idle, tick}
 use Rattle.card.specs.Settled.{remembered, Keeps, Settled, AlikeTicks}
-use Rattle.card.specs.Examples.{unsettled, wrong-stays, wrong-goes}
+use Rattle.card.specs.Examples.{clock0, unsettled, wrong-stays, wrong-goes}
 use Rattle.card.proofs.Views.{view-low}
 use Rattle.card.proofs.Ticks.{outAt, outputs-built}
 
@@ -96,22 +94,21 @@ quick-set n cells edited w i h =
 -- ---- the memory
 
 -- after a tick that ran, the memory says of each reader what it read in it: cells and connectors, levels and edges
-pub remembers : (n : ℕ) (full : Bool) (c : Card) (sample i : ℕ) (s : List ℕ) → i ≤ n
-    → remembered n i (ticked n full c sample .card) s ≡ readIn n full c sample i s
+pub remembers : (n : ℕ) (full : Bool) (c : Card) (input : Input) (i : ℕ) (s : List ℕ) → i ≤ n
+    → remembered n i (ticked n full c input .card .memory) s ≡ readIn n full c input i s
 unfolding remembered turned readNow
-remembers n full c sample i s h =
-    read-whole n full (c .cells) (c .edited) (wiresOf c (lines n c sample .levels)) n i s h
+remembers n full c input i s h =
+    read-whole n full (c .cells) (c .edited) (wiresOf (c .memory) (lines n c input .levels)) n i s h
 
 -- before a tick, what its readers had read in the last one is what the memory says
-pub recalls : (n i : ℕ) (c : Card) (levels : ℕ) (s : List ℕ) → readLast n i (wiresOf c levels) s ≡ remembered n i c s
+pub recalls : (n i : ℕ) (m : Memory) (levels : ℕ) (s : List ℕ) → readLast n i (wiresOf m levels) s ≡ remembered n i m s
 unfolding readLast remembered
-recalls n i c levels s = refl
+recalls n i m levels s = refl
 
 -- a card that powers up remembers that every level was low
-pub started-low : (n i trigger : ℕ) (cells : List Cell) (connectors : List Connector) (edited : ℕ)
-    → remembered n i (started trigger cells connectors edited) ≡ slotsRead (λ b. false) (λ b. false)
+pub started-low : (n i : ℕ) → remembered n i noMemory ≡ slotsRead (λ b. false) (λ b. false)
 unfolding remembered
-started-low n i trigger cells connectors edited = λ k s. slotsRead (view-low n i k) (view-low n i k) s
+started-low n i = λ k s. slotsRead (view-low n i k) (view-low n i k) s
 
 -- ---- settled cards
 
@@ -138,106 +135,109 @@ slots-stay n full cell i edited w below = turn-slots (full || named n cell i edi
 module _ (n : ℕ) (c : Card) (levels : ℕ) (settled : Settled n c) where
   -- a cell that the rules do not name is settled under what the last tick read
   slept-keeps : (i below : ℕ) → i < n → let cell = getD (c .cells) i noCell in
-      named n cell i (c .edited) (wiresOf c levels) below ≡ false
-      → (disagree (cell .kind) (readNow n i (wiresOf c levels) below (cell .slots)) (readLast n i (wiresOf c levels) (cell .slots)) ≡ false)
-      × (stirred (cell .kind) (cell .state) (readNow n i (wiresOf c levels) below (cell .slots)) ≡ false)
-      × Keeps cell (bitAt (c .outputs) i) (readLast n i (wiresOf c levels) (cell .slots))
+      named n cell i (c .edited) (wiresOf (c .memory) levels) below ≡ false
+      → (disagree (cell .kind) (readNow n i (wiresOf (c .memory) levels) below (cell .slots)) (readLast n i (wiresOf (c .memory) levels) (cell .slots)) ≡ false)
+      × (stirred (cell .kind) (cell .state) (readNow n i (wiresOf (c .memory) levels) below (cell .slots)) ≡ false)
+      × Keeps cell (bitAt (c .memory .outputs) i) (readLast n i (wiresOf (c .memory) levels) (cell .slots))
   unfolding named Settled
   slept-keeps i below h asleep =
       let cell = getD (c .cells) i noCell in
-      let s = sleeps (cell .kind) (cell .state) (bitAt (c .edited) i) (readNow n i (wiresOf c levels) below (cell .slots))
-      (readLast n i (wiresOf c levels) (cell .slots)) asleep in
-      (s .2, s .1, rw (recalls n i c levels (cell .slots)) (settled i h (s .0)))
+      let s = sleeps (cell .kind) (cell .state) (bitAt (c .edited) i) (readNow n i (wiresOf (c .memory) levels) below (cell .slots))
+      (readLast n i (wiresOf (c .memory) levels) (cell .slots)) asleep in
+      (s .2, s .1, rw (recalls n i (c .memory) levels (cell .slots)) (settled i h (s .0)))
 
   -- either kind of turn leaves a cell that keeps its state and output under what it has now read
-  turn-keeps : (full : Bool) (i below : ℕ) → i < n → let t = turnAt n full (getD (c .cells) i noCell) i (c .edited) (wiresOf c levels) below in
-      Keeps (t .cell) (t .out) (readNow n i (wiresOf c levels) below (getD (c .cells) i noCell .slots))
+  turn-keeps : (full : Bool) (i below : ℕ) → i < n → let t = turnAt n full (getD (c .cells) i noCell) i (c .edited) (wiresOf (c .memory) levels) below in
+      Keeps (t .cell) (t .out) (readNow n i (wiresOf (c .memory) levels) below (getD (c .cells) i noCell .slots))
   unfolding turnAt
   turn-keeps true i below h = keeps-worked _ _
-  turn-keeps false i below h = go (named n (getD (c .cells) i noCell) i (c .edited) (wiresOf c levels) below) refl
+  turn-keeps false i below h = go (named n (getD (c .cells) i noCell) i (c .edited) (wiresOf (c .memory) levels) below) refl
     where
-      go : (b : Bool) → named n (getD (c .cells) i noCell) i (c .edited) (wiresOf c levels) below ≡ b
+      go : (b : Bool) → named n (getD (c .cells) i noCell) i (c .edited) (wiresOf (c .memory) levels) below ≡ b
           → let cell = getD (c .cells) i noCell in
-          let now = readNow n i (wiresOf c levels) below (cell .slots) in
-          let t = cond b (workedTurn cell now) (sleptTurn cell (bitAt (c .outputs) i)) in Keeps (t .cell) (t .out) now
+          let now = readNow n i (wiresOf (c .memory) levels) below (cell .slots) in
+          let t = cond b (workedTurn cell now) (sleptTurn cell (bitAt (c .memory .outputs) i)) in Keeps (t .cell) (t .out) now
       go true e = keeps-worked _ _
       go false e =
           let k = slept-keeps i below h e in
-          keeps-slept (getD (c .cells) i noCell) (bitAt (c .outputs) i) _ _ (k .0) (k .2)
+          keeps-slept (getD (c .cells) i noCell) (bitAt (c .memory .outputs) i) _ _ (k .0) (k .2)
 
   -- and the two kinds leave the same cell and the same output
   turn-same : (i below : ℕ) → i < n
-      → let quick = turnAt n false (getD (c .cells) i noCell) i (c .edited) (wiresOf c levels) below in
-      let whole = turnAt n true (getD (c .cells) i noCell) i (c .edited) (wiresOf c levels) below in
+      → let quick = turnAt n false (getD (c .cells) i noCell) i (c .edited) (wiresOf (c .memory) levels) below in
+      let whole = turnAt n true (getD (c .cells) i noCell) i (c .edited) (wiresOf (c .memory) levels) below in
       (quick .cell ≡ whole .cell) × (quick .out ≡ whole .out)
   unfolding turnAt Keeps
-  turn-same i below h = go (named n (getD (c .cells) i noCell) i (c .edited) (wiresOf c levels) below) refl
+  turn-same i below h = go (named n (getD (c .cells) i noCell) i (c .edited) (wiresOf (c .memory) levels) below) refl
     where
-      go : (b : Bool) → named n (getD (c .cells) i noCell) i (c .edited) (wiresOf c levels) below ≡ b
+      go : (b : Bool) → named n (getD (c .cells) i noCell) i (c .edited) (wiresOf (c .memory) levels) below ≡ b
           → let cell = getD (c .cells) i noCell in
-          let now = readNow n i (wiresOf c levels) below (cell .slots) in
-          let quick = cond b (workedTurn cell now) (sleptTurn cell (bitAt (c .outputs) i)) in
+          let now = readNow n i (wiresOf (c .memory) levels) below (cell .slots) in
+          let quick = cond b (workedTurn cell now) (sleptTurn cell (bitAt (c .memory .outputs) i)) in
           (quick .cell ≡ workedTurn cell now .cell) × (quick .out ≡ workedTurn cell now .out)
       go true e = (refl, refl)
       go false e =
           let k = slept-keeps i below h e in
-          let w = k .2 (readNow n i (wiresOf c levels) below (getD (c .cells) i noCell .slots)) (k .0) (k .1) in
+          let w = k .2 (readNow n i (wiresOf (c .memory) levels) below (getD (c .cells) i noCell .slots)) (k .0) (k .1) in
           (ap (withState (getD (c .cells) i noCell)) (sym w), ap (λ (r : Worked). r .out) (sym w))
 
   -- so quick and full ticks agree in the outputs, cell by cell
-  outputs-same : (i : ℕ) → i ≤ n
-      → outputsBelow n false (c .cells) (c .edited) (wiresOf c levels) i ≡ outputsBelow n true (c .cells) (c .edited) (wiresOf c levels) i
+  outputs-same : (i : ℕ) → i ≤ n → let w = wiresOf (c .memory) levels in
+      outputsBelow n false (c .cells) (c .edited) w i ≡ outputsBelow n true (c .cells) (c .edited) w i
   unfolding outputsBelow
   outputs-same zero h = refl
   outputs-same (suc i) h =
+      let w = wiresOf (c .memory) levels in
       let below = outputs-same i (le-of-lt h) in
-      let out = turn-same i (outputsBelow n false (c .cells) (c .edited) (wiresOf c levels) i) h .1
-      ∙ ap (λ (b : ℕ). turnAt n true (getD (c .cells) i noCell) i (c .edited) (wiresOf c levels) b .out) below in
+      let out = turn-same i (outputsBelow n false (c .cells) (c .edited) w i) h .1
+      ∙ ap (λ (b : ℕ). turnAt n true (getD (c .cells) i noCell) i (c .edited) w b .out) below in
       ap₂ (λ (x : ℕ) (b : Bool). x + bitNumber b * 2 ^ i) below out
 
-  cells-same : listed (cellAfter n false (c .cells) (c .edited) (wiresOf c levels)) n ≡ listed (cellAfter n true (c .cells) (c .edited) (wiresOf c levels)) n
+  cells-same : let w = wiresOf (c .memory) levels in
+      listed (cellAfter n false (c .cells) (c .edited) w) n ≡ listed (cellAfter n true (c .cells) (c .edited) w) n
   cells-same =
-      listed-same (cellAfter n false (c .cells) (c .edited) (wiresOf c levels)) (cellAfter n true (c .cells) (c .edited) (wiresOf c levels)) n
-      (λ i h. turn-same i (outputsBelow n false (c .cells) (c .edited) (wiresOf c levels) i) h .0
-      ∙ ap (λ (b : ℕ). turnAt n true (getD (c .cells) i noCell) i (c .edited) (wiresOf c levels) b .cell) (outputs-same i (le-of-lt h)))
+      let w = wiresOf (c .memory) levels in
+      listed-same (cellAfter n false (c .cells) (c .edited) w) (cellAfter n true (c .cells) (c .edited) w) n
+      (λ i h. turn-same i (outputsBelow n false (c .cells) (c .edited) w i) h .0
+      ∙ ap (λ (b : ℕ). turnAt n true (getD (c .cells) i noCell) i (c .edited) w b .cell) (outputs-same i (le-of-lt h)))
 
 -- ---- the theorems
 
 -- every tick of either kind keeps a card settled
-ticked-settled : (n : ℕ) (full : Bool) (c : Card) (sample : ℕ) → Settled n c → Settled n (ticked n full c sample .card)
+ticked-settled : (n : ℕ) (full : Bool) (c : Card) (input : Input) → Settled n c → Settled n (ticked n full c input .card)
 unfolding Settled turned
-ticked-settled n full c sample settled i h edited =
-    let l = lines n c sample .levels in
-    let w = wiresOf c l in
+ticked-settled n full c input settled i h edited =
+    let l = lines n c input .levels in
+    let w = wiresOf (c .memory) l in
     let b = outputsBelow n full (c .cells) (c .edited) w i in
     let old = getD (c .cells) i noCell in
     rw (
       listed-at (cellAfter n full (c .cells) (c .edited) w) n i noCell h,
       output-bit n full (c .cells) (c .edited) w n i h,
       slots-stay n full old i (c .edited) w b,
-      remembers n full c sample i (old .slots) (le-of-lt h),
+      remembers n full c input i (old .slots) (le-of-lt h),
     )
     (turn-keeps n c l settled full i b h)
 
-pub tick-settled : (n : ℕ) (full : Bool) (c : Card) (code sample : ℕ) → Settled n c → Settled n (tick n full c code sample .card)
+pub tick-settled : (n : ℕ) (full : Bool) (c : Card) (input : Input) → Settled n c → Settled n (tick n full c input .card)
 unfolding tick
-tick-settled n full c code sample settled = go (eqb code (c .trigger))
+tick-settled n full c input settled = go (eqb (input .code) (c .trigger))
   where
-    go : (b : Bool) → Settled n (cond b (ticked n full c sample) (idle c) .card)
-    go true = ticked-settled n full c sample settled
+    go : (b : Bool) → Settled n (cond b (ticked n full c input) (idle c) .card)
+    go true = ticked-settled n full c input settled
     go false = settled
 
 -- on a settled card a quick tick and a full one give the same card, and answers that are alike but for the woken set and its count
-pub same-ticks : (n : ℕ) (c : Card) (code sample : ℕ) → Settled n c → AlikeTicks (tick n false c code sample) (tick n true c code sample)
+pub same-ticks : (n : ℕ) (c : Card) (input : Input) → Settled n c → AlikeTicks (tick n false c input) (tick n true c input)
 unfolding tick turned
-same-ticks n c code sample settled = go (eqb code (c .trigger))
+same-ticks n c input settled = go (eqb (input .code) (c .trigger))
   where
-    go : (b : Bool) → AlikeTicks (cond b (ticked n false c sample) (idle c)) (cond b (ticked n true c sample) (idle c))
+    go : (b : Bool) → AlikeTicks (cond b (ticked n false c input) (idle c)) (cond b (ticked n true c input) (idle c))
     go true =
-        let cells = cells-same n c (lines n c sample .levels) settled in
-        let outputs = outputs-same n c (lines n c sample .levels) settled n (le-refl n) in
+        let cells = cells-same n c (lines n c input .levels) settled in
+        let outputs = outputs-same n c (lines n c input .levels) settled n (le-refl n) in
         record {
-          card = λ k. cardAfter c (lines n c sample) (record { cells = cells k; outputs = outputs k; woken = 0 });
+          card = λ k. cardAfter c (lines n c input) (record { cells = cells k; outputs = outputs k; woken = 0 });
           ran = refl;
           driven = refl;
           cells = outputs;
@@ -253,5 +253,5 @@ fresh-settled i h edited now agree quiet =
 -- not every card is settled: on this one the two kinds of tick differ
 pub not-settled : Settled cellCount unsettled → ⊥
 not-settled settled =
-    let e : _≡_ {A = ℕ} 1 0 = sym wrong-stays ∙ same-ticks cellCount unsettled 0 0 settled .cells ∙ wrong-goes in
+    let e : _≡_ {A = ℕ} 1 0 = sym wrong-stays ∙ same-ticks cellCount unsettled (clock0 0) settled .cells ∙ wrong-goes in
     omega arith

@@ -19,6 +19,7 @@ use Rattle.cells.specs.Table.{rowOf}
 use Rattle.cells.proofs.Laws.{or-left, or-right}
 use Rattle.cells.proofs.Rows.{and-left, and-right, every-row}
 use Rattle.card.specs.declared.card.Card.{Card}
+use Rattle.card.specs.declared.tick.Input.{Input}
 use Rattle.card.specs.declared.card.Connector.{Connector}
 use Rattle.card.specs.Address.{cellCount, connectorCount, firstCell, firstConnector}
 use Rattle.card.specs.Connectors.{noConnector}
@@ -336,22 +337,22 @@ module _ (n : ℕ) (c : Card) (ok : validCard n c ≡ true) where
 
   -- ---- a tick
 
-  ran-valid : (full : Bool) (sample : ℕ) → validCard n (ticked n full c sample .card) ≡ true
+  ran-valid : (full : Bool) (input : Input) → validCard n (ticked n full c input .card) ≡ true
   unfolding validCard turned turnAt
-  ran-valid full sample =
-      let w = wiresOf c (lines n c sample .levels) in
+  ran-valid full input =
+      let w = wiresOf (c .memory) (lines n c input .levels) in
       let next = Tick.cellAfter n full (c .cells) (c .edited) w in
       other-cells (listed next n) (length-listed next n)
       (every-listed (validCell n) next n
       (λ i h. let old = getD (c .cells) i noCell in
       turn-valid n (full || named n old i (c .edited) w (outputsBelow n full (c .cells) (c .edited) w i)) old _ _ ∙ cell-at i h))
 
-  pub valid-tick : (full : Bool) (code sample : ℕ) → validCard n (tick n full c code sample .card) ≡ true
+  pub valid-tick : (full : Bool) (input : Input) → validCard n (tick n full c input .card) ≡ true
   unfolding tick
-  valid-tick full code sample = go (eqb code (c .trigger))
+  valid-tick full input = go (eqb (input .code) (c .trigger))
     where
-      go : (b : Bool) → validCard n (cond b (ticked n full c sample) (idle c) .card) ≡ true
-      go true = ran-valid full sample
+      go : (b : Bool) → validCard n (cond b (ticked n full c input) (idle c) .card) ≡ true
+      go true = ran-valid full input
       go false = ok
 
 -- ---- a preset

@@ -24,8 +24,8 @@ contextOf n c =
       trigger = c .trigger;
       cell = currentCell n c;
       connector = currentConnector c;
-      levels = c .levels;
-      outputs = c .outputs;
+      levels = c .memory .levels;
+      outputs = c .memory .outputs;
     }
 
 -- ---- what reads give

@@ -1,7 +1,7 @@
--- Document 01, "Lines": what an accepted line does to the card. No line alters an output, a level, the driven word or the memory.
+-- Document 01, "Lines": what an accepted line does to the card. No line alters the memory, which has the outputs, the levels and the driven word.
 -- "Edited" is document 01's term for a cell that a write has touched since the last tick that ran.
 use Prim.Native.Nat.{ℕ, _+_, _-_, _^_}
-use mathlib.Core.Bool.{Bool, true, false, not, _&&_, _||_, cond}
+use mathlib.Core.Bool.{Bool, true, false, not, _&&_, cond}
 use mathlib.Core.List.{List, [], _∷_, map}
 use lib.Dec.{ltb, eqb}
 use lib.ListN.{getD, set}
@@ -33,12 +33,7 @@ withParts c pointer trigger cells connectors edited =
       cells = cells;
       connectors = connectors;
       edited = edited;
-      driven = c .driven;
-      outputs = c .outputs;
-      outputs2 = c .outputs2;
-      outputs3 = c .outputs3;
-      levels = c .levels;
-      levels2 = c .levels2;
+      memory = c .memory;
     }
 
 abbrev pub withPointer : Card → ℕ → Card

@@ -14,6 +14,7 @@ use Rattle.cells.specs.Work.{taken, workAs, workOut}
 use Rattle.cells.specs.Wake.{stirredAs, stirred, disagree, wakes}
 use Rattle.card.specs.declared.card.Card.{Card}
 use Rattle.card.specs.declared.tick.Answer.{Answer}
+use Rattle.card.specs.declared.tick.Input.{Input}
 use Rattle.card.specs.Address.{cellCount, levelAt, readsLevels, reads, slotsRead, mixed, view}
 use Rattle.card.specs.Connectors.{linesOf}
 use Rattle.card.specs.Fresh.{clearState, fresh}
@@ -33,12 +34,7 @@ card cells outputs edited =
       cells = cells;
       connectors = fresh .connectors;
       edited = edited;
-      driven = 0;
-      outputs = outputs;
-      outputs2 = outputs;
-      outputs3 = outputs;
-      levels = 0;
-      levels2 = 0;
+      memory = record { driven = 0; outputs = outputs; outputs2 = outputs; outputs3 = outputs; levels = 0; levels2 = 0 };
     }
 
 twoCells : Cell → Cell → List Cell
@@ -64,10 +60,14 @@ unsettled = card (set (fresh .cells) 0 (cellOf 5 0 (0 ∷ 0 ∷ 0 ∷ 0 ∷ []))
 answered : Answer → List ℕ
 answered a = a .driven ∷ a .cells ∷ a .woken ∷ a .count ∷ []
 
+-- clock 0, with this sample
+abbrev pub clock0 : ℕ → Input
+clock0 sample = record { code = 0; sample = sample }
+
 -- quick ticks of clock 0 with these samples: driven word, cell word, woken set and count of each
 quick : Card → List ℕ → List ℕ
 quick c [] = []
-quick c (s ∷ ss) = answered (tick cellCount false c 0 s .answer) ++ quick (tick cellCount false c 0 s .card) ss
+quick c (s ∷ ss) = answered (tick cellCount false c (clock0 s) .answer) ++ quick (tick cellCount false c (clock0 s) .card) ss
 
 -- given, expected
 abbrev table : List (List ℕ × List ℕ)
@@ -84,10 +84,10 @@ unfolding twoCells edgeCard upward downward answered quick ones onesIn bitAt wor
 examples = refl
 
 -- a wrong output of a sleeping gate stays in a quick tick and goes in a full one
-pub wrong-stays : tick cellCount false unsettled 0 0 .answer .cells ≡ 1
+pub wrong-stays : tick cellCount false unsettled (clock0 0) .answer .cells ≡ 1
 unfolding unsettled bitAt wordOf listed rowOf taken workAs workOut stirredAs stirred disagree wakes fresh levelAt readsLevels reads slotsRead mixed view linesOf readNow readLast named turnAt outputsBelow turned tick
 wrong-stays = refl
 
-pub wrong-goes : tick cellCount true unsettled 0 0 .answer .cells ≡ 0
+pub wrong-goes : tick cellCount true unsettled (clock0 0) .answer .cells ≡ 0
 unfolding unsettled bitAt wordOf listed rowOf taken workAs workOut stirredAs stirred disagree wakes fresh levelAt readsLevels reads slotsRead mixed view linesOf readNow readLast named turnAt outputsBelow turned tick
 wrong-goes = refl

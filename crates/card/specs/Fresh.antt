@@ -8,6 +8,7 @@ use Rattle.cells.specs.declared.cell.State.{State}
 use Rattle.cells.specs.Work.{pulses}
 use Rattle.card.specs.declared.card.Connector.{Connector}
 use Rattle.card.specs.declared.card.Card.{Card}
+use Rattle.card.specs.declared.card.Memory.{Memory}
 use Rattle.card.specs.Address.{cellCount}
 
 -- all that a cell keeps between ticks, cleared
@@ -22,7 +23,11 @@ freshCell = record { kind = 0; config = 0; slots = replicate 4 0; state = clearS
 abbrev pub freshConnectors : List Connector
 freshConnectors = replicate 8 (record { kind = 2; source = 0 }) ++ replicate 8 (record { kind = 0; source = 0 })
 
--- a card as it powers up with some settings: pointer 1, and "everything before the first tick counts as low"
+-- "everything before the first tick counts as low"
+abbrev pub noMemory : Memory
+noMemory = record { driven = 0; outputs = 0; outputs2 = 0; outputs3 = 0; levels = 0; levels2 = 0 }
+
+-- a card as it powers up with some settings: pointer 1, and nothing remembered
 abbrev pub started : ℕ → List Cell → List Connector → ℕ → Card
 started trigger cells connectors edited =
     record {
@@ -31,12 +36,7 @@ started trigger cells connectors edited =
       cells = cells;
       connectors = connectors;
       edited = edited;
-      driven = 0;
-      outputs = 0;
-      outputs2 = 0;
-      outputs3 = 0;
-      levels = 0;
-      levels2 = 0;
+      memory = noMemory;
     }
 
 -- "pointer 1, cells constant 0, BNCs push-pull from 0, backplane inputs from 0, trigger 0"; "a fresh card has none edited": a card of n cells

@@ -10,13 +10,14 @@ use Rattle.cells.specs.declared.cell.Cell.{Cell}
 use Rattle.cells.specs.Work.{keeping, workOut}
 use Rattle.cells.specs.Wake.{stirred, disagree}
 use Rattle.card.specs.declared.card.Card.{Card}
+use Rattle.card.specs.declared.card.Memory.{Memory}
 use Rattle.card.specs.declared.tick.Ticked.{Ticked}
 use Rattle.card.specs.Address.{slotsRead, view}
 use Rattle.card.specs.Tick.{noCell}
 
--- what a reader in position i read in the last tick that ran, by the card's memory
-unfoldable pub remembered : (n i : ℕ) → Card → List ℕ → Slots
-remembered n i c s = slotsRead (view n i (c .outputs) (c .outputs2) (c .levels)) (view n i (c .outputs2) (c .outputs3) (c .levels2)) s
+-- what a reader in position i read in the last tick that ran, by the memory of it
+unfoldable pub remembered : (n i : ℕ) → Memory → List ℕ → Slots
+remembered n i m s = slotsRead (view n i (m .outputs) (m .outputs2) (m .levels)) (view n i (m .outputs2) (m .outputs3) (m .levels2)) s
 
 -- a cell with an output keeps both its state and the output when it is worked out with any readings that agree with `last` on the used slots
 -- that are no edge slots, and that stir nothing
@@ -27,7 +28,7 @@ Keeps cell out last = (now : Slots) → disagree (cell .kind) now last ≡ false
 -- every cell that is not edited does
 unfoldable pub Settled : ℕ → Card → Type 0
 Settled n c = (i : ℕ) → i < n → bitAt (c .edited) i ≡ false
-    → Keeps (getD (c .cells) i noCell) (bitAt (c .outputs) i) (remembered n i c (getD (c .cells) i noCell .slots))
+    → Keeps (getD (c .cells) i noCell) (bitAt (c .memory .outputs) i) (remembered n i (c .memory) (getD (c .cells) i noCell .slots))
 
 -- two ticks are alike: the same card, and answers that agree in whether the tick ran, its driven word and its cell word
 pub record AlikeTicks (a b : Ticked) : Type 0 where

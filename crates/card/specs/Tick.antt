@@ -13,7 +13,9 @@ use Rattle.cells.specs.declared.cell.Worked.{Worked}
 use Rattle.cells.specs.Work.{workOut}
 use Rattle.cells.specs.Wake.{wakes}
 use Rattle.card.specs.declared.card.Card.{Card}
+use Rattle.card.specs.declared.card.Memory.{Memory}
 use Rattle.card.specs.declared.connectors.Lines.{Lines}
+use Rattle.card.specs.declared.tick.Input.{Input}
 use Rattle.card.specs.declared.tick.Wires.{Wires}
 use Rattle.card.specs.declared.tick.Turn.{Turn}
 use Rattle.card.specs.declared.tick.Turned.{Turned}
@@ -98,14 +100,27 @@ module _ (n : ℕ) (full : Bool) (cells : List Cell) (edited : ℕ) (w : Wires) 
 
 -- ---- a tick
 
-abbrev pub wiresOf : Card → ℕ → Wires
-wiresOf c levels =
-    record { levels = levels; levels2 = c .levels; levels3 = c .levels2; outputs = c .outputs; outputs2 = c .outputs2; outputs3 = c .outputs3 }
+abbrev pub wiresOf : Memory → ℕ → Wires
+wiresOf m levels =
+    record { levels = levels; levels2 = m .levels; levels3 = m .levels2; outputs = m .outputs; outputs2 = m .outputs2; outputs3 = m .outputs3 }
 
 -- connectors are "read from the last tick's cells and levels, with edges against the tick before that": no cell is below position 0
-abbrev pub lines : (n : ℕ) → Card → ℕ → Lines
-lines n c sample =
-    linesOf (view n 0 (c .outputs) (c .outputs) (c .levels)) (view n 0 (c .outputs2) (c .outputs2) (c .levels2)) (c .connectors) sample
+abbrev pub lines : (n : ℕ) → Card → Input → Lines
+lines n c input =
+    let m = c .memory in
+    linesOf (view n 0 (m .outputs) (m .outputs) (m .levels)) (view n 0 (m .outputs2) (m .outputs2) (m .levels2)) (c .connectors) (input .sample)
+
+-- the memory moved on by a tick with these words
+abbrev pub moved : Memory → (driven outputs levels : ℕ) → Memory
+moved m driven outputs levels =
+    record {
+      driven = driven;
+      outputs = outputs;
+      outputs2 = m .outputs;
+      outputs3 = m .outputs2;
+      levels = levels;
+      levels2 = m .levels;
+    }
 
 -- the card after a tick that ran: it clears the edits and moves the memory on
 abbrev pub cardAfter : Card → Lines → Turned → Card
@@ -116,18 +131,13 @@ cardAfter c l t =
       cells = t .cells;
       connectors = c .connectors;
       edited = 0;
-      driven = l .driven;
-      outputs = t .outputs;
-      outputs2 = c .outputs;
-      outputs3 = c .outputs2;
-      levels = l .levels;
-      levels2 = c .levels;
+      memory = moved (c .memory) (l .driven) (t .outputs) (l .levels);
     }
 
 -- what a reader in position i reads in a tick
-abbrev pub readIn : (n : ℕ) → Bool → Card → (sample i : ℕ) → List ℕ → Slots
-readIn n full c sample i s =
-    let w = wiresOf c (lines n c sample .levels) in
+abbrev pub readIn : (n : ℕ) → Bool → Card → Input → ℕ → List ℕ → Slots
+readIn n full c input i s =
+    let w = wiresOf (c .memory) (lines n c input .levels) in
     readNow n i w (outputsBelow n full (c .cells) (c .edited) w i) s
 
 -- "driven word ..., cell word ..., woken set ..., and the number of ones in that set"
@@ -135,13 +145,13 @@ abbrev pub answerOf : Lines → Turned → Answer
 answerOf l t = record { ran = true; driven = l .driven; cells = t .outputs; woken = t .woken; count = ones (t .woken) }
 
 abbrev pub turnedIn : (n : ℕ) → Bool → Card → ℕ → Turned
-turnedIn n full c levels = turned n full (c .cells) (c .edited) (wiresOf c levels)
+turnedIn n full c levels = turned n full (c .cells) (c .edited) (wiresOf (c .memory) levels)
 
-abbrev pub ticked : (n : ℕ) → Bool → Card → ℕ → Ticked
-ticked n full c sample =
+abbrev pub ticked : (n : ℕ) → Bool → Card → Input → Ticked
+ticked n full c input =
     record {
-      card = cardAfter c (lines n c sample) (turnedIn n full c (lines n c sample .levels));
-      answer = answerOf (lines n c sample) (turnedIn n full c (lines n c sample .levels));
+      card = cardAfter c (lines n c input) (turnedIn n full c (lines n c input .levels));
+      answer = answerOf (lines n c input) (turnedIn n full c (lines n c input .levels));
     }
 
 -- "idle" and nothing changes; the words of an idle answer are 0
@@ -149,5 +159,5 @@ abbrev pub idle : Card → Ticked
 idle c = record { card = c; answer = record { ran = false; driven = 0; cells = 0; woken = 0; count = 0 } }
 
 -- "If the code isn't the chosen trigger source the answer is "idle" and nothing changes"
-unfoldable pub tick : (n : ℕ) → Bool → Card → ℕ → ℕ → Ticked
-tick n full c code sample = cond (eqb code (c .trigger)) (ticked n full c sample) (idle c)
+unfoldable pub tick : (n : ℕ) → Bool → Card → Input → Ticked
+tick n full c input = cond (eqb (input .code) (c .trigger)) (ticked n full c input) (idle c)

@@ -12,15 +12,10 @@ pub struct Connector {
     pub source: u8,
 }
 
-// The card. The words of the last tick that ran are `outputs`, `levels` and `driven`; `outputs2` and `levels2` are those of the tick before it,
-// and `outputs3` those of the one before that. No tick has to write anything for a cell that sleeps.
+// What is remembered of ticks. The words of the last tick that ran are `driven`, `outputs` and `levels`; `outputs2` and `levels2` are those of the
+// tick before it, and `outputs3` those of the one before that. No tick has to write anything for a cell that sleeps.
 #[repr(C)]
-pub struct Card {
-    pub pointer: u8,
-    pub trigger: u8,
-    pub cells: [Cell; 16],
-    pub connectors: [Connector; 16],
-    pub edited: u16,
+pub struct Memory {
     pub driven: u16,
     pub outputs: u16,
     pub outputs2: u16,
@@ -29,22 +24,36 @@ pub struct Card {
     pub levels2: u16,
 }
 
+// The card.
+#[repr(C)]
+pub struct Card {
+    pub pointer: u8,
+    pub trigger: u8,
+    pub cells: [Cell; 16],
+    pub connectors: [Connector; 16],
+    pub edited: u16,
+    pub memory: Memory,
+}
+
 // A card that powers up with settings: all else is fresh.
 pub fn started(trigger: u8, cells: [Cell; 16], connectors: [Connector; 16], edited: u16) -> Card
     ensures { λ c. ⌜ c ≡ Fresh.started trigger cells connectors edited ⌝ }
 {
-    Card {
-        pointer: 1,
-        trigger: trigger,
-        cells: cells,
-        connectors: connectors,
-        edited: edited,
+    let memory = Memory {
         driven: 0,
         outputs: 0,
         outputs2: 0,
         outputs3: 0,
         levels: 0,
         levels2: 0,
+    };
+    Card {
+        pointer: 1,
+        trigger: trigger,
+        cells: cells,
+        connectors: connectors,
+        edited: edited,
+        memory: memory,
     }
 }
 

@@ -31,14 +31,15 @@ pub fn context_of(card: Card) -> Context
 {
     let cell = current_cell(card);
     let connector = current_connector(card);
+    let m = card.memory;
     Context {
         pointer: card.pointer,
         celled: at_cell(card),
         trigger: card.trigger,
         cell: cell,
         connector: connector,
-        levels: card.levels,
-        outputs: card.outputs,
+        levels: m.levels,
+        outputs: m.outputs,
     }
 }
 

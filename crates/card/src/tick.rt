@@ -10,13 +10,20 @@ ghost use Rattle.card.specs.Quiet.{steadyWires, AllRest, sleptAll};
 ghost use Rattle.card.specs.Tick;
 ghost use Rattle.card.specs.Tick.{workedTurn, readLast, turnAt, turned, ticked};
 use crate::card::Card;
-use crate::card::Connector;
+use crate::card::Memory;
 use crate::connectors::Lines;
 use crate::connectors::drive;
 use crate::view::readings;
 use crate::view::sees;
 use cells::cell::Cell;
 use cells::cell::Worked;
+
+// What comes in with a tick: the code of its clock, and the word sampled at the connectors.
+#[repr(C)]
+pub struct Input {
+    pub code: u8,
+    pub sample: u16,
+}
 
 // What the readers of a tick see besides its own outputs: the levels of this tick, of the last one that ran (2) and of the one before (3), and
 // the cell words of the last three ticks that ran.
@@ -201,33 +208,37 @@ fn turn_all(full: bool, cells: [Cell; 16], edited: u16, w: Wires) -> Turned
 }
 
 // A tick that runs.
-fn run(full: bool, card: Card, sample: u16) -> Ticked
-    ensures { λ t. ⌜ t ≡ ticked cellCount full card sample ⌝ }
+fn run(full: bool, card: Card, input: Input) -> Ticked
+    ensures { λ t. ⌜ t ≡ ticked cellCount full card input ⌝ }
 {
     let connectors = card.connectors;
-    let now = sees(0, card.outputs, card.outputs, card.levels);
-    let before = sees(0, card.outputs2, card.outputs2, card.levels2);
-    let l = drive(connectors, now, before, sample);
+    let m = card.memory;
+    let now = sees(0, m.outputs, m.outputs, m.levels);
+    let before = sees(0, m.outputs2, m.outputs2, m.levels2);
+    let l = drive(connectors, now, before, input.sample);
     let cells = card.cells;
     let w = Wires {
         levels: l.levels,
-        levels2: card.levels,
-        levels3: card.levels2,
-        outputs: card.outputs,
-        outputs2: card.outputs2,
-        outputs3: card.outputs3,
+        levels2: m.levels,
+        levels3: m.levels2,
+        outputs: m.outputs,
+        outputs2: m.outputs2,
+        outputs3: m.outputs3,
     };
     let t = turn_all(full, cells, card.edited, w);
     let after = t.cells;
+    let memory = Memory {
+        driven: l.driven,
+        outputs: t.outputs,
+        outputs2: m.outputs,
+        outputs3: m.outputs2,
+        levels: l.levels,
+        levels2: m.levels,
+    };
     let mut next = card;
     next.cells = after;
     next.edited = 0;
-    next.driven = l.driven;
-    next.outputs = t.outputs;
-    next.outputs2 = w.outputs;
-    next.outputs3 = w.outputs2;
-    next.levels = l.levels;
-    next.levels2 = w.levels2;
+    next.memory = memory;
     let woken = t.woken;
     let answer = Answer {
         ran: true,
@@ -243,11 +254,11 @@ fn run(full: bool, card: Card, sample: u16) -> Ticked
 }
 
 // A tick of either kind.
-fn tick(full: bool, card: Card, code: u8, sample: u16) -> Ticked
-    ensures { λ t. ⌜ t ≡ Tick.tick cellCount full card code sample ⌝ }
+fn tick(full: bool, card: Card, input: Input) -> Ticked
+    ensures { λ t. ⌜ t ≡ Tick.tick cellCount full card input ⌝ }
 {
-    if code == card.trigger {
-        run(full, card, sample)
+    if input.code == card.trigger {
+        run(full, card, input)
     } else {
         let answer = Answer {
             ran: false,
@@ -264,15 +275,15 @@ fn tick(full: bool, card: Card, code: u8, sample: u16) -> Ticked
 }
 
 // Every cell is worked out.
-pub fn full_tick(card: Card, code: u8, sample: u16) -> Ticked
-    ensures { λ t. ⌜ t ≡ Tick.tick cellCount true card code sample ⌝ }
+pub fn full_tick(card: Card, input: Input) -> Ticked
+    ensures { λ t. ⌜ t ≡ Tick.tick cellCount true card input ⌝ }
 {
-    tick(true, card, code, sample)
+    tick(true, card, input)
 }
 
 // The cells that the waking rules name are worked out.
-pub fn quick_tick(card: Card, code: u8, sample: u16) -> Ticked
-    ensures { λ t. ⌜ t ≡ Tick.tick cellCount false card code sample ⌝ }
+pub fn quick_tick(card: Card, input: Input) -> Ticked
+    ensures { λ t. ⌜ t ≡ Tick.tick cellCount false card input ⌝ }
 {
-    tick(false, card, code, sample)
+    tick(false, card, input)
 }

@@ -1,6 +1,6 @@
 -- Laws of output made by stores, each behind the last, of its length, and of the tick line's digits.
 use Prim.Native.Nat.{ℕ, _+_, _-_, _^_, _≤_, _<_}
-use mathlib.Core.Path.{_≡_, refl, sym, ap, _∙_}
+use mathlib.Core.Path.{_≡_, sym, ap, _∙_}
 use mathlib.Core.Bool.{Bool, true, false, _&&_, cond}
 use mathlib.Core.List.{List, [], _∷_, _++_, append-assoc}
 use native.Mathlib.Nat.{zero-add}
@@ -10,6 +10,7 @@ use lib.ListN.{length, take, drop, length-append, length-take}
 use lib.Seq.{sets, sets-eq, take-append-seam}
 use Rattle.text.specs.Decimal.{decimal, maxDigits}
 use Rattle.card.specs.declared.card.Card.{Card}
+use Rattle.card.specs.declared.tick.Input.{Input}
 use Rattle.card.specs.declared.tick.Answer.{Answer}
 use Rattle.card.specs.Address.{cellCount}
 use Rattle.card.specs.Tick.{tick}
@@ -63,8 +64,8 @@ front l r n e h =
     rw (s, m) (take-append-seam r (drop (0 + length r) l))
 
 -- the count of a tick is small enough to be printed
-pub count-small : (full : Bool) (c : Card) (code sample : ℕ) → tick cellCount full c code sample .answer .count < 10 ^ maxDigits
-count-small full c code sample = let b = tick-count cellCount full c code sample in omega arith
+pub count-small : (full : Bool) (c : Card) (input : Input) → tick cellCount full c input .answer .count < 10 ^ maxDigits
+count-small full c input = let b = tick-count cellCount full c input in omega arith
 
 -- ---- nothing printed is longer than the room that a line asks for
 

@@ -25,12 +25,12 @@ abbrev pub tickTail : List ℕ → Bool
 tickTail t = hexAt t 4 .ok && (eqb (getD t 8 0) 32 && (eqb (getD t 9 0) 70 || eqb (getD t 9 0) 81))
 
 abbrev pub noTick : TickLine
-noTick = record { ok = false; full = false; code = 0; sample = 0 }
+noTick = record { ok = false; full = false; input = record { code = 0; sample = 0 } }
 
 unfoldable pub tickLine : List ℕ → TickLine
 tickLine t =
     cond (eqb (length t) 10 && (tickHead t && tickTail t))
-    (record { ok = true; full = eqb (getD t 9 0) 70; code = getD t 2 0 - 48; sample = hexAt t 4 .value }) noTick
+    (record { ok = true; full = eqb (getD t 9 0) 70; input = record { code = getD t 2 0 - 48; sample = hexAt t 4 .value } }) noTick
 
 -- "A tick prints `T` driven, cells, set (hex), count (decimal), or `T -` idle"
 abbrev pub word : ℕ → List ℕ
@@ -67,7 +67,7 @@ abbrev pub longestPrint : ℕ
 longestPrint = 32
 
 abbrev pub ticked : Card → List ℕ → Ticked
-ticked c t = tick cellCount (tickLine t .full) c (tickLine t .code) (tickLine t .sample)
+ticked c t = tick cellCount (tickLine t .full) c (tickLine t .input)
 
 -- what a line leaves: the card, the store, and the bytes that it prints
 pub record Entry : Type 0 where

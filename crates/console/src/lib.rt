@@ -11,16 +11,16 @@ ghost use Rattle.card.specs.Address.{cellCount};
 ghost use Rattle.card.specs.Tick.{tick};
 use card::card::Card;
 use card::tick::Answer;
+use card::tick::Input;
 use card::tick::Ticked;
 use card::tick::full_tick;
 use card::tick::quick_tick;
 
-// A line that asks for a tick: its kind, clock code and sample.
+// A line that asks for a tick: its kind, and what comes in with it.
 pub struct TickLine {
     pub ok: bool,
     pub full: bool,
-    pub code: u8,
-    pub sample: u16,
+    pub input: Input,
 }
 
 // The card after a line of input, and how many bytes it prints.
@@ -33,12 +33,12 @@ pub struct Entered {
 fn tick_line(text: &[u8]) -> TickLine
     ensures { λ r. ⌜ r ≡ tickLine (now (text .entry)) ⌝ }
 {
+    let none = Input { code: 0, sample: 0 };
     if text.len() != 10 {
         return TickLine {
             ok: false,
             full: false,
-            code: 0,
-            sample: 0,
+            input: none,
         };
     }
     let code = text[2];
@@ -47,18 +47,20 @@ fn tick_line(text: &[u8]) -> TickLine
     let head = ((text[0] == b'T') & (text[1] == b' ')) & (text::is_digit(code) & (text[3] == b' '));
     let tail = word.ok & ((text[8] == b' ') & ((kind == b'F') | (kind == b'Q')));
     if head & tail {
+        let input = Input {
+            code: code - 48,
+            sample: word.value,
+        };
         TickLine {
             ok: true,
             full: kind == b'F',
-            code: code - 48,
-            sample: word.value,
+            input: input,
         }
     } else {
         TickLine {
             ok: false,
             full: false,
-            code: 0,
-            sample: 0,
+            input: none,
         }
     }
 }
@@ -137,12 +139,13 @@ fn is_load(text: &[u8]) -> bool
 }
 
 fn do_tick(card: Card, t: TickLine) -> Ticked
-    ensures { λ r. ⌜ (r ≡ tick cellCount (t .full) card (t .code) (t .sample)) × (r .answer .count < 10 ^ maxDigits) ⌝ }
+    ensures { λ r. ⌜ (r ≡ tick cellCount (t .full) card (t .input)) × (r .answer .count < 10 ^ maxDigits) ⌝ }
 {
+    let input = t.input;
     if t.full {
-        full_tick(card, t.code, t.sample)
+        full_tick(card, input)
     } else {
-        quick_tick(card, t.code, t.sample)
+        quick_tick(card, input)
     }
 }
 

@@ -7,6 +7,7 @@ use mathlib.Core.List.{List, [], _∷_}
 use lib.Dec.{eqb, ltb}
 use lib.ListN.{length}
 use Rattle.card.specs.declared.card.Card.{Card}
+use Rattle.card.specs.declared.tick.Input.{Input}
 use Rattle.card.specs.Address.{cellCount}
 use Rattle.card.specs.declared.change.Change.the-variants.{Nothing}
 use Rattle.card.specs.declared.context.Context.{Context}
@@ -65,30 +66,30 @@ pub call-settled : (c : Card) (call : Call) → Settled cellCount c → Settled 
 unfolding after loaded
 call-settled c (line text reply store) s = edit-settled cellCount c _ (line-edit cellCount c text (length reply) (length store)) s
 call-settled c (load bytes) s = load-settled c (eqb (loadNumber cellCount configWidth bytes) 0) _ (powered-settled cellCount _ _ _) s
-call-settled c (tick full code sample) s = tick-settled cellCount full c code sample s
+call-settled c (tick full input) s = tick-settled cellCount full c input s
 
 -- two ticks of any kinds do the same on a settled card
-ticks-alike : (c : Card) (full quick : Bool) (code sample : ℕ) → Settled cellCount c
-    → AlikeTicks (Tick.tick cellCount full c code sample) (Tick.tick cellCount quick c code sample)
-ticks-alike c true true code sample s = record { card = refl; ran = refl; driven = refl; cells = refl }
-ticks-alike c false false code sample s = record { card = refl; ran = refl; driven = refl; cells = refl }
-ticks-alike c false true code sample s = same-ticks cellCount c code sample s
-ticks-alike c true false code sample s =
-    let a = same-ticks cellCount c code sample s in
+ticks-alike : (c : Card) (full quick : Bool) (input : Input) → Settled cellCount c
+    → AlikeTicks (Tick.tick cellCount full c input) (Tick.tick cellCount quick c input)
+ticks-alike c true true input s = record { card = refl; ran = refl; driven = refl; cells = refl }
+ticks-alike c false false input s = record { card = refl; ran = refl; driven = refl; cells = refl }
+ticks-alike c false true input s = same-ticks cellCount c input s
+ticks-alike c true false input s =
+    let a = same-ticks cellCount c input s in
     record { card = sym (a .card); ran = sym (a .ran); driven = sym (a .driven); cells = sym (a .cells) }
 
 same-after : (c : Card) {a b : Call} → SameCall a b → Settled cellCount c → after c a ≡ after c b
 unfolding after
 same-after c (same-line text reply other store another p q) s = λ i. lineOutcome cellCount c text (p i) (q i) .card
 same-after c (same-load bytes) s = refl
-same-after c (same-tick full quick code sample) s = ticks-alike c full quick code sample s .card
+same-after c (same-tick full quick input) s = ticks-alike c full quick input s .card
 
 same-answer : (c : Card) {a b : Call} → SameCall a b → Settled cellCount c → AlikeReply (answer c a) (answer c b)
 unfolding answer
 same-answer c (same-line text reply other store another p q) s = rw (p, q) (alike-line _ _ _)
 same-answer c (same-load bytes) s = alike-load _
-same-answer c (same-tick full quick code sample) s =
-    let a = ticks-alike c full quick code sample s in
+same-answer c (same-tick full quick input) s =
+    let a = ticks-alike c full quick input s in
     alike-tick (a .ran) (a .driven) (a .cells)
 
 -- ---- lists

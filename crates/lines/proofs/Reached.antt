@@ -134,7 +134,7 @@ pub call-valid : (c : Card) (call : Call) → validCard cellCount c ≡ true →
 unfolding after
 call-valid c (line text reply store) ok = line-valid c text (length reply) (length store) ok
 call-valid c (load bytes) ok = load-valid c bytes ok
-call-valid c (tick full code sample) ok = valid-tick cellCount c ok full code sample
+call-valid c (tick full input) ok = valid-tick cellCount c ok full input
 
 -- every card that a list reaches is valid
 pub reached-valid : (c : Card) (calls : List Call) → validCard cellCount c ≡ true → validCard cellCount (end c calls) ≡ true

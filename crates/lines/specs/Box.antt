@@ -87,7 +87,7 @@ line text = Calls.Call.line (bytesOf text) (replicate shortestReply 0) []
 
 -- `T 0 0100 Q`
 quick : Call
-quick = Calls.Call.tick false 0 0x0100
+quick = Calls.Call.tick false (record { code = 0; sample = 0x0100 })
 
 run : List Call
 run =

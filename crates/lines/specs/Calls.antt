@@ -6,6 +6,7 @@ use mathlib.Core.List.{List, [], _∷_}
 use lib.Dec.{eqb}
 use lib.ListN.{length}
 use Rattle.card.specs.declared.card.Card.{Card}
+use Rattle.card.specs.declared.tick.Input.{Input}
 use Rattle.card.specs.declared.tick.Answer.{Answer}
 use Rattle.card.specs.Address.{cellCount}
 use Rattle.card.specs.Record.{configWidth, recordOf, loadNumber, loaded}
@@ -13,11 +14,11 @@ use Rattle.card.specs.Tick
 use Rattle.lines.specs.Line
 use Rattle.lines.specs.Line.{lineOutcome}
 
--- a line with its text and the two buffers as lent, a load of any bytes, a tick of either kind with its clock code and sample
+-- a line with its text and the two buffers as lent, a load of any bytes, a tick of either kind with what comes in with it
 pub data Call : Type 0 where
   line : (text reply store : List ℕ) → Call
   load : (bytes : List ℕ) → Call
-  tick : (full : Bool) (code sample : ℕ) → Call
+  tick : (full : Bool) (input : Input) → Call
 
 -- what each call answers: of a line its number, the reply (with its length) and the bytes that it saved; of a load its number; of a tick its
 -- answer
@@ -35,14 +36,14 @@ savedBytes c text reply store =
 unfoldable pub after : Card → Call → Card
 after c (line text reply store) = lineOutcome cellCount c text (length reply) (length store) .card
 after c (load bytes) = loaded cellCount configWidth c bytes
-after c (tick full code sample) = Tick.tick cellCount full c code sample .card
+after c (tick full input) = Tick.tick cellCount full c input .card
 
 unfoldable pub answer : Card → Call → Reply
 answer c (line text reply store) =
     lineReply (lineOutcome cellCount c text (length reply) (length store) .k) (Line.lineReply cellCount c text (length reply) (length store))
     (savedBytes c text (length reply) (length store))
 answer c (load bytes) = loadReply (loadNumber cellCount configWidth bytes)
-answer c (tick full code sample) = tickReply (Tick.tick cellCount full c code sample .answer)
+answer c (tick full input) = tickReply (Tick.tick cellCount full c input .answer)
 
 -- a list of calls: the card at its end, and the answers
 unfoldable pub end : Card → List Call → Card

@@ -6,6 +6,7 @@ use mathlib.Core.Bool.{Bool}
 use mathlib.Core.List.{List, [], _∷_}
 use lib.ListN.{length}
 use Rattle.card.specs.declared.tick.Answer.{Answer}
+use Rattle.card.specs.declared.tick.Input.{Input}
 use Rattle.card.specs.Fresh.{fresh}
 use Rattle.lines.specs.Calls.{Call, Reply, end, answers}
 use Rattle.lines.specs.Calls.Call.{line, load, tick}
@@ -16,7 +17,7 @@ pub data SameCall : Call → Call → Type 0 where
   same-line : (text reply other store another : List ℕ) → length reply ≡ length other → length store ≡ length another
       → SameCall (line text reply store) (line text other another)
   same-load : (bytes : List ℕ) → SameCall (load bytes) (load bytes)
-  same-tick : (full quick : Bool) (code sample : ℕ) → SameCall (tick full code sample) (tick quick code sample)
+  same-tick : (full quick : Bool) (input : Input) → SameCall (tick full input) (tick quick input)
 
 pub data SameCalls : List Call → List Call → Type 0 where
   no-calls : SameCalls [] []

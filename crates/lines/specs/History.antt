@@ -11,12 +11,14 @@ use Rattle.words.specs.Bits.{bitAt}
 use Rattle.cells.specs.declared.table.Slots.{Slots}
 use Rattle.cells.specs.Wake.{wakes}
 use Rattle.card.specs.declared.card.Card.{Card}
+use Rattle.card.specs.declared.card.Memory.{Memory}
+use Rattle.card.specs.declared.tick.Input.{Input}
 use Rattle.card.specs.Address.{cellCount, slotsRead}
 use Rattle.card.specs.Change.{editsCell}
-use Rattle.card.specs.Fresh.{fresh}
+use Rattle.card.specs.Fresh.{noMemory, fresh}
 use Rattle.card.specs.Record.{configWidth, loadNumber}
 use Rattle.card.specs.Tick
-use Rattle.card.specs.Tick.{readIn}
+use Rattle.card.specs.Tick.{moved, readIn}
 use Rattle.lines.specs.Line.{lineChange}
 use Rattle.lines.specs.Calls.{Call, after, end}
 use Rattle.lines.specs.Calls.Call.{line, load, tick}
@@ -29,7 +31,7 @@ unfoldable pub editedNext : Card → Call → ℕ → Bool → Bool
 editedNext c (line text reply store) i was =
     was || editsCell cellCount c (lineChange cellCount c text (length reply) (length store)) i
 editedNext c (load bytes) i was = cond (eqb (loadNumber cellCount configWidth bytes) 0) true was
-editedNext c (tick full code sample) i was = cond (Tick.tick cellCount full c code sample .answer .ran) false was
+editedNext c (tick full input) i was = cond (Tick.tick cellCount full c input .answer .ran) false was
 
 -- whether cell i was edited since the last tick that ran, or since the start of the list
 unfoldable pub editedSince : Card → List Call → ℕ → Bool → Bool
@@ -50,8 +52,7 @@ lowReadings = slotsRead (λ b. false) (λ b. false)
 unfoldable pub readNext : Card → Call → ℕ → Readings → Readings
 readNext c (line text reply store) i was = was
 readNext c (load bytes) i was = cond (eqb (loadNumber cellCount configWidth bytes) 0) lowReadings was
-readNext c (tick full code sample) i was =
-    cond (Tick.tick cellCount full c code sample .answer .ran) (readIn cellCount full c sample i) was
+readNext c (tick full input) i was = cond (Tick.tick cellCount full c input .answer .ran) (readIn cellCount full c input i) was
 
 -- what a reader in position i read in the last tick that ran
 unfoldable pub readSince : Card → List Call → ℕ → Readings → Readings
@@ -63,47 +64,25 @@ readSince c (call ∷ calls) i was = readSince (after c call) calls i (readNext 
 -- behind any list of calls from a fresh card, the set that a quick tick on the card's own clock answers has a cell exactly where the rules hold
 -- of the calls since the last tick that ran, or since the start, of what the cell's slots read now, and of what they read in that tick
 unfoldable pub WhoWakes : Type 0
-WhoWakes = (calls : List Call) (code sample i : ℕ) → i < cellCount
+WhoWakes = (calls : List Call) (input : Input) (i : ℕ) → i < cellCount
     → let c = end fresh calls in
     let cell = getD (c .cells) i Tick.noCell in
-    code ≡ c .trigger
-    → bitAt (Tick.tick cellCount false c code sample .answer .woken) i
-    ≡ wakes (cell .kind) (cell .state) (editedSince fresh calls i false) (readIn cellCount false c sample i (cell .slots))
+    input .code ≡ c .trigger
+    → bitAt (Tick.tick cellCount false c input .answer .woken) i
+    ≡ wakes (cell .kind) (cell .state) (editedSince fresh calls i false) (readIn cellCount false c input i (cell .slots))
     (readSince fresh calls i lowReadings (cell .slots))
 
 -- ---- what the last ticks were
 
--- the cell words of the last three ticks that ran, and the levels of the last two
-pub record Last : Type 0 where
-  pub outputs : ℕ
-  pub outputs2 : ℕ
-  pub outputs3 : ℕ
-  pub levels : ℕ
-  pub levels2 : ℕ
-
--- "Everything before the first tick counts as low"
-abbrev pub low : Last
-low = record { outputs = 0; outputs2 = 0; outputs3 = 0; levels = 0; levels2 = 0 }
-
 -- a tick that ran comes before the earlier ones; an accepted load starts anew; nothing else counts
-unfoldable pub lastNext : Card → Call → Last → Last
+unfoldable pub lastNext : Card → Call → Memory → Memory
 lastNext c (line text reply store) was = was
-lastNext c (load bytes) was = cond (eqb (loadNumber cellCount configWidth bytes) 0) low was
-lastNext c (tick full code sample) was =
-    cond (Tick.tick cellCount full c code sample .answer .ran)
-    (record {
-      outputs = Tick.tick cellCount full c code sample .answer .cells;
-      outputs2 = was .outputs;
-      outputs3 = was .outputs2;
-      levels = Tick.lines cellCount c sample .levels;
-      levels2 = was .levels;
-    })
-    was
+lastNext c (load bytes) was = cond (eqb (loadNumber cellCount configWidth bytes) 0) noMemory was
+lastNext c (tick full input) was =
+    let a = Tick.tick cellCount full c input .answer in
+    cond (a .ran) (moved was (a .driven) (a .cells) (Tick.lines cellCount c input .levels)) was
 
-unfoldable pub lastSince : Card → List Call → Last → Last
+-- the cell words of the last three ticks that ran, the levels of the last two, and the driven word of the last
+unfoldable pub lastSince : Card → List Call → Memory → Memory
 lastSince c [] was = was
 lastSince c (call ∷ calls) was = lastSince (after c call) calls (lastNext c call was)
-
--- what the card itself holds of them
-abbrev pub memoryOf : Card → Last
-memoryOf c = record { outputs = c .outputs; outputs2 = c .outputs2; outputs3 = c .outputs3; levels = c .levels; levels2 = c .levels2 }

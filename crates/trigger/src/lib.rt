@@ -9,6 +9,7 @@ ghost use Rattle.card.specs.Tick.{tick};
 ghost use Rattle.lines.specs.Line.{shortestReply, lineResult, resultOf};
 use card::card::Card;
 use card::record::Loaded;
+use card::tick::Input;
 use card::tick::Ticked;
 use lines::line::Answered;
 
@@ -22,18 +23,18 @@ pub extern "C" fn trigger_fresh() -> Card
 
 // Every cell is worked out.
 #[no_mangle]
-pub extern "C" fn trigger_full_tick(card: Card, code: u8, sample: u16) -> Ticked
-    ensures { λ t. ⌜ t ≡ tick cellCount true card code sample ⌝ }
+pub extern "C" fn trigger_full_tick(card: Card, input: Input) -> Ticked
+    ensures { λ t. ⌜ t ≡ tick cellCount true card input ⌝ }
 {
-    card::tick::full_tick(card, code, sample)
+    card::tick::full_tick(card, input)
 }
 
 // The cells that the waking rules name are worked out.
 #[no_mangle]
-pub extern "C" fn trigger_quick_tick(card: Card, code: u8, sample: u16) -> Ticked
-    ensures { λ t. ⌜ t ≡ tick cellCount false card code sample ⌝ }
+pub extern "C" fn trigger_quick_tick(card: Card, input: Input) -> Ticked
+    ensures { λ t. ⌜ t ≡ tick cellCount false card input ⌝ }
 {
-    card::tick::quick_tick(card, code, sample)
+    card::tick::quick_tick(card, input)
 }
 
 // A load of any bytes: the card powers up with them, and a refused load leaves it as it was.

@@ -1,12 +1,12 @@
-use lib.Dec.{eqb}
-use mathlib.Core.Bool.{_&&_, _||_}
-use lib.ListN.{getD}
-use Rattle.console.proofs.Chains.{third}
 -- `console::tick_line` meets its contract: each way is a case of the definition.
 use mathlib.Core.Path.{sym, _∙_}
+use mathlib.Core.Bool.{_&&_, _||_}
+use lib.Dec.{eqb}
+use lib.ListN.{getD}
 use borrow.Author.Tests.{eq-eqb, ne-eqb}
 use Rattle.text.proofs.DecimalLaws.{digit-low}
 use Rattle.console.specs.Console.{tickLine}
+use Rattle.console.proofs.Chains.{third}
 use borrow.Author.Needs.{needs}
 use Rattle.console.proofs.tick_line.Statement.{statement}
 use Rattle.console.proofs.tick_line.Tie as tie
@@ -39,21 +39,28 @@ shared-slice-read-head-3 c = search needs
 shared-slice-read-tail : tie.Need-shared-slice-read-tail
 shared-slice-read-tail c = search needs
 
-sub-t25 : tie.Need-sub-t25
-sub-t25 c =
-    let t = c .before .before .before .before .before .before .before .before .before .before .before .before .args .text .now in
-    digit-low (getD t 2 0)
-    (sym (c .before .before .before .before .is-digit .ensures)
-    ∙ third (eqb (getD t 0 0) 84) (eqb (getD t 1 0) 32) (c .before .before .before .before .is-digit .result) (eqb (getD t 3 0) 32)
-    (c .before .before .before .before .before .before .before .before .hex4-at .result .ok && (eqb (getD t 8 0) 32 && (eqb (getD t 9 0) 70 || eqb (getD t 9 0) 81))) (c .if2 .taken))
+sub-t26 : tie.Need-sub-t26
+sub-t26 c =
+    let digit = c .before .before .before .before in
+    let word = digit .before .before .before .before in
+    let t = word .before .before .before .before .args .text .now in
+    let tail = word .hex4-at .result .ok && (eqb (getD t 8 0) 32 && (eqb (getD t 9 0) 70 || eqb (getD t 9 0) 81)) in
+    let isDigit = third (eqb (getD t 0 0) 84) (eqb (getD t 1 0) 32) (digit .is-digit .result) (eqb (getD t 3 0) 32) tail (c .if2 .taken) in
+    digit-low (getD t 2 0) (sym (digit .is-digit .ensures) ∙ isDigit)
 
 returns-2 : tie.Need-returns-2
 unfolding tickLine
-returns-2 c = rw (eq-eqb _ _ (c .before .before .before .before .before .before .before .before .before .before .if1 .left), ← c .before .before .before .before .before .before .before .before .hex4-at .ensures, ← c .before .before .before .before .is-digit .ensures, c .if2 .taken)
+returns-2 c =
+    let digit = c .before .before .before .before in
+    let word = digit .before .before .before .before in
+    rw (eq-eqb _ _ (word .before .before .if1 .left), ← word .hex4-at .ensures, ← digit .is-digit .ensures, c .if2 .taken)
 
 returns-3 : tie.Need-returns-3
 unfolding tickLine
-returns-3 c = rw (eq-eqb _ _ (c .before .before .before .before .before .before .before .before .before .before .if1 .left), ← c .before .before .before .before .before .before .before .before .hex4-at .ensures, ← c .before .before .before .before .is-digit .ensures, c .if2 .left)
+returns-3 c =
+    let digit = c .before .before .before .before in
+    let word = digit .before .before .before .before in
+    rw (eq-eqb _ _ (word .before .before .if1 .left), ← word .hex4-at .ensures, ← digit .is-digit .ensures, c .if2 .left)
 
 pub tick-line-spec : {M : Type 1} → statement M
 tick-line-spec =
@@ -68,6 +75,6 @@ tick-line-spec =
     is-digit-requires
     shared-slice-read-head-3
     shared-slice-read-tail
-    sub-t25
+    sub-t26
     returns-2
     returns-3)

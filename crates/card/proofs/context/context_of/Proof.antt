@@ -13,7 +13,9 @@ at-cell-requires : tie.Need-at-cell-requires
 at-cell-requires c κs = search needs
 
 returns : tie.Need-returns
-returns c = rw (c .at-cell .ensures, c .before .current-connector .ensures, c .before .before .current-cell .ensures)
+returns c =
+    let connector = c .before .before in
+    rw (c .at-cell .ensures, connector .current-connector .ensures, connector .before .current-cell .ensures)
 
 pub context-of-spec : {M : Type 1} → statement M
 context-of-spec =

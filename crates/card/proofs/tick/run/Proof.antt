@@ -1,7 +1,6 @@
 -- `card::tick::run` meets its contract: the connectors and then the cells are those of the definition, and the new card and the answer are made
 -- of them.
 use mathlib.Core.Path.{_≡_, ap, ap₂, _∙_}
-use mathlib.Core.Bool.{Bool}
 use Prim.Native.Nat.{ℕ}
 use borrow.Author.Needs.{needs}
 use Rattle.words.specs.Bits.{bitAt}
@@ -31,18 +30,18 @@ turn-all-requires c κs = search needs
 made : Card → Lines → Turned → Ticked
 made c l t = record { card = cardAfter c l t; answer = answerOf l t }
 
-driven : (c : tie.After-drive) → let a = c .before .before .before .before .args in c .drive .result ≡ lines cellCount (a .card) (a .sample)
+driven : (c : tie.After-drive) → let a = c .before .before .before .before .before .args in c .drive .result ≡ lines cellCount (a .card) (a .input)
 driven c =
-    let a = c .before .before .before .before .args in
+    let a = c .before .before .before .before .before .args in
     c .drive .ensures
-    ∙ ap₂ (λ (x y : ℕ). linesOf (bitAt x) (bitAt y) (a .card .connectors) (a .sample)) (c .before .before .sees .ensures) (c .before .sees2 .ensures)
-    ∙ lines-built _ _ (a .card .connectors) (a .sample)
+    ∙ ap₂ (λ (x y : ℕ). linesOf (bitAt x) (bitAt y) (a .card .connectors) (a .input .sample)) (c .before .before .sees .ensures) (c .before .sees2 .ensures)
+    ∙ lines-built _ _ (a .card .connectors) (a .input .sample)
 
 returns : tie.Need-returns
 unfolding made
 returns c =
     let d = c .before .before .before in
-    let a = d .before .before .before .before .args in
+    let a = d .before .before .before .before .before .args in
     ap (made (a .card) (d .drive .result)) (c .before .turn-all .ensures)
     ∙ ap (λ (l : Lines). made (a .card) l (turnedIn cellCount (a .full) (a .card) (l .levels))) (driven d)
 

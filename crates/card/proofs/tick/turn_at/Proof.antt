@@ -1,8 +1,8 @@
 -- `card::tick::turn_at` meets its contract: the views give what the cell reads now, and it is worked out or keeps what it has.
-use mathlib.Core.Path.{_≡_, ap, _∙_}
+use mathlib.Core.Path.{_≡_, ap}
 use Rattle.cells.specs.Work.{slotsOf}
 use Rattle.card.specs.Address.{cellCount}
-use Rattle.card.specs.Tick.{readNow, named, workedTurn, sleptTurn, turnAt}
+use Rattle.card.specs.Tick.{readNow, named, sleptTurn, turnAt}
 use Rattle.card.proofs.Views.{read-as}
 use borrow.Author.Needs.{needs}
 use Rattle.card.proofs.tick.turn_at.Statement.{statement}
@@ -13,7 +13,9 @@ now : (c : tie.After-readings) → let a = c .before .before .before .before .ar
     slotsOf (c .readings .result) ≡ readNow cellCount (a .i) (a .w) (a .below) (a .cell .slots)
 unfolding readNow
 now c =
-    read-as _ _ _ _ (c .before .before .before .before .args .cell .slots) _ (c .before .before .sees .ensures) (c .before .sees2 .ensures) (c .readings .ensures)
+    let before = c .before in
+    let view = before .before in
+    read-as _ _ _ _ (view .before .before .args .cell .slots) _ (view .sees .ensures) (before .sees2 .ensures) (c .readings .ensures)
 
 sees-requires : tie.Need-sees-requires
 sees-requires c κs = search needs
