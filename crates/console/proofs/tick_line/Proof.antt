@@ -41,19 +41,34 @@ shared-slice-read-tail c = search needs
 
 sub-t25 : tie.Need-sub-t25
 sub-t25 c =
-    let t = c .before .before .before .before .before .before .before .before .before .before .before .before .args .text .now in
+    let p = c .before .before .before .before .before .before .before .before in
+    let t = p .before .before .before .before .args .text .now in
     digit-low (getD t 2 0)
     (sym (c .before .before .before .before .is-digit .ensures)
     ∙ third (eqb (getD t 0 0) 84) (eqb (getD t 1 0) 32) (c .before .before .before .before .is-digit .result) (eqb (getD t 3 0) 32)
-    (c .before .before .before .before .before .before .before .before .hex4-at .result .ok && (eqb (getD t 8 0) 32 && (eqb (getD t 9 0) 70 || eqb (getD t 9 0) 81))) (c .if2 .taken))
+    (p .hex4-at .result .ok && (eqb (getD t 8 0) 32 && (eqb (getD t 9 0) 70 || eqb (getD t 9 0) 81))) (c .if2 .taken))
 
 returns-2 : tie.Need-returns-2
 unfolding tickLine
-returns-2 c = rw (eq-eqb _ _ (c .before .before .before .before .before .before .before .before .before .before .if1 .left), ← c .before .before .before .before .before .before .before .before .hex4-at .ensures, ← c .before .before .before .before .is-digit .ensures, c .if2 .taken)
+returns-2 c =
+    let p = c .before .before .before .before in
+    rw (
+      eq-eqb _ _ (p .before .before .before .before .before .before .if1 .left),
+      ← p .before .before .before .before .hex4-at .ensures,
+      ← p .is-digit .ensures,
+      c .if2 .taken,
+    )
 
 returns-3 : tie.Need-returns-3
 unfolding tickLine
-returns-3 c = rw (eq-eqb _ _ (c .before .before .before .before .before .before .before .before .before .before .if1 .left), ← c .before .before .before .before .before .before .before .before .hex4-at .ensures, ← c .before .before .before .before .is-digit .ensures, c .if2 .left)
+returns-3 c =
+    let p = c .before .before .before .before in
+    rw (
+      eq-eqb _ _ (p .before .before .before .before .before .before .if1 .left),
+      ← p .before .before .before .before .hex4-at .ensures,
+      ← p .is-digit .ensures,
+      c .if2 .left,
+    )
 
 pub tick-line-spec : {M : Type 1} → statement M
 tick-line-spec =
