@@ -1,57 +1,22 @@
--- Laws of bytes: stored one after the other, in fields of one length, as numbers, and compared.
-use Prim.Native.Nat.{ℕ, zero, suc, _+_, _*_, _/_, _%_, _^_, _≤_, _<_}
+-- Laws of bytes: in fields of one length, as numbers, and compared.
+use Prim.Native.Nat.{ℕ, zero, suc, _+_, _*_, _/_, _%_, _^_, _<_}
 use mathlib.Core.Path.{_≡_, refl, sym, ap, ap₂, _∙_}
 use mathlib.Core.Bool.{Bool, true, false, _&&_, false≢true, and-assoc}
 use mathlib.Core.List.{List, [], _∷_, _++_, map, append-nil, append-assoc}
-use native.Mathlib.Nat.{add-zero, zero-mul, not-suc-le-zero, mod-eq-of-lt, pow-suc, pow-succ', suc-mul, mod-one, add-mul, mul-assoc, add-assoc, div-one, div-div-eq-div-mul}
+use native.Mathlib.Nat.{add-zero, add-assoc, zero-mul, suc-mul, add-mul, mul-assoc, not-suc-le-zero, pow-suc, pow-succ'}
+use native.Mathlib.Nat.{mod-eq-of-lt, mod-one, div-one, div-div-eq-div-mul}
 use native.Mathlib.Numerals.{add-one}
 use native.Mathlib.Omega.{arith}
 use lib.Arith.{mod-mul, digits-div, digits-mod}
 use lib.Dec.{eqb, lit<}
-use lib.ListN.{length, getD, set, take, drop, length-append, drop-of-length-le}
-use lib.Seq.{sets, sets-eq, take-suc, drop-cons, length-take-le, drop-append-add}
+use lib.ListN.{length, getD, set, take, drop, length-append}
+use lib.Seq.{sets, take-suc, drop-cons, length-take-le, drop-append-add}
 use borrow.Author.Tests.{eqb-true, eq-eqb}
+use Rattle.text.proofs.Stores.{sets-append}
 use Rattle.cells.proofs.Rows.{and-left, and-right}
 use Rattle.cells.specs.declared.cell.Cell.{Cell}
 use Rattle.card.specs.Headers.{Bytes}
 use Rattle.card.specs.Record.{cellField, fieldsFrom, bigEndian, bigValue, sameBytes}
-
--- ---- a run of stores
-
-module _ {A : Type 0} where
-  -- stores in two goes
-  sets-append : (l a b : List A) (i : ℕ) → sets l i (a ++ b) ≡ sets (sets l i a) (i + length a) b
-  sets-append l [] b i = ap (λ (k : ℕ). sets l k b) (sym (add-zero i))
-  sets-append l (x ∷ a) b i =
-      let e : suc i + length a ≡ i + suc (length a) = omega arith in
-      sets-append (set l i x) a b (suc i) ∙ ap (λ (k : ℕ). sets (sets (set l i x) (suc i) a) k b) e
-
-  -- the first i were stored, and now the next one
-  pub sets-next : (l b : List A) (at i : ℕ) (d : A) → i < length b
-      → set (sets l at (take i b)) (at + i) (getD b i d) ≡ sets l at (take (i + 1) b)
-  sets-next l b at i d h =
-      let n : length (take i b) ≡ i = length-take-le i b (omega arith) in
-      ap (λ (k : ℕ). set (sets l at (take i b)) (at + k) (getD b i d)) (sym n)
-      ∙ sym (sets-append l (take i b) (getD b i d ∷ []) at)
-      ∙ ap (sets l at) (sym (take-suc b i d h) ∙ ap (λ (k : ℕ). take k b) (sym (add-one i)))
-
-  -- stores over the whole of a list
-  pub sets-all : (l vs : List A) → length vs ≡ length l → sets l 0 vs ≡ vs
-  sets-all l vs e =
-      let past : length l ≤ 0 + length vs = omega arith in
-      sets-eq vs l 0 (omega arith) ∙ ap (λ (r : List A). vs ++ r) (drop-of-length-le l past) ∙ append-nil vs
-
-  -- stores in three goes, over the whole of a list
-  pub sets-three : (l p a b : List A) (m n : ℕ) → length p ≡ m → m + length a ≡ n → n + length b ≡ length l
-      → sets (sets (sets l 0 p) m a) n b ≡ p ++ a ++ b
-  sets-three l p a b m n hp ha hb =
-      let first : 0 + length p ≡ m = omega arith in
-      let second : 0 + length (p ++ a) ≡ n = omega (arith, length-append p a) in
-      let all : length (p ++ a ++ b) ≡ length l = omega (arith, length-append p a, length-append (p ++ a) b) in
-      ap (λ (k : ℕ). sets (sets (sets l 0 p) k a) n b) (sym first)
-      ∙ ap₂ (λ (r : List A) (k : ℕ). sets r k b) (sym (sets-append l p a 0)) (sym second)
-      ∙ sym (sets-append l (p ++ a) b 0)
-      ∙ sets-all l (p ++ a ++ b) all
 
 -- ---- fields
 
@@ -73,14 +38,15 @@ module _ {A : Type 0} (f : ℕ → A → List ℕ) where
       (fields-snoc 0 (take i l) (getD l i d) ∙ ap (λ (k : ℕ). fieldsFrom f 0 (take i l) ++ f k (getD l i d)) n)
 
   -- the fields of the first i entries were stored from `at` on, and now that of the next one
-  module _ (w at i : ℕ) (l : List A) (d : A) (bytes : List ℕ) (h : i < length l) (e : bytes ≡ f i (getD l i d)) (n : length (fieldsFrom f 0 (take i l)) ≡ i * w) where
+  module _ (w at i : ℕ) (l : List A) (d : A) (bytes : List ℕ)
+      (h : i < length l) (e : bytes ≡ f i (getD l i d)) (n : length (fieldsFrom f 0 (take i l)) ≡ i * w) where
     pub field-next : (out next : List ℕ) (place : ℕ) → next ≡ sets out at (fieldsFrom f 0 (take i l)) → place ≡ at + i * w
         → sets next place bytes ≡ sets out at (fieldsFrom f 0 (take (i + 1) l))
     field-next out next place stored p =
         let there : place ≡ at + length (fieldsFrom f 0 (take i l)) = omega arith in
         ap₂ (λ (r : List ℕ) (k : ℕ). sets r k bytes) stored there
         ∙ ap (sets (sets out at (fieldsFrom f 0 (take i l))) (at + length (fieldsFrom f 0 (take i l)))) e
-        ∙ sym (sets-append out (fieldsFrom f 0 (take i l)) (f i (getD l i d)) at)
+        ∙ sets-append out at (fieldsFrom f 0 (take i l)) (f i (getD l i d))
         ∙ ap (sets out at) (sym (fields-next l i d h))
 
     pub field-longer : length bytes ≡ w → length (fieldsFrom f 0 (take (i + 1) l)) ≡ (i + 1) * w
@@ -141,7 +107,8 @@ big-value (suc w) acc v =
     let p : ℕ = 256 ^ w in
     let top : ℕ = v / p % 256 in
     let parts : v % (256 * p) ≡ top * p + v % p = mod-mul v (lit< tt) (byte-pos w) in
-    big-value w (acc * 256 + top) v ∙ rw (pow-succ' 256 w, parts, add-mul (acc * 256) top p, mul-assoc acc 256 p) (add-assoc (acc * (256 * p)) (top * p) (v % p))
+    big-value w (acc * 256 + top) v
+    ∙ rw (pow-succ' 256 w, parts, add-mul (acc * 256) top p, mul-assoc acc 256 p) (add-assoc (acc * (256 * p)) (top * p) (v % p))
 
 -- a number that fits is read back
 pub big-read : (w v : ℕ) → v < 256 ^ w → bigValue 0 (bigEndian w v) ≡ v
@@ -233,7 +200,8 @@ same-sound [] [] e = refl
 same-sound [] (y ∷ ys) e = absurd (false≢true e)
 same-sound (x ∷ xs) [] e = absurd (false≢true e)
 same-sound (x ∷ xs) (y ∷ ys) e =
-    ap₂ (λ (k : ℕ) (l : List ℕ). k ∷ l) (eqb-true x y (and-left (eqb x y) (sameBytes xs ys) e)) (same-sound xs ys (and-right (eqb x y) (sameBytes xs ys) e))
+    ap₂ (λ (k : ℕ) (l : List ℕ). k ∷ l) (eqb-true x y (and-left (eqb x y) (sameBytes xs ys) e))
+    (same-sound xs ys (and-right (eqb x y) (sameBytes xs ys) e))
 
 pub same-eq : (a b : List ℕ) → a ≡ b → sameBytes a b ≡ true
 same-eq a b e = ap (λ (l : List ℕ). sameBytes l b) e ∙ same-refl b

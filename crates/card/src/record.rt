@@ -1,7 +1,7 @@
 // The saved record: the settings as bytes, and what a load makes of some bytes.
 ghost use mathlib.Core.Bool.{not};
 ghost use mathlib.Core.Path.{_≡_};
-ghost use Prim.Native.Nat.{_+_, _*_, _≤_, _<_};
+ghost use Prim.Native.Nat.{_+_, _*_, _<_};
 ghost use lib.Dec.{ltb};
 ghost use lib.ListN.{length};
 ghost use lib.Seq.{sets};
@@ -17,6 +17,9 @@ use cells::cell::Cell;
 use cells::cell::Pulses;
 use cells::cell::State;
 
+// How many bytes a record has.
+pub const RECORD_LENGTH: usize = 276;
+
 // What a load gives: the card, and the number that refuses it, 0 where none does.
 #[repr(C)]
 pub struct Loaded {
@@ -25,16 +28,6 @@ pub struct Loaded {
 }
 
 // ---- bytes out
-
-// Bytes stored from a place on.
-fn put(out: &mut [u8], at: usize, bytes: &[u8])
-    requires { ⌜ at + length (now bytes) ≤ length (now out) ⌝ }
-    ensures { λ _. ⌜ now (out .exit) ≡ sets (now (out .entry)) at (now (bytes .entry)) ⌝ }
-{
-    for i in 0..bytes.len() {
-        out[at + i] = bytes[i];
-    }
-}
 
 // The field of cell number i + 1.
 fn cell_bytes(i: u8, cell: Cell) -> [u8; 11]
@@ -56,7 +49,7 @@ fn connector_bytes(k: u8, c: Connector) -> [u8; 6]
 }
 
 // The fields of all cells, after that of the trigger.
-fn with_cells(out: [u8; 276], cells: [Cell; 16]) -> [u8; 276]
+fn with_cells(out: [u8; RECORD_LENGTH], cells: [Cell; 16]) -> [u8; RECORD_LENGTH]
     ensures { λ r. ⌜ r ≡ sets out triggerLength (fieldsFrom (cellField configWidth) 0 cells) ⌝ }
     ensures { λ r. ⌜ length (fieldsFrom (cellField configWidth) 0 cells) ≡ cellCount * cellLength configWidth ⌝ }
 {
@@ -64,13 +57,13 @@ fn with_cells(out: [u8; 276], cells: [Cell; 16]) -> [u8; 276]
     for i in 0..16u8 {
         let at = i as usize;
         let bytes = cell_bytes(i, cells[at]);
-        put(&mut next, 4 + 11 * at, &bytes);
+        text::copy(&mut next, 4 + 11 * at, &bytes);
     }
     next
 }
 
 // The fields of all connectors, after those of the cells.
-fn with_connectors(out: [u8; 276], connectors: [Connector; 16]) -> [u8; 276]
+fn with_connectors(out: [u8; RECORD_LENGTH], connectors: [Connector; 16]) -> [u8; RECORD_LENGTH]
     ensures { λ r. ⌜ r ≡ sets out (triggerLength + cellCount * cellLength configWidth) (fieldsFrom connectorField 0 connectors) ⌝ }
     ensures { λ r. ⌜ length (fieldsFrom connectorField 0 connectors) ≡ connectorCount * connectorLength ⌝ }
 {
@@ -78,18 +71,18 @@ fn with_connectors(out: [u8; 276], connectors: [Connector; 16]) -> [u8; 276]
     for k in 0..16u8 {
         let at = k as usize;
         let bytes = connector_bytes(k, connectors[at]);
-        put(&mut next, 180 + 6 * at, &bytes);
+        text::copy(&mut next, 180 + 6 * at, &bytes);
     }
     next
 }
 
 // The settings as bytes.
-fn encoded(trigger: u8, cells: [Cell; 16], connectors: [Connector; 16]) -> [u8; 276]
+fn encoded(trigger: u8, cells: [Cell; 16], connectors: [Connector; 16]) -> [u8; RECORD_LENGTH]
     ensures { λ r. ⌜ r ≡ encode configWidth trigger cells connectors ⌝ }
 {
     let first = [1, 0, 1, trigger];
-    let mut out = [0u8; 276];
-    put(&mut out, 0, &first);
+    let mut out = [0u8; RECORD_LENGTH];
+    text::copy(&mut out, 0, &first);
     with_connectors(with_cells(out, cells), connectors)
 }
 
@@ -181,12 +174,13 @@ fn same(a: &[u8], b: &[u8]) -> bool
 
 // ---- load and save
 
-// A load of any bytes. The card powers up with them, and every cell counts as edited; a refused load leaves it as it was.
+// A load of any bytes. The card powers up with them, and every cell counts as edited; a refused load leaves it as it was. k is 0, 14 where
+// these are not the bytes of a record, or 15 where its settings are none that lines can set.
 pub fn load(card: Card, bytes: &[u8]) -> Loaded
     ensures { λ r. ⌜ r .card ≡ loaded cellCount configWidth card (now (bytes .entry)) ⌝ }
     ensures { λ r. ⌜ r .k ≡ loadNumber cellCount configWidth (now (bytes .entry)) ⌝ }
 {
-    if bytes.len() != 276 {
+    if bytes.len() != RECORD_LENGTH {
         return Loaded { card: card, k: 14 };
     }
     let trigger = bytes[3];
@@ -203,17 +197,17 @@ pub fn load(card: Card, bytes: &[u8]) -> Loaded
     Loaded { card: next, k: 0 }
 }
 
-// The record of a card to the front of a store, if it has room.
+// The record of a card to the front of a store, if it has room; what stands behind it stays. Else the store stays, and the answer is false.
 pub fn save(card: Card, store: &mut [u8]) -> bool
     ensures { λ r. ⌜ now (store .exit) ≡ savedTo cellCount configWidth card (now (store .entry)) ⌝ }
     ensures { λ r. ⌜ r ≡ not (ltb (length (now (store .entry))) (recordLength cellCount configWidth)) ⌝ }
 {
-    if store.len() < 276 {
+    if store.len() < RECORD_LENGTH {
         return false;
     }
     let cells = card.cells;
     let connectors = card.connectors;
     let bytes = encoded(card.trigger, cells, connectors);
-    put(store, 0, &bytes);
+    text::copy(store, 0, &bytes);
     true
 }

@@ -1,18 +1,16 @@
 -- A law of input lines that are longer than any form: they all leave the same.
-use Prim.Native.Nat.{ℕ, _≤_, _<_}
-use mathlib.Core.Path.{_≡_, refl, sym, ap, _∙_}
-use mathlib.Core.Bool.{Bool, false, _&&_, cond}
+use Prim.Native.Nat.{ℕ, _<_}
+use mathlib.Core.Path.{_≡_, sym, _∙_}
 use mathlib.Core.List.{List}
 use native.Mathlib.Omega.{arith}
-use lib.Dec.{eqb}
-use lib.ListN.{length, getD}
+use lib.ListN.{length}
 use borrow.Author.Tests.{ne-eqb}
 use Rattle.card.specs.declared.card.Card.{Card}
 use Rattle.card.specs.Address.{cellCount}
 use Rattle.lines.specs.Grammar.{longestLine}
-use Rattle.lines.specs.Line.{Outcome, shortestReply}
+use Rattle.lines.specs.Line.{shortestReply}
 use Rattle.lines.proofs.Long.{parse-long, outcome-same, reply-same, store-same}
-use Rattle.console.specs.Console.{tickLine, isLoadLine, plainReply, Entry, byLine, entered}
+use Rattle.console.specs.Console.{tickLine, plainReply, byLine, entered}
 
 -- a long line is no tick and no load
 long-line : (c : Card) (t store : List ℕ) → longestLine < length t → entered c t store ≡ byLine c t store

@@ -9,12 +9,14 @@ ghost use Rattle.text.specs.Hex.{hex4};
 ghost use Rattle.console.specs.Console.{tickLine, tickText, isLoadLine, loadText, plainReply, longestPrint, byLine, entered};
 ghost use Rattle.card.specs.Address.{cellCount};
 ghost use Rattle.card.specs.Tick.{tick};
+ghost use Rattle.lines.specs.Line.{shortestReply};
 use card::card::Card;
 use card::tick::Answer;
 use card::tick::Input;
 use card::tick::Ticked;
 use card::tick::full_tick;
 use card::tick::quick_tick;
+use lines::line::SHORTEST_REPLY;
 
 // A line that asks for a tick: its kind, and what comes in with it.
 pub struct TickLine {
@@ -109,6 +111,7 @@ fn put_load(out: &mut [u8], k: u8) -> usize
     text::copy(out, end, b"\n")
 }
 
+// n less m, and 0 where m is more.
 fn without(n: usize, m: usize) -> usize
     ensures { λ r. ⌜ r ≡ n - m ⌝ }
 {
@@ -117,7 +120,7 @@ fn without(n: usize, m: usize) -> usize
 
 // A reply of a line, with LF in place of CR LF.
 fn put_plain(out: &mut [u8], reply: &[u8]) -> usize
-    requires { ⌜ length (now reply) ≤ 16 ⌝ }
+    requires { ⌜ length (now reply) ≤ shortestReply ⌝ }
     requires { ⌜ longestPrint ≤ length (now out) ⌝ }
     ensures { λ _. ⌜ now (out .exit) ≡ sets (now (out .entry)) 0 (plainReply (now (reply .entry))) ⌝ }
     ensures { λ r. ⌜ r ≡ length (plainReply (now (reply .entry))) ⌝ }
@@ -138,6 +141,7 @@ fn is_load(text: &[u8]) -> bool
     text[0] == b'L'
 }
 
+// The tick that a line asks for.
 fn do_tick(card: Card, t: TickLine) -> Ticked
     ensures { λ r. ⌜ (r ≡ tick cellCount (t .full) card (t .input)) × (r .answer .count < 10 ^ maxDigits) ⌝ }
 {
@@ -158,7 +162,7 @@ fn enter_line(card: Card, text: &[u8], store: &mut [u8], out: &mut [u8]) -> Ente
     ensures { λ r. ⌜ r .len ≡ length (byLine card (now (text .entry)) (now (store .entry)) .printed) ⌝ }
     ensures { λ r. ⌜ r .len ≤ longestPrint ⌝ }
 {
-    let mut reply = [0u8; 16];
+    let mut reply = [0u8; SHORTEST_REPLY];
     let a = lines::line::line(card, text, &mut reply, store);
     let n = a.len;
     let next = a.card;
@@ -169,7 +173,8 @@ fn enter_line(card: Card, text: &[u8], store: &mut [u8], out: &mut [u8]) -> Ente
     }
 }
 
-// One line of input.
+// One line of input, without its LF: a tick, a load of the store, or a card line. What it prints goes to the front of `out`, which needs room for
+// the longest print, and `len` says how many bytes that is.
 pub fn enter(card: Card, text: &[u8], store: &mut [u8], out: &mut [u8]) -> Entered
     requires { ⌜ longestPrint ≤ length (now out) ⌝ }
     ensures { λ r. ⌜ r .card ≡ entered card (now (text .entry)) (now (store .entry)) .card ⌝ }

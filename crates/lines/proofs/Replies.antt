@@ -1,30 +1,19 @@
--- Laws of replies: runs of stores that make one text, and the reply to a line that has room for one.
+-- Laws of replies: the reply to a line that has room for one, and its length.
 use Prim.Native.Nat.{ℕ, _+_, _^_, _≤_, _<_}
 use mathlib.Core.Bool.{Bool, true, false, cond}
-use mathlib.Core.Path.{_≡_, ap, _∙_}
+use mathlib.Core.Path.{_≡_, ap}
 use mathlib.Core.List.{List, [], _∷_, _++_}
 use native.Mathlib.Omega.{arith}
 use lib.ListN.{length, length-append}
-use lib.Seq.{sets}
 use lib.Dec.{eqb, lit≤}
 use borrow.Author.Tests.{le-ltb}
 use Rattle.text.specs.Decimal.{decimal, maxDigits}
 use Rattle.text.proofs.DecimalLaws.{decimal-length}
-use Rattle.text.proofs.DigitLaws.{sets-append}
 use Rattle.card.specs.declared.card.Card.{Card}
 use Rattle.card.specs.Context.{contextOf}
 use Rattle.lines.specs.declared.decision.Response.{Response}
 use Rattle.lines.specs.declared.decision.Decision.{Decision}
 use Rattle.lines.specs.Line.{shortestReply, ending, refusalText, lineDecision, replyOf, lineOutcome, lineReply}
-
--- a word, a number and an ending, stored one behind the other
-pub stored : (l a b r w d e : List ℕ) (at end : ℕ) → a ≡ sets l 0 w → at ≡ 0 + length w → b ≡ sets a at d → end ≡ at + length d
-    → r ≡ sets b end e → r ≡ sets l 0 (w ++ (d ++ e))
-stored l a b r w d e at end ea eat eb eend er =
-    er ∙ (λ i. sets (eb i) (eend i) e) ∙ sets-append a at d e ∙ (λ i. sets (ea i) (eat i) (d ++ e)) ∙ sets-append l 0 w (d ++ e)
-
-pub stored-length : (w d e : List ℕ) (at end r : ℕ) → at ≡ 0 + length w → end ≡ at + length d → r ≡ end + length e → r ≡ length (w ++ (d ++ e))
-stored-length w d e at end r ea ee er = simp (length-append, length-append) (omega arith)
 
 -- a reply buffer that has room gets the reply to the decision
 pub reply-is : (n : ℕ) (c : Card) (text : List ℕ) (reply store : ℕ) (d : Decision) → shortestReply ≤ reply
@@ -32,7 +21,7 @@ pub reply-is : (n : ℕ) (c : Card) (text : List ℕ) (reply store : ℕ) (d : D
 unfolding lineOutcome lineReply
 reply-is n c text reply store d h e = rw (le-ltb reply shortestReply h) (ap (λ (x : Decision). replyOf (x .k) (x .response)) e)
 
--- a reply with a number below 100000 has at most ten bytes, so 16 are room enough
+-- a reply with a number below 100000 has at most ten bytes, so the shortest buffer has room enough
 number-short : (n : ℕ) → n < 10 ^ maxDigits → length (decimal n ++ ending) ≤ 7
 number-short n h =
     let d = decimal-length n maxDigits (lit≤ tt) h in

@@ -23,7 +23,7 @@ use Rattle.card.specs.Edits.{currentCell, clearedCell, typed, configured, wired
 use Rattle.card.specs.Fresh.{freshCell, freshOf}
 use Rattle.card.specs.Valid.{frontDriven, badCellType, badConnectorType, badAddress, badConfig, validCell, validConnector, every, valid, validSlot}
 use Rattle.card.specs.Written.{configuredAs, written}
-use Rattle.card.proofs.Fields.{sets-all}
+use Rattle.text.proofs.Stores.{sets-all}
 use Rattle.card.proofs.Records.{cell-config}
 use Rattle.card.proofs.Settings.{Sound, split}
 use Rattle.card.proofs.ValidLaws.{kind-known, kind-good, source-good}

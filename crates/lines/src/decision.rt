@@ -7,11 +7,15 @@ ghost use Rattle.lines.specs.Refusal.{orElse, tooLarge};
 ghost use Rattle.lines.specs.Line;
 ghost use Rattle.lines.specs.Line.{silent, decided, decision, decisionFor};
 use crate::grammar::Command;
+use crate::grammar::Number;
 use crate::grammar::Parsed;
 use crate::reads;
 use crate::writes;
 use card::change::Change;
 use card::context::Context;
+
+// The largest number that a command may give.
+const LARGEST_NUMBER: Number = 65535;
 
 // The response to a command: nothing, a number, or the record that it saves.
 pub struct Response {
@@ -48,14 +52,14 @@ pub fn or_else(a: u8, b: u8) -> u8
 }
 
 // 4: more than a line's number may be.
-pub fn too_large(v: u32) -> bool
+pub fn too_large(v: Number) -> bool
     ensures { λ q. ⌜ q ≡ tooLarge v ⌝ }
 {
-    65535 < v
+    LARGEST_NUMBER < v
 }
 
 // A command that gives one number: 4, else k where the test of it holds.
-pub fn judged(v: u32, bad: bool, k: u8) -> u8
+pub fn judged(v: Number, bad: bool, k: u8) -> u8
     ensures { λ r. ⌜ r ≡ Refusal.judged v bad k ⌝ }
 {
     or_else(when(too_large(v), 4), when(bad, k))
@@ -131,7 +135,7 @@ fn decide(x: Context, store: usize, command: Command) -> Decision
     }
 }
 
-// What a parsed line comes to.
+// What a parsed line comes to, where the store has this many bytes. The card itself is not needed: Context holds what counts of it.
 pub fn decide_for(x: Context, store: usize, p: Parsed) -> Decision
     ensures { λ d. ⌜ d ≡ decisionFor cellCount x store p ⌝ }
 {

@@ -2,20 +2,26 @@
 ghost use mathlib.Core.Path.{_≡_};
 ghost use Prim.Native.Nat.{_≤_};
 ghost use lib.ListN.{length};
-ghost use Rattle.text.specs.Decimal.{numberAt};
-ghost use Rattle.cells.specs.Table.{anySlot};
 ghost use Rattle.lines.specs.Grammar;
-ghost use Rattle.lines.specs.Grammar.{byteAt, isWord, isWhole, toEnd, slotOf, stepped, pairsOf};
-ghost use Rattle.lines.specs.Grammar.{writeOf, ccaWrite, ccaRead, ccaForm, slotForm, ccbForm, readOf, readForm, cardForm, numbered, plainForm, parse};
+ghost use Rattle.lines.specs.Grammar.{longestLine, byteAt, isWord, isWhole, toEnd, slotOf};
+ghost use Rattle.lines.specs.Grammar.{writeOf, ccaWrite, ccaRead, ccaForm, slotForm, ccbForm, readOf, readForm};
+ghost use Rattle.lines.specs.Grammar.{cardForm, numbered, plainForm, parse};
+use crate::pairs::all_pairs;
 use cells::table::Slots;
+
+// The most bytes that a line may have.
+const LONGEST_LINE: usize = 80;
+
+// A number of a line, as it was given: it may be too large for what it is to set.
+pub type Number = u32;
 
 // The slots that one line gives, each with its number.
 pub struct Pairs {
     pub given: Slots,
-    pub x: u32,
-    pub y: u32,
-    pub z: u32,
-    pub f: u32,
+    pub x: Number,
+    pub y: Number,
+    pub z: Number,
+    pub f: Number,
 }
 
 // A slot's letter.
@@ -29,14 +35,14 @@ pub enum Slot {
 
 // What a well-formed line asks for.
 pub enum Command {
-    Move(u32),
+    Move(Number),
     Where,
-    Trigger(u32),
+    Trigger(Number),
     Home,
-    Preset(u32),
-    SetKind(u32),
-    SetConfig(u32),
-    SetState(u32),
+    Preset(Number),
+    SetKind(Number),
+    SetConfig(Number),
+    SetState(Number),
     GetKind,
     GetConfig,
     GetState,
@@ -65,11 +71,11 @@ pub struct Reading {
 // A number that ends its line, if there is one.
 pub struct Ending {
     pub ok: bool,
-    pub value: u32,
+    pub value: Number,
 }
 
 // The byte at a place; past the end 0, which no form has.
-fn byte_at(text: &[u8], at: usize) -> u8
+pub fn byte_at(text: &[u8], at: usize) -> u8
     ensures { λ b. ⌜ b ≡ byteAt (now (text .entry)) at ⌝ }
 {
     if at < text.len() { text[at] } else { 0 }
@@ -77,7 +83,7 @@ fn byte_at(text: &[u8], at: usize) -> u8
 
 // Whether a word stands at a place.
 fn is_word(text: &[u8], at: usize, word: &[u8]) -> bool
-    requires { ⌜ at ≤ 80 ⌝ }
+    requires { ⌜ at ≤ longestLine ⌝ }
     requires { ⌜ length (now word) ≤ 8 ⌝ }
     ensures { λ q. ⌜ q ≡ isWord (now (word .entry)) at (now (text .entry)) ⌝ }
 {
@@ -120,7 +126,7 @@ fn to_end(text: &[u8], at: usize) -> Ending
 }
 
 // The slot that a letter names.
-fn slot_of(letter: u8) -> Slot
+pub fn slot_of(letter: u8) -> Slot
     ensures { λ s. ⌜ s ≡ slotOf letter ⌝ }
 {
     if letter == b'X' {
@@ -136,129 +142,8 @@ fn slot_of(letter: u8) -> Slot
     }
 }
 
-// ---- the pairs of CCB
-
-// Whether the slot was given before; what is no slot may not be given.
-fn gave(p: Pairs, s: Slot) -> bool
-    ensures { λ q. ⌜ q ≡ Grammar.gave p s ⌝ }
-{
-    let given = p.given;
-    match s {
-        Slot::X => given.x,
-        Slot::Y => given.y,
-        Slot::Z => given.z,
-        Slot::F => given.f,
-        Slot::NoSlot => true,
-    }
-}
-
-fn give(p: Pairs, s: Slot, v: u32) -> Pairs
-    ensures { λ q. ⌜ q ≡ Grammar.give p s v ⌝ }
-{
-    let mut next = p;
-    match s {
-        Slot::X => {
-            next.given.x = true;
-            next.x = v;
-        }
-        Slot::Y => {
-            next.given.y = true;
-            next.y = v;
-        }
-        Slot::Z => {
-            next.given.z = true;
-            next.z = v;
-        }
-        Slot::F => {
-            next.given.f = true;
-            next.f = v;
-        }
-        Slot::NoSlot => {}
-    }
-    next
-}
-
-// The number at a place, which may lie past the end.
-fn number_from(text: &[u8], at: usize) -> text::Number
-    ensures { λ n. ⌜ n ≡ numberAt (now (text .entry)) at ⌝ }
-{
-    if at <= text.len() {
-        text::number_at(text, at)
-    } else {
-        text::Number {
-            ok: false,
-            value: 0,
-            next: at,
-        }
-    }
-}
-
-// One pair more: a blank, a letter not given before, `=` and a number.
-fn step(text: &[u8], r: Reading) -> Reading
-    requires { ⌜ r .at ≤ 83 ⌝ }
-    requires { ⌜ length (now text) ≤ 80 ⌝ }
-    ensures { λ q. ⌜ (q ≡ stepped (now (text .entry)) r) × (q .at ≤ 83) ⌝ }
-{
-    let at = r.at;
-    if r.ok & (at < text.len()) {
-        let so = r.pairs;
-        let letter = slot_of(byte_at(text, at + 1));
-        let number = number_from(text, at + 3);
-        let framed = (byte_at(text, at) == b' ') & (byte_at(text, at + 2) == b'=');
-        let ok = (framed & !gave(so, letter)) & number.ok;
-        let pairs = give(so, letter, number.value);
-        Reading {
-            ok: ok,
-            pairs: pairs,
-            at: number.next,
-        }
-    } else {
-        r
-    }
-}
-
-fn any(s: Slots) -> bool
-    ensures { λ q. ⌜ q ≡ anySlot s ⌝ }
-{
-    (s.x | s.y) | (s.z | s.f)
-}
-
-// All pairs to the end of the line. There are four letters, so four steps are enough.
-fn all_pairs(text: &[u8], at: usize) -> Parsed
-    requires { ⌜ at ≤ 80 ⌝ }
-    requires { ⌜ length (now text) ≤ 80 ⌝ }
-    ensures { λ p. ⌜ p ≡ pairsOf (now (text .entry)) at ⌝ }
-{
-    let none = Slots {
-        x: false,
-        y: false,
-        z: false,
-        f: false,
-    };
-    let start = Reading {
-        ok: true,
-        pairs: Pairs {
-            given: none,
-            x: 0,
-            y: 0,
-            z: 0,
-            f: 0,
-        },
-        at: at,
-    };
-    let r = step(text, step(text, step(text, step(text, start))));
-    let all = r.pairs;
-    let end = r.at;
-    if (r.ok & (end == text.len())) & any(all.given) {
-        Parsed::Here(Command::SetSlots(all))
-    } else {
-        Parsed::Malformed
-    }
-}
-
-// ---- the forms
-
-fn write_of(p: Slot, v: u32) -> Parsed
+// The command of `36CCA p=v`.
+fn write_of(p: Slot, v: Number) -> Parsed
     ensures { λ q. ⌜ q ≡ writeOf p v ⌝ }
 {
     match p {
@@ -270,6 +155,7 @@ fn write_of(p: Slot, v: u32) -> Parsed
     }
 }
 
+// The same, of a number that may not be there.
 fn cca_write(p: Slot, e: Ending) -> Parsed
     ensures { λ q. ⌜ q ≡ ccaWrite p e ⌝ }
 {
@@ -280,6 +166,7 @@ fn cca_write(p: Slot, e: Ending) -> Parsed
     }
 }
 
+// The command of `36CCA p?`.
 fn cca_read(p: Slot) -> Parsed
     ensures { λ q. ⌜ q ≡ ccaRead p ⌝ }
 {
@@ -307,6 +194,7 @@ fn cca_form(text: &[u8]) -> Parsed
     Parsed::Malformed
 }
 
+// The command of `36CCB p?`.
 fn slot_form(p: Slot) -> Parsed
     ensures { λ q. ⌜ q ≡ slotForm p ⌝ }
 {
@@ -321,7 +209,7 @@ fn slot_form(p: Slot) -> Parsed
 
 // Behind `36CCB`.
 fn ccb_form(text: &[u8]) -> Parsed
-    requires { ⌜ length (now text) ≤ 80 ⌝ }
+    requires { ⌜ length (now text) ≤ longestLine ⌝ }
     ensures { λ q. ⌜ q ≡ ccbForm (now (text .entry)) ⌝ }
 {
     let framed = (byte_at(text, 5) == b' ') & (byte_at(text, 7) == b'?');
@@ -332,6 +220,7 @@ fn ccb_form(text: &[u8]) -> Parsed
     }
 }
 
+// The command of `36RDADC p?`.
 fn read_of(p: Slot) -> Parsed
     ensures { λ q. ⌜ q ≡ readOf p ⌝ }
 {
@@ -357,7 +246,7 @@ fn read_form(text: &[u8]) -> Parsed
 
 // A card command, behind the two digits of a card's address.
 fn card_form(text: &[u8]) -> Parsed
-    requires { ⌜ length (now text) ≤ 80 ⌝ }
+    requires { ⌜ length (now text) ≤ longestLine ⌝ }
     ensures { λ q. ⌜ q ≡ cardForm (now (text .entry)) ⌝ }
 {
     if is_word(text, 2, b"CCA ") {
@@ -375,6 +264,7 @@ fn card_form(text: &[u8]) -> Parsed
     Parsed::Malformed
 }
 
+// `M E=` and its number.
 fn moved(e: Ending) -> Parsed
     ensures { λ q. ⌜ q ≡ numbered Command.Move e ⌝ }
 {
@@ -385,6 +275,7 @@ fn moved(e: Ending) -> Parsed
     }
 }
 
+// `PM E=` and its number.
 fn triggered(e: Ending) -> Parsed
     ensures { λ q. ⌜ q ≡ numbered Command.Trigger e ⌝ }
 {
@@ -428,7 +319,7 @@ fn addressed(here: bool, p: Parsed) -> Parsed
     }
 }
 
-// What the bytes of a line are.
+// What the bytes of a line are: any bytes will do, and those of no form are malformed.
 pub fn parse_line(text: &[u8]) -> Parsed
     ensures { λ q. ⌜ q ≡ parse (now (text .entry)) ⌝ }
 {
@@ -436,7 +327,7 @@ pub fn parse_line(text: &[u8]) -> Parsed
     if n < 1 {
         return Parsed::Malformed;
     }
-    if 80 < n {
+    if LONGEST_LINE < n {
         return Parsed::Malformed;
     }
     let a = byte_at(text, 0);

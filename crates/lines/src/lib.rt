@@ -2,5 +2,6 @@
 pub mod decision;
 pub mod grammar;
 pub mod line;
+pub mod pairs;
 pub mod reads;
 pub mod writes;

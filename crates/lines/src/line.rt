@@ -11,8 +11,12 @@ ghost use Rattle.card.specs.Record.{configWidth, savedTo};
 ghost use Rattle.lines.specs.Line.{ending, replyOf, shortestReply, lineResult, resultOf};
 use crate::decision::Response;
 use crate::decision::decide_for;
+use crate::grammar::Number;
 use crate::grammar::parse_line;
 use card::card::Card;
+
+// The fewest bytes that a reply buffer may have.
+pub const SHORTEST_REPLY: usize = 16;
 
 // The answer to a line: the card, 0 or the number of the refusal, and the reply's length.
 #[repr(C)]
@@ -23,13 +27,13 @@ pub struct Answered {
 }
 
 // A reply that is a word, a number, CR and LF.
-fn put_number(reply: &mut [u8], word: &[u8], v: u32) -> usize
-    requires { ⌜ 16 ≤ length (now reply) ⌝ }
+fn put_number(reply: &mut [u8], word: &[u8], v: Number) -> usize
+    requires { ⌜ shortestReply ≤ length (now reply) ⌝ }
     requires { ⌜ length (now word) ≤ 3 ⌝ }
     requires { ⌜ v < 10 ^ maxDigits ⌝ }
     ensures { λ r. ⌜ now (reply .exit) ≡ sets (now (reply .entry)) 0 (now (word .entry) ++ (decimal v ++ ending)) ⌝ }
     ensures { λ r. ⌜ r ≡ length (now (word .entry) ++ (decimal v ++ ending)) ⌝ }
-    ensures { λ r. ⌜ r ≤ 16 ⌝ }
+    ensures { λ r. ⌜ r ≤ shortestReply ⌝ }
 {
     let at = text::copy(reply, 0, word);
     let end = text::put_decimal(reply, at, v);
@@ -38,18 +42,18 @@ fn put_number(reply: &mut [u8], word: &[u8], v: u32) -> usize
 
 // The reply to a line.
 fn put_reply(reply: &mut [u8], k: u8, r: Response) -> usize
-    requires { ⌜ 16 ≤ length (now reply) ⌝ }
+    requires { ⌜ shortestReply ≤ length (now reply) ⌝ }
     ensures { λ n. ⌜ now (reply .exit) ≡ sets (now (reply .entry)) 0 (replyOf k r) ⌝ }
     ensures { λ n. ⌜ n ≡ length (replyOf k r) ⌝ }
-    ensures { λ n. ⌜ n ≤ 16 ⌝ }
+    ensures { λ n. ⌜ n ≤ shortestReply ⌝ }
 {
     if k == 0 {
         if r.number {
-            return put_number(reply, b":A ", r.value as u32);
+            return put_number(reply, b":A ", r.value as Number);
         }
         return text::copy(reply, 0, b":A\r\n");
     }
-    put_number(reply, b":N-", k as u32)
+    put_number(reply, b":N-", k as Number)
 }
 
 // Saves the record, where that was asked.
@@ -61,13 +65,14 @@ fn save_if(asked: bool, card: Card, store: &mut [u8])
     }
 }
 
-// A line to the card. The reply is written to the front of its buffer, which needs 16 bytes, and `36SS Z` writes the record to the front of
-// the store; beyond these both are as they were. A refused line gives its number and leaves the card.
+// A line to the card: any bytes, without the line's own ending. The reply is written to the front of its buffer, and `36SS Z` writes the record
+// to the front of the store; beyond these both are as they were. A refused line gives its number and leaves the card. Where the buffer has
+// fewer than SHORTEST_REPLY bytes, that number is 1 and nothing is written.
 pub fn line(card: Card, text: &[u8], reply: &mut [u8], store: &mut [u8]) -> Answered
     ensures { λ r. ⌜ resultOf r (now (reply .exit)) (now (store .exit)) ≡ lineResult cellCount card (now (text .entry)) (now (reply .entry)) (now (store .entry)) ⌝ }
     ensures { λ r. ⌜ r .len ≤ shortestReply ⌝ }
 {
-    if reply.len() < 16 {
+    if reply.len() < SHORTEST_REPLY {
         return Answered {
             card: card,
             k: 1,

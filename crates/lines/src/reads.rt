@@ -14,9 +14,11 @@ use crate::grammar::Command;
 use crate::grammar::Slot;
 use card::change::Change;
 use card::context::Context;
+use card::record::RECORD_LENGTH;
 use card::valid;
 use cells::table::Slots;
 
+// `36CCA Z?`: the configuration of the current cell, or a connector's source; 9 where the type has none.
 pub fn config(x: Context) -> Decision
     ensures { λ d. ⌜ d ≡ decision cellCount x 0 Command.GetConfig ⌝ }
 {
@@ -25,6 +27,7 @@ pub fn config(x: Context) -> Decision
     read(k, card::context::read_config(x))
 }
 
+// `36CCA F?`: the state of the current cell; 6 at a connector, 12 where the type keeps none.
 pub fn state(x: Context) -> Decision
     ensures { λ d. ⌜ d ≡ decision cellCount x 0 Command.GetState ⌝ }
 {
@@ -59,6 +62,7 @@ fn slot_index(s: Slot) -> usize
     }
 }
 
+// `36CCB p?`: the address in a slot of the current cell; 6 at a connector, 10 where the type does not use it.
 pub fn slot(x: Context, s: Slot) -> Decision
     ensures { λ d. ⌜ d ≡ decision cellCount x 0 (Command.GetSlot s) ⌝ }
 {
@@ -70,12 +74,12 @@ pub fn slot(x: Context, s: Slot) -> Decision
     read(k, card::context::read_slot(x, slot_index(s)))
 }
 
-// 1 where the store is too short.
+// `36SS Z`, for a store of this many bytes: 1 where it is too short.
 pub fn save(store: usize) -> Decision
     ensures { λ d. ⌜ d ≡ record { k = Refusal.when (ltb store (recordLength cellCount configWidth)) 1; change = Change.Nothing; response = saving } ⌝ }
 {
     Decision {
-        k: when(store < 276, 1),
+        k: when(store < RECORD_LENGTH, 1),
         change: Change::Nothing,
         response: Response {
             number: false,

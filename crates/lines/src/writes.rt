@@ -13,6 +13,7 @@ use crate::decision::too_large;
 use crate::decision::when;
 use crate::decision::write;
 use crate::grammar::Command;
+use crate::grammar::Number;
 use crate::grammar::Pairs;
 use card::change::Change;
 use card::change::Wires;
@@ -21,19 +22,20 @@ use card::valid;
 use cells::table::Slots;
 
 // The low byte of a number, which is the number where it was not refused.
-fn low8(v: u32) -> u8
+fn low8(v: Number) -> u8
     ensures { λ r. ⌜ r ≡ v % 256 ⌝ }
 {
     (v % 256) as u8
 }
 
-fn low16(v: u32) -> u16
+fn low16(v: Number) -> u16
     ensures { λ r. ⌜ r ≡ v % 65536 ⌝ }
 {
     (v % 65536) as u16
 }
 
-pub fn to_place(v: u32) -> Decision
+// `M E=v`.
+pub fn to_place(v: Number) -> Decision
     ensures { λ d. ⌜ d ≡ decided (judged v (badPlace cellCount v) 5) (Change.Pointer v) silent ⌝ }
 {
     write(
@@ -42,7 +44,8 @@ pub fn to_place(v: u32) -> Decision
     )
 }
 
-pub fn to_trigger(v: u32) -> Decision
+// `PM E=v`.
+pub fn to_trigger(v: Number) -> Decision
     ensures { λ d. ⌜ d ≡ decided (judged v (badClock v) 7) (Change.Trigger v) silent ⌝ }
 {
     write(
@@ -51,7 +54,8 @@ pub fn to_trigger(v: u32) -> Decision
     )
 }
 
-pub fn to_preset(x: Context, v: u32) -> Decision
+// `36CCA X=v`. A preset that drives BNC1 while it is the trigger's input is 13.
+pub fn to_preset(x: Context, v: Number) -> Decision
     ensures { λ d. ⌜ d ≡ decision cellCount x 0 (Command.Preset v) ⌝ }
 {
     let k = decision::judged(v, card::presets::bad_preset(v), 8);
@@ -61,8 +65,8 @@ pub fn to_preset(x: Context, v: u32) -> Decision
     )
 }
 
-// At a connector 13 follows 7.
-pub fn to_kind(x: Context, v: u32) -> Decision
+// `36CCA Y=v`. At a connector 13 follows 7.
+pub fn to_kind(x: Context, v: Number) -> Decision
     ensures { λ d. ⌜ d ≡ decision cellCount x 0 (Command.SetKind v) ⌝ }
 {
     if x.celled {
@@ -78,7 +82,8 @@ pub fn to_kind(x: Context, v: u32) -> Decision
     )
 }
 
-pub fn to_config(x: Context, v: u32) -> Decision
+// `36CCA Z=v`: the configuration of a cell, or the source of a connector.
+pub fn to_config(x: Context, v: Number) -> Decision
     ensures { λ d. ⌜ d ≡ decision cellCount x 0 (Command.SetConfig v) ⌝ }
 {
     let cell = x.cell;
@@ -94,7 +99,8 @@ pub fn to_config(x: Context, v: u32) -> Decision
     )
 }
 
-pub fn to_state(x: Context, v: u32) -> Decision
+// `36CCA F=v`.
+pub fn to_state(x: Context, v: Number) -> Decision
     ensures { λ d. ⌜ d ≡ decision cellCount x 0 (Command.SetState v) ⌝ }
 {
     let cell = x.cell;
@@ -142,12 +148,13 @@ fn slots_number(x: Context, p: Pairs) -> u8
     or_else(first, or_else(unused, when(any_bad_address(p), 11)))
 }
 
-fn wire(given: bool, v: u32) -> u8
+fn wire(given: bool, v: Number) -> u8
     ensures { λ r. ⌜ r ≡ wireOf given (v % 256) ⌝ }
 {
     if given { low8(v) } else { 0 }
 }
 
+// `36CCB` and its pairs: all of them take effect, or none.
 pub fn to_slots(x: Context, p: Pairs) -> Decision
     ensures { λ d. ⌜ d ≡ decision cellCount x 0 (Command.SetSlots p) ⌝ }
 {

@@ -1,6 +1,6 @@
--- Laws of rows: how long one is and what it is made of, texts stored one behind the other, and a row that is cut.
+-- Laws of rows: how long one is and what it is made of, what an accepted one prints, and a row that is cut.
 use Prim.Native.Nat.{ℕ, _+_, _%_, _≤_, _<_}
-use mathlib.Core.Path.{_≡_, refl, sym, ap, ap₂, _∙_}
+use mathlib.Core.Path.{_≡_, refl, sym, ap, _∙_}
 use mathlib.Core.Bool.{Bool, true, false, _&&_, _||_}
 use mathlib.Core.List.{List, [], _∷_, _++_}
 use mathlib.Core.Logic.{_⊎_, inl, inr, ⊎-elim}
@@ -14,7 +14,8 @@ use borrow.Author.Tests.{eqb-true, leb-true, lt-leb, ne-eqb}
 use Rattle.cells.proofs.Rows.{and-left, and-right}
 use Rattle.text.specs.Digits.{every}
 use Rattle.text.specs.Hex.{isHex}
-use Rattle.text.proofs.DigitLaws.{every-at, sets-append}
+use Rattle.text.proofs.DigitLaws.{every-at}
+use Rattle.text.proofs.Stores.{Stored, behind}
 use Rattle.card.specs.declared.card.Card.{Card}
 use Rattle.card.specs.Address.{cellCount}
 use Rattle.card.specs.Fresh.{fresh}
@@ -48,23 +49,17 @@ module _ (row : List ℕ) (ok : isRow row ≡ true) where
 
 -- ---- texts
 
--- a text stored behind another
-pub behind : (l a b x y : List ℕ) (p q : ℕ) → x ≡ sets l 0 a → p ≡ length a → y ≡ sets x p b → q ≡ p + length b
-    → (y ≡ sets l 0 (a ++ b)) × (q ≡ length (a ++ b))
-behind l a b x y p q ex ep ey eq =
-    let at : p ≡ 0 + length a = omega arith in (
-      ey ∙ ap₂ (λ (t : List ℕ) (k : ℕ). sets t k b) ex at ∙ sets-append l 0 a b,
-      omega (arith, length-append a b),
-    )
-
 -- what an accepted load prints, stored in three goes
-pub accepted-stored : (l store saved x y z : List ℕ) (p q r : ℕ) → store ≡ saved → x ≡ sets l 0 (48 ∷ 32 ∷ []) → p ≡ 2 → y ≡ sets x p (hexOf store)
-    → q ≡ p + length (hexOf store) → z ≡ sets y q (10 ∷ []) → r ≡ q + 1 → (z ≡ sets l 0 (acceptedText saved)) × (r ≡ length (acceptedText saved))
+pub accepted-stored : (l store saved x y z : List ℕ) (p q r : ℕ) → store ≡ saved → x ≡ sets l 0 (48 ∷ 32 ∷ []) → p ≡ 2
+    → y ≡ sets x p (hexOf store) → q ≡ p + length (hexOf store) → z ≡ sets y q (10 ∷ []) → r ≡ q + 1
+    → (z ≡ sets l 0 (acceptedText saved)) × (r ≡ length (acceptedText saved))
 unfolding acceptedText
 accepted-stored l store saved x y z p q r es ex ep ey eq ez er =
     let hex = ap hexOf es in
-    let first = behind l (48 ∷ 32 ∷ []) (hexOf saved) x y p q ex ep (ey ∙ ap (sets x p) hex) (eq ∙ ap (λ (t : List ℕ). p + length t) hex) in
-    behind l ((48 ∷ 32 ∷ []) ++ hexOf saved) (10 ∷ []) y z q r (first .0) (first .1) ez er
+    let first : Stored l x (48 ∷ 32 ∷ []) p = record { bytes = ex; at-end = ep } in
+    let second = behind first (hexOf saved) (ey ∙ ap (sets x p) hex, eq ∙ ap (λ (t : List ℕ). p + length t) hex) in
+    let all = behind second (10 ∷ []) (ez, er) in
+    (all .bytes, all .at-end)
 
 -- ---- answers
 

@@ -9,21 +9,16 @@ use native.Mathlib.Numerals.{add-one}
 use native.Mathlib.Omega.{arith}
 use lib.Dec.{eqb}
 use lib.ListN.{length, getD, take, drop, length-take, length-drop}
-use lib.Seq.{sets, length-sets, sets-eq, take-all, take-at, take-add, take-append-add, take-take, take-append-le, getD-take, getD-drop, drop-cons, drop-drop}
+use lib.Seq.{sets, length-sets, take-all, take-at, take-add, take-append-add, take-take, take-append-le, getD-take, getD-drop, drop-cons, drop-drop}
 use borrow.Author.Tests.{ne-eqb}
 use Rattle.card.specs.declared.card.Card.{Card}
+use Rattle.text.proofs.Stores.{front}
 use Rattle.console.specs.Console.{longestPrint, entered}
 use Rattle.console.proofs.Long.{entered-long}
 use Rattle.runner.specs.declared.State.{State}
 use Rattle.runner.specs.Run.{RunState, part, kept, cut, after, ended, longer, takes, takesAll, keptOf, stateOf}
 
 -- ---- the output
-
--- the front of what is stored is what was stored
-pub stored : (l p : List ℕ) → length p ≤ length l → take (length p) (sets l 0 p) ≡ p
-stored l p h =
-    let k : 0 + length p ≤ length l = omega arith in
-    rw (sets-eq p l 0 k) (take-at p (drop (0 + length p) l) (length p) refl)
 
 -- what was printed into the back part of the output stands behind its front
 pub printed-behind : (xs ys post p : List ℕ) (a n : ℕ) → a + longestPrint ≤ length xs → n ≤ longestPrint → n ≡ length p
@@ -35,10 +30,10 @@ printed-behind xs ys post p a n ha hn en ey =
     let same : length ys ≡ length mid = ap length ey ∙ length-sets mid 0 p in
     let hp : length p ≤ length mid = omega (arith, all, rest) in
     let short : length p ≤ length ys = omega (arith, same) in
-    let front : length (take a xs) ≡ a = length-take a xs ∙ omega arith in
-    (λ i. take (sym front i + en i) (take a xs ++ (ys ++ post)))
+    let size : length (take a xs) ≡ a = length-take a xs ∙ omega arith in
+    (λ i. take (sym size i + en i) (take a xs ++ (ys ++ post)))
     ∙ take-append-add (take a xs) (ys ++ post) (length p)
-    ∙ ap (λ (t : List ℕ). take a xs ++ t) (take-append-le (length p) ys post short ∙ ap (take (length p)) ey ∙ stored mid p hp)
+    ∙ ap (λ (t : List ℕ). take a xs ++ t) (take-append-le (length p) ys post short ∙ ap (take (length p)) ey ∙ front mid p (length p) refl hp)
 
 -- ---- the line
 
@@ -47,7 +42,7 @@ pub kept-cut : (l text : List ℕ) (k : ℕ) → length l ≡ kept → k ≡ min
 kept-cut l text k hl ek =
     let size = length-take k text in
     let all : length (take k text) ≡ k = omega (arith, size) in
-    ap (λ (n : ℕ). take n (sets l 0 (take k text))) (sym all) ∙ stored l (take k text) (omega (arith, all)) ∙ enough (decLt kept (length text))
+    front l (take k text) k (sym all) (omega (arith, all)) ∙ enough (decLt kept (length text))
   where
     enough : Dec (kept < length text) → take k text ≡ cut text
     enough (yes g) =

@@ -4,7 +4,7 @@ use mathlib.Core.Path.{_≡_, refl, sym, ap, ap₂, _∙_}
 use mathlib.Core.Bool.{Bool, true, false, cond, not, _&&_, and-false}
 use mathlib.Core.List.{List, [], _∷_, _++_, append-assoc, append-nil}
 use mathlib.Core.Option.{none, some}
-use native.Mathlib.Nat.{pow-suc, le-refl, lt-of-lt-of-le, pow-le-pow-right}
+use native.Mathlib.Nat.{pow-suc, le-refl}
 use native.Mathlib.Decide.{decLt}
 use native.Mathlib.Numerals.{add-one}
 use native.Mathlib.Omega.{arith}
@@ -14,7 +14,7 @@ use lib.Seq.{drop-cons, getD-drop}
 use borrow.Author.Tests.{leb-true, ltb-false, lt-ltb, le-ltb, le-leb, lt-leb, ne-eqb, eqb-false, not-true}
 use Rattle.text.specs.Digits.{every, valueBy}
 use Rattle.text.specs.Decimal.{isDigit, digitsOf, digitValue, valueFrom, maxDigits, leads, plain, numberOf, numberIn, numberAt, decimalFrom, decimal}
-use Rattle.text.proofs.DigitLaws.{both-left, both-right, every-append, every-at, value-append, value-below}
+use Rattle.text.proofs.DigitLaws.{both-left, both-right, every-append, every-at, value-append}
 
 -- ---- digits
 
@@ -87,7 +87,8 @@ enough (suc k) zero n hk hj = rw (lt-ltb n 10 (omega arith))
 enough (suc k) (suc j) n hk hj = go (ltb n 10) refl (enough k j (n / 10))
   where
     go : (y : Bool) → ltb n 10 ≡ y → (n / 10 ≤ k → n / 10 ≤ j → decimalFrom k (n / 10) ≡ decimalFrom j (n / 10))
-        → cond y ((48 + n) ∷ []) (decimalFrom k (n / 10) ++ ((48 + n % 10) ∷ [])) ≡ cond y ((48 + n) ∷ []) (decimalFrom j (n / 10) ++ ((48 + n % 10) ∷ []))
+        → cond y ((48 + n) ∷ []) (decimalFrom k (n / 10) ++ ((48 + n % 10) ∷ []))
+        ≡ cond y ((48 + n) ∷ []) (decimalFrom j (n / 10) ++ ((48 + n % 10) ∷ []))
     go true e ih = refl
     go false e ih =
         let l : 10 ≤ n = ltb-false n 10 e in
@@ -134,12 +135,6 @@ unfolding valueBy
 decimal-value =
     by-digits (λ n. valueFrom 0 (decimal n) ≡ n) (λ n h. rw (decimal-one n h) (omega arith))
     (λ n h ih. rw (decimal-more n h, value-append, ih) (omega arith))
-
--- at least one digit
-pub decimal-some : (n : ℕ) → 1 ≤ length (decimal n)
-decimal-some =
-    by-digits (λ n. 1 ≤ length (decimal n)) (λ n h. rw (decimal-one n h) (omega arith))
-    (λ n h ih. rw (decimal-more n h, length-append) (omega arith))
 
 -- at most k digits below 10 ^ k
 pub decimal-length : (n k : ℕ) → 1 ≤ k → n < 10 ^ k → length (decimal n) ≤ k
@@ -299,18 +294,11 @@ reads-print t n e =
     let p = number-parts t n e in
     ap decimal (sym (p .2)) ∙ decimal-back t (p .0) (both-right (leb (length t) maxDigits) (leads t) (p .1))
 
--- a number that was read is small
-pub reads-below : (t : List ℕ) (n : ℕ) → numberOf t ≡ some n → n < 10 ^ maxDigits
-reads-below t n e =
-    let p = number-parts t n e in
-    let l : length t ≤ maxDigits = plain-few t (p .1) in
-    rw (← p .2)
-    (lt-of-lt-of-le (value-below 10 isDigit digitValue digit-small t 0 0 (p .0) (omega arith)) (pow-le-pow-right (omega arith) {i = 0 + length t} {j = maxDigits} (omega arith)))
-
 -- ---- digits at places of a text
 
 -- a turn of a loop that looks for the end of the digits
-pub digits-next : (t : List ℕ) (i : ℕ) → i < length t → isDigit (getD t i 0) ≡ true → digitsOf (drop i t) ≡ getD t i 0 ∷ digitsOf (drop (i + 1) t)
+pub digits-next : (t : List ℕ) (i : ℕ) → i < length t → isDigit (getD t i 0) ≡ true
+    → digitsOf (drop i t) ≡ getD t i 0 ∷ digitsOf (drop (i + 1) t)
 digits-next t i h e = rw (add-one, drop-cons t i 0 h) (digits-more (getD t i 0) (drop (suc i) t) e)
 
 pub digits-end : (t : List ℕ) (i : ℕ) → i < length t → isDigit (getD t i 0) ≡ false → digitsOf (drop i t) ≡ []
@@ -336,24 +324,3 @@ digits-byte t at j h =
 -- and a digit
 pub digits-is : (t : List ℕ) (at j : ℕ) → j < length (digitsOf (drop at t)) → isDigit (getD t (at + j) 0) ≡ true
 digits-is t at j h = rw (digits-byte t at j h) (every-at isDigit (digitsOf (drop at t)) j (digits-all (drop at t)) h)
-
--- ---- a number read at a place
-
--- its digits are a number
-pub at-reads : (t : List ℕ) (at : ℕ) → numberAt t at .ok ≡ true → numberOf (digitsOf (drop at t)) ≡ some (numberAt t at .value)
-unfolding numberOf numberAt numberIn
-at-reads t at e = rw (digits-all (drop at t), e)
-
--- a small one, also where none was read
-pub at-below : (t : List ℕ) (at : ℕ) → numberAt t at .value < 10 ^ maxDigits
-unfolding numberAt numberIn
-at-below t at = go (plain (digitsOf (drop at t))) refl
-  where
-    go : (y : Bool) → plain (digitsOf (drop at t)) ≡ y → numberAt t at .value < 10 ^ maxDigits
-    go true e = reads-below (digitsOf (drop at t)) (numberAt t at .value) (at-reads t at e)
-    go false e = rw e (omega arith)
-
--- and the text goes on within it
-pub at-next : (t : List ℕ) (at : ℕ) → at ≤ length t → numberAt t at .next ≤ length t
-unfolding numberAt numberIn
-at-next t at h = omega (arith, digits-within t at)

@@ -1,4 +1,4 @@
--- Laws of digits in any base, and of bytes written one after the other.
+-- Laws of digits in any base.
 use Prim.Native.Nat.{ℕ, zero, suc, _+_, _*_, _^_, _<_}
 use mathlib.Core.Path.{_≡_, refl, sym, ap, _∙_, subst}
 use mathlib.Core.Bool.{Bool, true, false, _&&_, and-assoc}
@@ -6,8 +6,8 @@ use mathlib.Core.List.{List, [], _∷_, _++_}
 use native.Mathlib.Nat.{add-zero, pow-suc, pow-le-pow-right, lt-of-lt-of-le, le-of-suc-le-suc}
 use native.Mathlib.Numerals.{add-one}
 use native.Mathlib.Omega.{arith}
-use lib.ListN.{length, getD, take, drop, set}
-use lib.Seq.{sets, take-suc, drop-cons, length-take-le}
+use lib.ListN.{length, getD, drop}
+use lib.Seq.{drop-cons}
 use lib.Arith.{digits-lt}
 use Rattle.text.specs.Digits.{every, valueBy}
 
@@ -57,27 +57,11 @@ pub fits : (base k n acc d : ℕ) → acc < base ^ k → d < base → k < n → 
 fits base k n acc d h l m = lt-of-lt-of-le (grows base k acc d h l) (pow-le-pow-right (omega arith) (omega arith))
 
 -- what n digits say is below that power
-pub value-below : (base : ℕ) (f : ℕ → Bool) (d : ℕ → ℕ) → ((b : ℕ) → f b ≡ true → d b < base) → (xs : List ℕ) (acc k : ℕ) → every f xs ≡ true
-    → acc < base ^ k → valueBy base d acc xs < base ^ (k + length xs)
+pub value-below : (base : ℕ) (f : ℕ → Bool) (d : ℕ → ℕ) → ((b : ℕ) → f b ≡ true → d b < base)
+    → (xs : List ℕ) (acc k : ℕ) → every f xs ≡ true → acc < base ^ k → valueBy base d acc xs < base ^ (k + length xs)
 unfolding every valueBy
 value-below base f d small [] acc k e h = rw add-zero h
 value-below base f d small (x ∷ xs) acc k e h =
     subst (λ (m : ℕ). valueBy base d (acc * base + d x) xs < base ^ m) (omega arith)
     (value-below base f d small xs (acc * base + d x) (k + 1) (both-right (f x) (every f xs) e)
     (grows base k acc (d x) h (small x (both-left (f x) (every f xs) e))))
-
--- ---- bytes written one after the other
-
--- bytes written behind others are one run of bytes
-pub sets-append : (l : List ℕ) (at : ℕ) (xs ys : List ℕ) → sets (sets l at xs) (at + length xs) ys ≡ sets l at (xs ++ ys)
-sets-append l at [] ys = ap (λ (k : ℕ). sets l k ys) (add-zero at)
-sets-append l at (x ∷ xs) ys =
-    ap (λ (k : ℕ). sets (sets (set l at x) (suc at) xs) k ys) (omega arith) ∙ sets-append (set l at x) (suc at) xs ys
-
--- a turn of a loop that copies bytes
-pub copy-next : (l : List ℕ) (at : ℕ) (bytes : List ℕ) (i : ℕ) → i < length bytes
-    → set (sets l at (take i bytes)) (at + i) (getD bytes i 0) ≡ sets l at (take (i + 1) bytes)
-copy-next l at bytes i h =
-    ap (λ (k : ℕ). set (sets l at (take i bytes)) (at + k) (getD bytes i 0)) (sym (length-take-le i bytes (omega arith)))
-    ∙ sets-append l at (take i bytes) (getD bytes i 0 ∷ [])
-    ∙ ap (sets l at) (sym (take-suc bytes i 0 h) ∙ ap (λ (k : ℕ). take k bytes) (sym (add-one i)))

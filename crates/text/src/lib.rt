@@ -7,7 +7,7 @@ ghost use lib.Seq.{sets};
 ghost use Rattle.text.specs.Decimal.{digitsOf, valueFrom, maxDigits, plain, isDigit, numberAt, decimal};
 ghost use Rattle.text.specs.Hex.{hexDigit, hexValue, isHex, hex4, hexAt};
 
-// The most digits that a number may have.
+// The most digits that a number may have, leading zeros not being allowed.
 const MAX_DIGITS: usize = 5;
 
 // What was read: a number where ok, and where the text goes on.
@@ -23,10 +23,11 @@ pub struct Hex {
     pub value: u16,
 }
 
+// Whether a byte is one of 0 to 9.
 pub fn is_digit(b: u8) -> bool
     ensures { λ r. ⌜ r ≡ isDigit b ⌝ }
 {
-    (48 <= b) & (b <= 57)
+    (b'0' <= b) & (b <= b'9')
 }
 
 // Where the digits that start at `at` end.
@@ -73,7 +74,8 @@ fn digits_value(text: &[u8], at: usize, n: usize) -> u32
     v
 }
 
-// The number at a place of a text, and where the text goes on behind its digits.
+// The number at a place of a text, and where the text goes on behind its digits. Where there is no digit, or too many, or a leading zero, ok is
+// false and the value 0; the digits are passed over all the same.
 pub fn number_at(text: &[u8], at: usize) -> Number
     requires { ⌜ at ≤ length (now text) ⌝ }
     ensures { λ r. ⌜ r ≡ numberAt (now (text .entry)) at ⌝ }
@@ -96,7 +98,7 @@ pub fn number_at(text: &[u8], at: usize) -> Number
     }
 }
 
-// Writes the bytes at `at`, and returns the place behind them.
+// Writes the bytes at `at`, and returns the place behind them. The caller sees to it that they have room; nothing else of `out` changes.
 pub fn copy(out: &mut [u8], at: usize, bytes: &[u8]) -> usize
     requires { ⌜ at + length (now bytes) ≤ length (now out) ⌝ }
     ensures { λ _. ⌜ now (out .exit) ≡ sets (now (out .entry)) at (now (bytes .entry)) ⌝ }
@@ -110,7 +112,7 @@ pub fn copy(out: &mut [u8], at: usize, bytes: &[u8]) -> usize
     at + i
 }
 
-// Writes n in decimal at `at`, the higher digits first, and returns the place behind it.
+// Writes n in decimal at `at`, the higher digits first, and returns the place behind it. There must be room for the most digits, however many n has.
 pub fn put_decimal(out: &mut [u8], at: usize, n: u32) -> usize
     requires { ⌜ n < 10 ^ maxDigits ⌝ }
     requires { ⌜ at + maxDigits ≤ length (now out) ⌝ }
@@ -125,7 +127,7 @@ pub fn put_decimal(out: &mut [u8], at: usize, n: u32) -> usize
     place + 1
 }
 
-// The byte of a hexadecimal digit.
+// The byte of a hexadecimal digit, in lower case.
 pub fn hex_digit(d: u16) -> u8
     requires { ⌜ d < 16 ⌝ }
     ensures { λ r. ⌜ r ≡ hexDigit d ⌝ }
@@ -136,7 +138,7 @@ pub fn hex_digit(d: u16) -> u8
     87 + (d as u8)
 }
 
-// Writes w as four hexadecimal digits at `at`, and returns the place behind them.
+// Writes w as four hexadecimal digits at `at`, leading zeros too, and returns the place behind them.
 pub fn put_hex4(out: &mut [u8], at: usize, w: u16) -> usize
     requires { ⌜ at + 4 ≤ length (now out) ⌝ }
     ensures { λ _. ⌜ now (out .exit) ≡ sets (now (out .entry)) at (hex4 w) ⌝ }
@@ -154,6 +156,7 @@ pub fn put_hex4(out: &mut [u8], at: usize, w: u16) -> usize
     copy(out, at, &digits)
 }
 
+// Whether a byte is a hexadecimal digit. Capital letters are none.
 pub fn is_hex(b: u8) -> bool
     ensures { λ r. ⌜ r ≡ isHex b ⌝ }
 {
@@ -166,7 +169,7 @@ pub fn is_hex(b: u8) -> bool
     b <= b'f'
 }
 
-// What a hexadecimal digit stands for.
+// What a hexadecimal digit stands for. The caller has tested it by is_hex.
 pub fn hex_value(b: u8) -> u16
     requires { ⌜ isHex b ≡ true ⌝ }
     ensures { λ r. ⌜ r ≡ hexValue b ⌝ }
@@ -177,7 +180,7 @@ pub fn hex_value(b: u8) -> u16
     (b - 87) as u16
 }
 
-// The word that the four bytes at a place of a text say.
+// The word that the four bytes at a place of a text say; where one of them is no digit, ok is false and the value 0.
 pub fn hex4_at(text: &[u8], at: usize) -> Hex
     requires { ⌜ at + 4 ≤ length (now text) ⌝ }
     ensures { λ r. ⌜ r ≡ hexAt (now (text .entry)) at ⌝ }

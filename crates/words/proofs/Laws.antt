@@ -3,14 +3,15 @@ use mathlib.Core.Path.{_≡_, refl, sym, ap, ap₂, _∙_, subst, subst⁻¹}
 use mathlib.Core.Logic.{_⊎_, inl, inr}
 use mathlib.Core.Bool.{Bool, true, false, not, _&&_, _||_, Bool·beq}
 use Prim.Native.Nat.{ℕ, zero, suc, _+_, _-_, _*_, _/_, _%_, _^_, _≤_, _<_, zero-le}
-use native.Mathlib.Nat.{add-zero, add-comm, le-of-suc-le-suc, eq-or-lt-of-le, lt-of-lt-of-le, mod-lt, mod-eq-of-lt, div-eq-of-lt, mul-add-mod-self-right, two-pow-succ, zero-lt-suc, lt-suc-self, mod-one, zero-div, zero-mod}
+use native.Mathlib.Nat.{add-zero, add-comm, le-of-suc-le-suc, eq-or-lt-of-le, lt-of-lt-of-le, zero-lt-suc, lt-suc-self, two-pow-succ}
+use native.Mathlib.Nat.{mod-lt, mod-eq-of-lt, mod-one, div-eq-of-lt, mul-add-mod-self-right, zero-div, zero-mod}
 use native.Mathlib.Decide.{decLt, ℕ-discrete}
 use native.Mathlib.Numerals.{add-one, one-add}
 use native.Mathlib.Omega.{arith}
 use lib.Arith.{digits-lt}
 use lib.Dec.{eqb}
 use lib.Pow.{pow-pos, pow-mono, pow-add, shr-shr, shr-lt, high, field, mod-mod-pow, mod-pow-add}
-use lib.Bits.{bitAnd, bitOr, bitXor, or-lt, xor-lt, and-shr, and-mod, or-shr, or-mod, xor-shr, xor-mod}
+use lib.Bits.{bitAnd, bitOr, bitXor, or-lt, and-shr, and-mod, or-shr, or-mod, xor-shr, xor-mod}
 use lib.Count.{ones, ones-cat}
 use mir.Val.{boolByte}
 use Rattle.words.specs.Bits.{bitNumber, bitAt, wordOf, withBit, countOf}
@@ -105,10 +106,6 @@ bit-built f (suc n) i h = ap (λ (x : ℕ). bitAt x i) (built-step f n) ∙ go (
     go rest (inl e) = rw e (top-same (f n) n (wordOf f n) (built-lt f n))
     go rest (inr l) = bit-low (bitNumber (f n)) n (wordOf f n) i l ∙ rest l
 
--- and none is set above
-pub bit-built-above : (f : ℕ → Bool) (n i : ℕ) → n ≤ i → bitAt (wordOf f n) i ≡ false
-bit-built-above f n i h = bit-above (wordOf f n) n i (built-lt f n) h
-
 -- a word depends on its n bits alone
 pub built-same : (f g : ℕ → Bool) (n : ℕ) → ((i : ℕ) → i < n → f i ≡ g i) → wordOf f n ≡ wordOf g n
 unfolding wordOf
@@ -159,10 +156,6 @@ ones-built f (suc n) =
     ap ones (built-step f n) ∙ ones-cat n (bitNumber (f n)) (wordOf f n) (built-lt f n)
     ∙ ap₂ (λ (x y : ℕ). x + y) (ones-number (f n)) (ones-built f n) ∙ add-comm (bitNumber (f n)) (countOf f n)
 
--- a count depends on its n bits alone
-pub count-same : (f g : ℕ → Bool) (n : ℕ) → ((i : ℕ) → i < n → f i ≡ g i) → countOf f n ≡ countOf g n
-count-same f g n h = sym (ones-built f n) ∙ ap ones (built-same f g n h) ∙ ones-built g n
-
 -- ---- a bit replaced
 
 -- what stands below a place fits below it
@@ -204,8 +197,8 @@ with-lt w n i b h l =
     (digits-lt (shr-lt d (suc i) (subst (λ (k : ℕ). w < 2 ^ k) e h)) (under-lt w i b))
 
 -- a word that has the new bit, and else w's, is w with the bit replaced
-pub with-unique : (x w n i : ℕ) (b : Bool) → x < 2 ^ n → w < 2 ^ n → i < n → bitAt x i ≡ b → ((j : ℕ) → (j ≡ i → ⊥) → bitAt x j ≡ bitAt w j)
-    → x ≡ withBit w i b
+pub with-unique : (x w n i : ℕ) (b : Bool) → x < 2 ^ n → w < 2 ^ n → i < n → bitAt x i ≡ b
+    → ((j : ℕ) → (j ≡ i → ⊥) → bitAt x j ≡ bitAt w j) → x ≡ withBit w i b
 with-unique x w n i b hx hw l same other = word-ext x (withBit w i b) n hx (with-lt w n i b hw l) (λ j _. go j (ℕ-discrete j i))
   where
     go : (j : ℕ) → Dec (j ≡ i) → bitAt x j ≡ bitAt (withBit w i b) j
@@ -261,7 +254,7 @@ bit-or = bit-op bitOr _||_ or-shr or-mod or-digit
 pub bit-xor : (a b i : ℕ) → bitAt (bitXor a b) i ≡ not (Bool·beq (bitAt a i) (bitAt b i))
 bit-xor = bit-op bitXor (λ a b. not (Bool·beq a b)) xor-shr xor-mod xor-digit
 
--- ---- what the code computes: a shifted bit, and a bit replaced by `|` and `^`
+-- ---- what the code computes: a shifted bit, and a bit set by `|`
 
 -- the bit b alone at place i fits
 lone-lt : (n i : ℕ) (b : Bool) → i < n → bitNumber b * 2 ^ i < 2 ^ n
@@ -272,41 +265,19 @@ pub shifted : (n i : ℕ) (b : Bool) → i < n → boolByte b * 2 ^ i % 2 ^ n �
 shifted n i true l = mod-eq-of-lt (lone-lt n i true l)
 shifted n i false l = mod-eq-of-lt (lone-lt n i false l)
 
--- one proof for an operation that leaves a bit alone against a clear one
-module _ (op : ℕ → ℕ → ℕ) (g : Bool → Bool → Bool)
-    (bound : (k a b : ℕ) → a < 2 ^ k → b < 2 ^ k → op a b < 2 ^ k)
-    (bits : (a b i : ℕ) → bitAt (op a b) i ≡ g (bitAt a i) (bitAt b i))
-    (keep : (x : Bool) → g x false ≡ x) where
-  op-lone : (w n i : ℕ) (b : Bool) → w < 2 ^ n → i < n → op w (bitNumber b * 2 ^ i) ≡ withBit w i (g (bitAt w i) b)
-  op-lone w n i b h l =
-      ap (op w) (sym (with-zero i b))
-      ∙ with-unique (op w (withBit 0 i b)) w n i (g (bitAt w i) b) (bound n w (withBit 0 i b) h (with-lt 0 n i b (pow-pos n) l)) h l
-      (bits w (withBit 0 i b) i ∙ ap (g (bitAt w i)) (bit-with-same 0 i b))
-      (λ j ne. bits w (withBit 0 i b) j ∙ ap (g (bitAt w j)) (bit-with-other 0 i j b ne ∙ bit-zero j) ∙ keep (bitAt w j))
-
 -- a clear bit changes nothing
 or-keep : (x : Bool) → (x || false) ≡ x
 or-keep true = refl
 or-keep false = refl
 
-xor-keep : (x : Bool) → not (Bool·beq x false) ≡ x
-xor-keep true = refl
-xor-keep false = refl
-
 -- `w | (b << i)`
 pub or-lone : (w n i : ℕ) (b : Bool) → w < 2 ^ n → i < n → bitOr w (bitNumber b * 2 ^ i) ≡ withBit w i (bitAt w i || b)
-or-lone = op-lone bitOr _||_ or-lt bit-or or-keep
-
--- `w ^ (b << i)`
-pub xor-lone : (w n i : ℕ) (b : Bool) → w < 2 ^ n → i < n → bitXor w (bitNumber b * 2 ^ i) ≡ withBit w i (not (Bool·beq (bitAt w i) b))
-xor-lone = op-lone bitXor (λ a b. not (Bool·beq a b)) xor-lt bit-xor xor-keep
-
--- of two replacements of one bit the later counts
-pub with-with : (w n i : ℕ) (b c : Bool) → w < 2 ^ n → i < n → withBit (withBit w i c) i b ≡ withBit w i b
-with-with w n i b c h l =
-    let v : ℕ = withBit w i c in
-    with-unique (withBit v i b) w n i b (with-lt v n i b (with-lt w n i c h l) l) h l (bit-with-same v i b)
-    (λ j ne. bit-with-other v i j b ne ∙ bit-with-other w i j c ne)
+or-lone w n i b h l =
+    let v : ℕ = withBit 0 i b in
+    ap (bitOr w) (sym (with-zero i b))
+    ∙ with-unique (bitOr w v) w n i (bitAt w i || b) (or-lt n w v h (with-lt 0 n i b (pow-pos n) l)) h l
+    (bit-or w v i ∙ ap (λ (x : Bool). bitAt w i || x) (bit-with-same 0 i b))
+    (λ j ne. bit-or w v j ∙ ap (λ (x : Bool). bitAt w j || x) (bit-with-other 0 i j b ne ∙ bit-zero j) ∙ or-keep (bitAt w j))
 
 -- a set bit decides
 or-true : (x : Bool) → (x || true) ≡ true
@@ -316,20 +287,6 @@ or-true false = refl
 -- `w | (1 << i)`
 pub set-bit : (w n i : ℕ) → w < 2 ^ n → i < n → bitOr w (1 * 2 ^ i) ≡ withBit w i true
 set-bit w n i h l = or-lone w n i true h l ∙ ap (withBit w i) (or-true (bitAt w i))
-
--- `(w | (1 << i)) ^ (1 << i)`
-pub clear-bit : (w n i : ℕ) → w < 2 ^ n → i < n → bitXor (bitOr w (1 * 2 ^ i)) (1 * 2 ^ i) ≡ withBit w i false
-clear-bit w n i h l =
-    let v : ℕ = withBit w i true in
-    ap (λ (x : ℕ). bitXor x (1 * 2 ^ i)) (set-bit w n i h l) ∙ xor-lone v n i true (with-lt w n i true h l) l
-    ∙ ap (λ (x : Bool). withBit v i (not (Bool·beq x true))) (bit-with-same w i true) ∙ with-with w n i false true h l
-
--- a clear bit made b by `|`
-pub fill-bit : (w n i : ℕ) (b : Bool) → w < 2 ^ n → i < n → bitOr (withBit w i false) (bitNumber b * 2 ^ i) ≡ withBit w i b
-fill-bit w n i b h l =
-    let v : ℕ = withBit w i false in
-    or-lone v n i b (with-lt w n i false h l) l ∙ ap (λ (x : Bool). withBit v i (x || b)) (bit-with-same w i false)
-    ∙ with-with w n i b false h l
 
 -- ---- a loop that builds a word
 

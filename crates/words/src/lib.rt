@@ -1,8 +1,7 @@
 // Single bits of words. A caller widens a shorter word, so one width serves all.
-ghost use mathlib.Core.Bool.{true, false};
+ghost use mathlib.Core.Bool.{true};
 ghost use mathlib.Core.Path.{_≡_};
 ghost use Prim.Native.Nat.{_+_, _*_, _^_, _<_};
-ghost use lib.Count as count;
 ghost use Rattle.words.specs.Bits.{bitAt, withBit, bitNumber};
 
 // Bit number i of w.
@@ -45,27 +44,4 @@ pub fn with_set16(w: u16, i: u32) -> u16
     ensures { λ r. ⌜ r ≡ withBit w i true ⌝ }
 {
     with_set(w as u64, i) as u16
-}
-
-// The word with bit i cleared.
-pub fn with_clear(w: u64, i: u32) -> u64
-    requires { ⌜ i < 64 ⌝ }
-    ensures { λ r. ⌜ r ≡ withBit w i false ⌝ }
-{
-    (w | (1 << i)) ^ (1 << i)
-}
-
-// The word with bit i made b, with no branch.
-pub fn with_bit(w: u64, i: u32, b: bool) -> u64
-    requires { ⌜ i < 64 ⌝ }
-    ensures { λ r. ⌜ r ≡ withBit w i b ⌝ }
-{
-    with_clear(w, i) | ((b as u64) << i)
-}
-
-// How many bits of w are set.
-pub fn ones(w: u64) -> u32
-    ensures { λ r. ⌜ r ≡ count.ones w ⌝ }
-{
-    u64::count_ones(w)
 }

@@ -24,9 +24,10 @@ same-length c = search needs
 returns : tie.Need-returns
 unfolding entered
 returns c =
-    let out = c .before .before .before .before .before .before .before .before .before .before .before .before .args .out .now in
-    let done = c .before .before .before .before .before .before .do-tick .ensures .0 in
-    rw (← c .before .before .before .before .before .before .before .before .tick-line .ensures, c .before .before .before .before .before .before .before .if1 .taken) (
+    let p = c .before .before .before .before .before .before in
+    let out = p .before .before .before .before .before .before .args .out .now in
+    let done = p .do-tick .ensures .0 in
+    rw (← p .before .before .tick-line .ensures, p .before .if1 .taken) (
       ap (λ (r : Ticked). r .card) done,
       (
         refl,
@@ -55,10 +56,16 @@ same-length-3 c = search needs
 returns-2 : tie.Need-returns-2
 unfolding entered
 returns-2 c =
-    let out = c .before .before .before .before .before .before .before .before .before .before .before .before .before .before .args .out .now in
-    let k = c .before .before .before .before .before .load .ensures .1 in
-    rw (← c .before .before .before .before .before .before .before .before .before .before .tick-line .ensures, c .before .before .before .before .before .before .before .before .before .if1 .left, ← c .before .before .before .before .before .before .before .before .is-load .ensures, c .before .before .before .before .before .before .before .if2 .taken) (
-      c .before .before .before .before .before .load .ensures .0,
+    let p = c .before .before .before .before .before in
+    let out = p .before .before .before .before .before .before .before .before .before .args .out .now in
+    let k = p .load .ensures .1 in
+    rw (
+      ← p .before .before .before .before .before .tick-line .ensures,
+      p .before .before .before .before .if1 .left,
+      ← p .before .before .before .is-load .ensures,
+      p .before .before .if2 .taken,
+    ) (
+      p .load .ensures .0,
       (
         refl,
         (
@@ -79,7 +86,15 @@ same-length-5 c = search needs
 
 returns-3 : tie.Need-returns-3
 unfolding entered
-returns-3 c = rw (← c .before .before .before .before .before .before .before .before .before .before .tick-line .ensures, c .before .before .before .before .before .before .before .before .before .if1 .left, ← c .before .before .before .before .before .before .before .before .is-load .ensures, c .before .before .before .before .before .before .before .if2 .left) (c .before .before .before .before .enter-line .ensures)
+returns-3 c =
+    let p = c .before .before .before .before in
+    rw (
+      ← p .before .before .before .before .before .before .tick-line .ensures,
+      p .before .before .before .before .before .if1 .left,
+      ← p .before .before .before .before .is-load .ensures,
+      p .before .before .before .if2 .left,
+    )
+    (p .enter-line .ensures)
 
 pub enter-spec : {M : Type 1} → statement M
 enter-spec =

@@ -7,7 +7,7 @@ use lib.ListN.{length, take, replicate}
 use lib.Seq.{sets}
 use Rattle.card.specs.Address.{cellCount}
 use Rattle.lines.specs.Line.{LineResult, shortestReply, lineReply, replyAfter}
-use Rattle.console.proofs.Chains.{front}
+use Rattle.text.proofs.Stores.{front}
 use Rattle.console.specs.Console.{plainReply}
 use borrow.Author.Needs.{needs}
 use Rattle.console.proofs.enter_line.Statement.{statement}
@@ -47,7 +47,8 @@ returns c =
     let len = ap (λ (r : LineResult). r .len) d in
     let short = l .line .ensures .1 in
     let buffer = ap (λ (r : LineResult). r .reply) d in
-    let slice = ap (take (l .line .result .len - 0)) buffer ∙ front (replicate 16 0) reply (l .line .result .len) len (omega (arith, len, short)) in
+    let part : ℕ = l .line .result .len - 0 in
+    let slice = ap (take part) buffer ∙ front (replicate shortestReply 0) reply part (omega (arith, len)) (omega (arith, len, short)) in
     let put = c .before .before .put-plain .ensures in (
       ap (λ (r : LineResult). r .card) d,
       (

@@ -1,9 +1,7 @@
 -- `console::put_load` meets its contract: each part is stored behind the last.
-use mathlib.Core.Path.{_≡_, refl, sym, ap, _∙_}
-use mathlib.Core.List.{[], _∷_, _++_, append-assoc}
-use lib.ListN.{length, take}
-use lib.Seq.{sets}
-use Rattle.console.proofs.Chains.{Stored, next, three, within, load-short}
+use mathlib.Core.List.{[], _∷_}
+use Rattle.text.proofs.Stores.{stored, behind, three}
+use Rattle.console.proofs.Chains.{within, load-short}
 use native.Mathlib.Omega.{arith}
 use lib.Dec.{lit≤}
 use borrow.Author.Tests.{eq-eqb, ne-eqb}
@@ -25,7 +23,9 @@ same-length c = search needs
 
 returns : tie.Need-returns
 unfolding loadText
-returns c = within (rw (eq-eqb _ _ (c .before .before .before .before .before .if1 .taken)) (c .before .before .copy .ensures)) (load-short (c .before .before .before .before .before .before .before .args .k) (search needs))
+returns c =
+    let k = c .before .before .before .before .before .before .before .args .k in
+    within (rw (eq-eqb _ _ (c .before .before .before .before .before .if1 .taken)) (c .before .before .copy .ensures)) (load-short k (search needs))
 
 slice-aggregate-copy-2 : tie.Need-slice-aggregate-copy-2
 slice-aggregate-copy-2 c = search needs
@@ -40,7 +40,19 @@ slice-aggregate-copy-3 : tie.Need-slice-aggregate-copy-3
 slice-aggregate-copy-3 c = search needs
 
 copy-requires-3 : tie.Need-copy-requires-3
-copy-requires-3 c κs = omega (arith, decimal-length (c .before .before .before .before .before .before .before .before .before .before .before .before .before .args .k) maxDigits (lit≤ tt) (search needs), c .before .before .before .before .put-decimal .ensures .1, c .before .before .before .before .put-decimal .kept .0, c .before .before .before .before .before .before .before .before .copy2 .ensures .1, c .before .before .before .before .before .before .before .before .copy2 .kept .0, c .before .before .before .before .before .before .before .before .before .before .before .before .before .pre)
+copy-requires-3 c κs =
+    let d = c .before .before .before .before in
+    let t = d .before .before .before .before in
+    let s = t .before .before .before .before .before in
+    omega (
+      arith,
+      decimal-length (s .args .k) maxDigits (lit≤ tt) (search needs),
+      d .put-decimal .ensures .1,
+      d .put-decimal .kept .0,
+      t .copy2 .ensures .1,
+      t .copy2 .kept .0,
+      s .pre,
+    )
 
 same-length-2 : tie.Need-same-length-2
 same-length-2 c = search needs
@@ -48,11 +60,14 @@ same-length-2 c = search needs
 returns-2 : tie.Need-returns-2
 unfolding loadText
 returns-2 c =
-    let l = c .before .before .before .before .before .before .before .before .before .before .before .before .before .before .before .before .args .out .now in
-    let s0 : Stored l _ (58 ∷ 78 ∷ 45 ∷ []) _ = record { bytes = c .before .before .before .before .before .before .before .before .before .before .before .copy2 .ensures .0; at-end = c .before .before .before .before .before .before .before .before .before .before .before .copy2 .ensures .1 } in
-    let s1 = next l _ _ _ (decimal (c .before .before .before .before .before .before .before .before .before .before .before .before .before .before .before .before .args .k)) _ _ s0 (c .before .before .before .before .before .before .before .put-decimal .ensures .0) (c .before .before .before .before .before .before .before .put-decimal .ensures .1) in
-    let s2 = next l _ _ _ (10 ∷ []) _ _ s1 (c .before .before .copy3 .ensures .0) (c .before .before .copy3 .ensures .1) in
-    within (rw (ne-eqb _ _ (c .before .before .before .before .before .before .before .before .before .before .before .before .before .before .if1 .left)) (three l _ (58 ∷ 78 ∷ 45 ∷ []) (decimal (c .before .before .before .before .before .before .before .before .before .before .before .before .before .before .before .before .args .k)) (10 ∷ []) _ s2)) (load-short (c .before .before .before .before .before .before .before .before .before .before .before .before .before .before .before .before .args .k) (search needs))
+    let d = c .before .before .before .before .before .before .before in
+    let t = d .before .before .before .before in
+    let refused = t .before .before .before in
+    let a = refused .before .before .args in
+    let head = stored (a .out .now) (58 ∷ 78 ∷ 45 ∷ []) (t .copy2 .ensures) in
+    let all = behind (behind head (decimal (a .k)) (d .put-decimal .ensures)) (10 ∷ []) (c .before .before .copy3 .ensures) in
+    let parts = three (58 ∷ 78 ∷ 45 ∷ []) (decimal (a .k)) (10 ∷ []) all in
+    within (rw (ne-eqb _ _ (refused .if1 .left)) parts) (load-short (a .k) (search needs))
 
 pub put-load-spec : {M : Type 1} → statement M
 put-load-spec =

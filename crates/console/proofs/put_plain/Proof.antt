@@ -1,13 +1,13 @@
 -- `console::put_plain` meets its contract: the reply without its ending, and LF behind it.
-use Prim.Native.Nat.{ℕ, _-_}
+use Prim.Native.Nat.{ℕ, _+_, _-_}
 use mathlib.Core.Path.{_≡_, ap, _∙_}
 use mathlib.Core.List.{[], _∷_}
-use native.Mathlib.Nat.{zero-add}
 use native.Mathlib.Omega.{arith}
 use lib.ListN.{length, take}
 use lib.Seq.{sets}
 use Rattle.console.specs.Console.{plainReply}
-use Rattle.console.proofs.Chains.{Stored, next, within, plain-short}
+use Rattle.text.proofs.Stores.{stored, behind}
+use Rattle.console.proofs.Chains.{within, plain-short}
 use borrow.Author.Needs.{needs}
 use Rattle.console.proofs.put_plain.Statement.{statement}
 use Rattle.console.proofs.put_plain.Tie as tie
@@ -39,15 +39,17 @@ same-length c = search needs
 returns : tie.Need-returns
 unfolding plainReply
 returns c =
-    let l = c .before .before .before .before .before .before .before .before .before .before .before .before .before .args .out .now in
-    let r = c .before .before .before .before .before .before .before .before .before .before .before .before .before .args .reply .now in
-    let whole : c .before .before .before .before .before .before .before .before .before .before .without .result - 0 ≡ length r - 2 = omega (arith, c .before .before .before .before .before .before .before .before .before .before .without .ensures) in
-    let s0 : Stored l _ (take (length r - 2) r) _ = record {
-      bytes = c .before .before .before .before .before .before .before .copy .ensures .0 ∙ ap (λ (n : ℕ). sets l 0 (take n r)) whole;
-      at-end = c .before .before .before .before .before .before .before .copy .ensures .1 ∙ zero-add _ ∙ ap (λ (n : ℕ). length (take n r)) whole;
-    } in
-    let s1 = next l _ _ _ (10 ∷ []) _ _ s0 (c .before .before .copy2 .ensures .0) (c .before .before .copy2 .ensures .1) in
-    within (s1 .bytes, s1 .at-end) (plain-short r (search needs))
+    let f = c .before .before .before .before .before .before .before in
+    let w = f .before .before .before in
+    let a = w .before .before .before .args in
+    let l = a .out .now in
+    let r = a .reply .now in
+    let whole : w .without .result - 0 ≡ length r - 2 = omega (arith, w .without .ensures) in
+    let first = f .copy .ensures in
+    let bytes = first .0 ∙ ap (λ (n : ℕ). sets l 0 (take n r)) whole in
+    let end = first .1 ∙ ap (λ (n : ℕ). 0 + length (take n r)) whole in
+    let all = behind (stored l (take (length r - 2) r) (bytes, end)) (10 ∷ []) (c .before .before .copy2 .ensures) in
+    within (all .bytes, all .at-end) (plain-short r (search needs))
 
 pub put-plain-spec : {M : Type 1} → statement M
 put-plain-spec =

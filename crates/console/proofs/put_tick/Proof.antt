@@ -1,16 +1,12 @@
 -- `console::put_tick` meets its contract: each part is stored behind the last.
-use Prim.Native.Nat.{ℕ, _+_}
-use mathlib.Core.Path.{_≡_, refl, sym, ap, _∙_}
-use mathlib.Core.List.{[], _∷_, _++_}
+use mathlib.Core.List.{[], _∷_}
 use native.Mathlib.Omega.{arith}
 use lib.Dec.{lit≤}
-use lib.ListN.{length}
-use lib.Seq.{sets}
 use borrow.Author.Tests.{not-true, not-false}
 use Rattle.text.specs.Decimal.{decimal, maxDigits}
-use Rattle.text.specs.Hex.{hex4}
 use Rattle.text.proofs.DecimalLaws.{decimal-length}
-use Rattle.console.proofs.Chains.{Stored, next, six, word-length, within, tick-short}
+use Rattle.text.proofs.Stores.{stored, behind, six}
+use Rattle.console.proofs.Chains.{word-behind, within, tick-short}
 use Rattle.console.specs.Console.{word, tickText}
 use borrow.Author.Needs.{needs}
 use Rattle.console.proofs.put_tick.Statement.{statement}
@@ -62,7 +58,28 @@ slice-aggregate-copy-3 : tie.Need-slice-aggregate-copy-3
 slice-aggregate-copy-3 c = search needs
 
 copy-requires-3 : tie.Need-copy-requires-3
-copy-requires-3 c κs = omega (arith, decimal-length (c .before .before .before .before .before .before .before .before .before .before .before .before .before .before .before .before .before .before .before .before .before .before .before .before .before .before .before .before .before .args .a .count) maxDigits (lit≤ tt) (search needs), c .before .before .before .before .put-decimal .ensures .1, c .before .before .before .before .put-decimal .kept .0, c .before .before .before .before .before .before .before .before .put-word3 .ensures .1, c .before .before .before .before .before .before .before .before .put-word3 .kept .0, c .before .before .before .before .before .before .before .before .before .before .before .before .before .put-word2 .ensures .1, c .before .before .before .before .before .before .before .before .before .before .before .before .before .put-word2 .kept .0, c .before .before .before .before .before .before .before .before .before .before .before .before .before .before .before .before .before .before .put-word .ensures .1, c .before .before .before .before .before .before .before .before .before .before .before .before .before .before .before .before .before .before .put-word .kept .0, c .before .before .before .before .before .before .before .before .before .before .before .before .before .before .before .before .before .before .before .before .before .before .before .copy2 .ensures .1, c .before .before .before .before .before .before .before .before .before .before .before .before .before .before .before .before .before .before .before .before .before .before .before .copy2 .kept .0, c .before .before .before .before .before .before .before .before .before .before .before .before .before .before .before .before .before .before .before .before .before .before .before .before .before .before .before .before .before .pre)
+copy-requires-3 c κs =
+    let d = c .before .before .before .before in
+    let w3 = d .before .before .before .before in
+    let w2 = w3 .before .before .before .before .before in
+    let w1 = w2 .before .before .before .before .before in
+    let t = w1 .before .before .before .before .before in
+    let s = t .before .before .before .before .before .before in
+    omega (
+      arith,
+      decimal-length (s .args .a .count) maxDigits (lit≤ tt) (search needs),
+      d .put-decimal .ensures .1,
+      d .put-decimal .kept .0,
+      w3 .put-word3 .ensures .1,
+      w3 .put-word3 .kept .0,
+      w2 .put-word2 .ensures .1,
+      w2 .put-word2 .kept .0,
+      w1 .put-word .ensures .1,
+      w1 .put-word .kept .0,
+      t .copy2 .ensures .1,
+      t .copy2 .kept .0,
+      s .pre,
+    )
 
 same-length-2 : tie.Need-same-length-2
 same-length-2 c = search needs
@@ -70,15 +87,22 @@ same-length-2 c = search needs
 returns-2 : tie.Need-returns-2
 unfolding tickText
 returns-2 c =
-    let a = c .before .before .before .before .before .before .before .before .before .before .before .before .before .before .before .before .before .before .before .before .before .before .before .before .before .before .before .before .before .before .before .before .args .a in
-    let l = c .before .before .before .before .before .before .before .before .before .before .before .before .before .before .before .before .before .before .before .before .before .before .before .before .before .before .before .before .before .before .before .before .args .out .now in
-    let s0 : Stored l _ (84 ∷ 32 ∷ []) _ = record { bytes = c .before .before .before .before .before .before .before .before .before .before .before .before .before .before .before .before .before .before .before .before .before .before .before .before .before .before .copy2 .ensures .0; at-end = c .before .before .before .before .before .before .before .before .before .before .before .before .before .before .before .before .before .before .before .before .before .before .before .before .before .before .copy2 .ensures .1 } in
-    let s1 = next l _ _ _ (hex4 (a .driven) ++ (32 ∷ [])) _ _ s0 (c .before .before .before .before .before .before .before .before .before .before .before .before .before .before .before .before .before .before .before .before .before .put-word .ensures .0) (c .before .before .before .before .before .before .before .before .before .before .before .before .before .before .before .before .before .before .before .before .before .put-word .ensures .1 ∙ ap (λ (k : ℕ). c .before .before .before .before .before .before .before .before .before .before .before .before .before .before .before .before .before .before .before .before .before .before .before .before .before .before .copy2 .result + k) (sym (word-length (a .driven) (32 ∷ []) refl))) in
-    let s2 = next l _ _ _ (hex4 (a .cells) ++ (32 ∷ [])) _ _ s1 (c .before .before .before .before .before .before .before .before .before .before .before .before .before .before .before .before .put-word2 .ensures .0) (c .before .before .before .before .before .before .before .before .before .before .before .before .before .before .before .before .put-word2 .ensures .1 ∙ ap (λ (k : ℕ). c .before .before .before .before .before .before .before .before .before .before .before .before .before .before .before .before .before .before .before .before .before .put-word .result + k) (sym (word-length (a .cells) (32 ∷ []) refl))) in
-    let s3 = next l _ _ _ (hex4 (a .woken) ++ (32 ∷ [])) _ _ s2 (c .before .before .before .before .before .before .before .before .before .before .before .put-word3 .ensures .0) (c .before .before .before .before .before .before .before .before .before .before .before .put-word3 .ensures .1 ∙ ap (λ (k : ℕ). c .before .before .before .before .before .before .before .before .before .before .before .before .before .before .before .before .put-word2 .result + k) (sym (word-length (a .woken) (32 ∷ []) refl))) in
-    let s4 = next l _ _ _ (decimal (a .count)) _ _ s3 (c .before .before .before .before .before .before .before .put-decimal .ensures .0) (c .before .before .before .before .before .before .before .put-decimal .ensures .1) in
-    let s5 = next l _ _ _ (10 ∷ []) _ _ s4 (c .before .before .copy3 .ensures .0) (c .before .before .copy3 .ensures .1) in
-    within (rw (not-false (c .before .before .before .before .before .before .before .before .before .before .before .before .before .before .before .before .before .before .before .before .before .before .before .before .before .before .before .before .before .before .before .before .args .a .ran) (c .before .before .before .before .before .before .before .before .before .before .before .before .before .before .before .before .before .before .before .before .before .before .before .before .before .before .before .before .before .if1 .left)) (six l _ (84 ∷ 32 ∷ []) (word (a .driven)) (word (a .cells)) (word (a .woken)) (decimal (a .count)) (10 ∷ []) _ s5)) (tick-short a (c .before .before .before .before .before .before .before .before .before .before .before .before .before .before .before .before .before .before .before .before .before .before .before .before .before .before .before .before .before .before .before .before .pre .1))
+    let d = c .before .before .before .before .before .before .before in
+    let w3 = d .before .before .before .before in
+    let w2 = w3 .before .before .before .before .before in
+    let w1 = w2 .before .before .before .before .before in
+    let t = w1 .before .before .before .before .before in
+    let ran = t .before .before .before in
+    let s = ran .before .before .before in
+    let a = s .args .a in
+    let head = stored (s .args .out .now) (84 ∷ 32 ∷ []) (t .copy2 .ensures) in
+    let driven = word-behind head (a .driven) (w1 .put-word .ensures) in
+    let cells = word-behind driven (a .cells) (w2 .put-word2 .ensures) in
+    let woken = word-behind cells (a .woken) (w3 .put-word3 .ensures) in
+    let count = behind woken (decimal (a .count)) (d .put-decimal .ensures) in
+    let all = behind count (10 ∷ []) (c .before .before .copy3 .ensures) in
+    let parts = six (84 ∷ 32 ∷ []) (word (a .driven)) (word (a .cells)) (word (a .woken)) (decimal (a .count)) (10 ∷ []) all in
+    within (rw (not-false (a .ran) (ran .if1 .left)) parts) (tick-short a (s .pre .1))
 
 pub put-tick-spec : {M : Type 1} → statement M
 put-tick-spec =

@@ -1,11 +1,12 @@
+-- `console::put_word` meets its contract: the byte goes behind the digits.
 use Prim.Native.Nat.{ℕ, _+_}
-use mathlib.Core.Path.{sym, ap, _∙_}
+use mathlib.Core.Path.{sym, ap, ap₂, _∙_}
+use mathlib.Core.List.{List}
 use native.Mathlib.Omega.{arith}
 use lib.Seq.{sets}
 use Rattle.text.specs.Hex.{hex4}
 use Rattle.text.proofs.HexLaws.{hex-length}
-use Rattle.text.proofs.DigitLaws.{sets-append}
--- `console::put_word` meets its contract: the byte goes behind the digits.
+use Rattle.text.proofs.Stores.{sets-append}
 use borrow.Author.Needs.{needs}
 use Rattle.console.proofs.put_word.Statement.{statement}
 use Rattle.console.proofs.put_word.Tie as tie
@@ -21,10 +22,15 @@ same-length c = search needs
 
 returns : tie.Need-returns
 returns c =
-    let a = c .before .before .before .before .before .before .before .before .before .before .args in
-    let end = c .before .before .before .before .before .before .put-hex4 .ensures .1 ∙ ap (λ (k : ℕ). a .at + k) (sym (hex-length 4 (a .w))) in (
-      c .before .before .copy .ensures .0 ∙ (λ i. sets (c .before .before .before .before .before .before .put-hex4 .ensures .0 i) (end i) (a .byte .now)) ∙ sets-append (a .out .now) (a .at) (hex4 (a .w)) (a .byte .now),
-      omega (arith, c .before .before .copy .ensures .1, c .before .before .before .before .before .before .put-hex4 .ensures .1, c .before .before .before .before .before .before .before .before .before .before .pre),
+    let d = c .before .before .before .before .before .before in
+    let s = d .before .before .before .before in
+    let a = s .args in
+    let end = d .put-hex4 .ensures .1 ∙ ap (λ (k : ℕ). a .at + k) (sym (hex-length 4 (a .w))) in
+    let last = c .before .before .copy .ensures in (
+      last .0
+          ∙ ap₂ (λ (b : List ℕ) (k : ℕ). sets b k (a .byte .now)) (d .put-hex4 .ensures .0) end
+          ∙ sets-append (a .out .now) (a .at) (hex4 (a .w)) (a .byte .now),
+      omega (arith, last .1, d .put-hex4 .ensures .1, s .pre),
     )
 
 pub put-word-spec : {M : Type 1} → statement M

@@ -1,15 +1,13 @@
 -- `loads::put_refused` meets its contract: the number, and `-` behind it.
 use Prim.Native.Nat.{ℕ}
-use mathlib.Core.Path.{_∙_}
 use mathlib.Core.List.{List, [], _∷_}
-use native.Mathlib.Nat.{zero-add}
-use lib.ListN.{length, length-append}
+use lib.ListN.{length-append}
 use native.Mathlib.Omega.{arith}
 use lib.Dec.{lit≤}
 use Rattle.text.specs.Decimal.{decimal, maxDigits}
 use Rattle.text.proofs.DecimalLaws.{decimal-length}
 use Rattle.loads.specs.Rows.{refusedText}
-use Rattle.loads.proofs.Rows.{behind}
+use Rattle.text.proofs.Stores.{stored, behind}
 use borrow.Author.Needs.{needs}
 use Rattle.loads.proofs.put_refused.Statement.{statement}
 use Rattle.loads.proofs.put_refused.Tie as tie
@@ -36,11 +34,9 @@ returns c =
     let a = d .before .before .before in
     let text = decimal (a .args .k) in
     let few = decimal-length (a .args .k) maxDigits (lit≤ tt) (search needs) in
-    let put = d .put-decimal .ensures in
-    let last = c .before .before .copy .ensures in
     let none : List ℕ = 32 ∷ 45 ∷ 10 ∷ [] in
-    let all = behind (a .args .out .now) text none _ _ _ _ (put .0) (put .1 ∙ zero-add (length text)) (last .0) (last .1) in
-    (all .0, (all .1, omega (arith, all .1, few, length-append text none)))
+    let all = behind (stored (a .args .out .now) text (d .put-decimal .ensures)) none (c .before .before .copy .ensures) in
+    (all .bytes, (all .at-end, omega (arith, all .at-end, few, length-append text none)))
 
 pub put-refused-spec : {M : Type 1} → statement M
 put-refused-spec =

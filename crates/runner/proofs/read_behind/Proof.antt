@@ -1,10 +1,10 @@
 -- `runner::read_behind` meets its contract: the line stands at the front of the block, and the read leaves it there.
-use Prim.Native.Nat.{_≤_, _-_}
+use Prim.Native.Nat.{ℕ, _≤_, _-_}
 use mathlib.Core.Path.{_≡_, sym, ap, _∙_}
 use native.Mathlib.Omega.{arith}
 use lib.ListN.{length, take}
 use lib.Seq.{sets, length-take-le}
-use Rattle.runner.proofs.Runs.{stored}
+use Rattle.text.proofs.Stores.{front}
 use borrow.Author.Needs.{needs}
 use Rattle.runner.proofs.read_behind.Statement.{statement}
 use Rattle.runner.proofs.read_behind.Tie as tie
@@ -37,8 +37,8 @@ returns c =
     let size : length (take (a .len) (a .line .now)) ≡ a .len = length-take-le (a .len) (a .line .now) (o .pre .0) in
     let fits : length (take (a .len) (a .line .now)) ≤ length (a .block .now) = omega (arith, o .pre .1, size) in
     let line = ap (take (a .len)) (w .copy .ensures .0)
-    ∙ (λ i. take (sym size i) (sets (a .block .now) 0 (take (n i) (a .line .now))))
-    ∙ stored (a .block .now) (take (a .len) (a .line .now)) fits in
+    ∙ ap (λ (k : ℕ). take (a .len) (sets (a .block .now) 0 (take k (a .line .now)))) n
+    ∙ front (a .block .now) (take (a .len) (a .line .now)) (a .len) (sym size) fits in
     (r .read-at .ensures .0, r .read-at .ensures .1 ∙ line)
 
 pub read-behind-spec : {M : Type 1} → statement M

@@ -7,7 +7,7 @@ use native.Mathlib.Omega.{arith}
 use lib.ListN.{length, length-append, length-set}
 use lib.Seq.{sets, length-sets}
 use borrow.Author.Needs.{needs}
-use Rattle.text.proofs.DigitLaws.{sets-append}
+use Rattle.text.proofs.Stores.{sets-append}
 use Rattle.text.proofs.DecimalLaws.{upper, upper-none, upper-more, upper-length, decimal-last}
 use Prim.Native.Nat.{ℕ, _+_, _%_, _<_}
 use borrow.Fn.Kinds.{In}

@@ -5,7 +5,7 @@ use native.Mathlib.Omega.{arith}
 use borrow.Author.Needs.{needs}
 use lib.ListN.{length, take}
 use lib.Seq.{sets, length-sets, take-all}
-use Rattle.text.proofs.DigitLaws.{copy-next}
+use Rattle.text.proofs.Stores.{sets-next}
 use Rattle.text.proofs.copy.Statement.{statement}
 use Rattle.text.proofs.copy.Tie as tie
 
@@ -41,7 +41,7 @@ loop-again : tie.Need-loop-again Inv-loop μ-loop
 loop-again c =
     let l = c .before .before in
     let a = l .before .args in
-    (search needs, rw (l .loop .inv .1) (copy-next (a .out .now) (a .at) (a .bytes .now) (l .loop .i) (search needs)))
+    (search needs, rw (l .loop .inv .1) (sets-next (a .out .now) (a .at) (a .bytes .now) (l .loop .i) 0 (search needs)))
 
 add-result : tie.Need-add-result Inv-loop μ-loop
 add-result c = search needs

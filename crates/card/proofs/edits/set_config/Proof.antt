@@ -18,7 +18,8 @@ put-cell-requires c κs = search needs
 
 returns : tie.Need-returns
 unfolding configured setConfig
-returns c = rw (c .put-cell .ensures, c .before .configured-state .ensures, c .before .before .row-of .ensures, c .before .before .before .current-cell .ensures)
+returns c =
+    rw (c .put-cell .ensures, c .before .configured-state .ensures, c .before .before .row-of .ensures, c .before .before .before .current-cell .ensures)
 
 pub set-config-spec : {M : Type 1} → statement M
 set-config-spec =

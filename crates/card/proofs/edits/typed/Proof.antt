@@ -21,7 +21,14 @@ blank-slot-requires-4 c κs = search needs
 
 returns : tie.Need-returns
 unfolding typed
-returns c = rw (c .blank-slot4 .ensures, c .before .blank-slot3 .ensures, c .before .before .blank-slot2 .ensures, c .before .before .before .blank-slot .ensures, c .before .before .before .before .before .row-of .ensures)
+returns c =
+    rw (
+      c .blank-slot4 .ensures,
+      c .before .blank-slot3 .ensures,
+      c .before .before .blank-slot2 .ensures,
+      c .before .before .before .blank-slot .ensures,
+      c .before .before .before .before .before .row-of .ensures,
+    )
 
 pub typed-spec : {M : Type 1} → statement M
 typed-spec =

@@ -16,7 +16,9 @@ bit-requires c κs = search needs
 
 returns : tie.Need-returns
 unfolding setsFront
-returns c = c .bit .ensures ∙ sym (has-source (c .before .source-row .result) 0) ∙ ap (λ (o : Option ℕ). has o) (c .before .source-row .ensures 0 (search needs))
+returns c =
+    let row = c .before .source-row in
+    c .bit .ensures ∙ sym (has-source (row .result) 0) ∙ ap (λ (o : Option ℕ). has o) (row .ensures 0 (search needs))
 
 pub sets-front-spec : {M : Type 1} → statement M
 sets-front-spec = tie.close (tie.spec source-row-requires bit-requires returns)

@@ -14,7 +14,11 @@ use Rattle.card.proofs.record.cells_in.Statement.{statement}
 use Rattle.card.proofs.record.cells_in.Tie as tie
 
 abbrev Inv-loop : tie.InvT-loop
-Inv-loop bytes cells₀ i₀ cells i = (1 ≤ i) × (i ≤ cellCount) × (cells ≡ listed (cellIn configWidth bytes) i ++ drop i cells₀) × (length cells₀ ≡ cellCount)
+Inv-loop bytes cells₀ i₀ cells i =
+    (1 ≤ i)
+    × (i ≤ cellCount)
+    × (cells ≡ listed (cellIn configWidth bytes) i ++ drop i cells₀)
+    × (length cells₀ ≡ cellCount)
 
 abbrev μ-loop : tie.MeasureT-loop
 μ-loop bytes cells₀ i₀ cells i = cellCount - i

@@ -14,7 +14,11 @@ use Rattle.card.proofs.record.connectors_in.Statement.{statement}
 use Rattle.card.proofs.record.connectors_in.Tie as tie
 
 abbrev Inv-loop : tie.InvT-loop
-Inv-loop bytes connectors₀ k₀ connectors k = (1 ≤ k) × (k ≤ cellCount) × (connectors ≡ listed (connectorIn cellCount configWidth bytes) k ++ drop k connectors₀) × (length connectors₀ ≡ cellCount)
+Inv-loop bytes connectors₀ k₀ connectors k =
+    (1 ≤ k)
+    × (k ≤ cellCount)
+    × (connectors ≡ listed (connectorIn cellCount configWidth bytes) k ++ drop k connectors₀)
+    × (length connectors₀ ≡ cellCount)
 
 abbrev μ-loop : tie.MeasureT-loop
 μ-loop bytes connectors₀ k₀ connectors k = cellCount - k

@@ -7,18 +7,18 @@ use lib.Seq.{sets}
 use lib.ListN.{replicate}
 use borrow.Author.Needs.{needs}
 use Rattle.card.specs.Record.{encode, triggerField, cellField, connectorField, fieldsFrom, configWidth}
-use Rattle.card.proofs.Fields.{sets-three}
+use Rattle.text.proofs.Stores.{sets-three}
 use Rattle.card.proofs.record.encoded.Statement.{statement}
 use Rattle.card.proofs.record.encoded.Tie as tie
 
-slice-aggregate-put : tie.Need-slice-aggregate-put
-slice-aggregate-put c = search needs
+slice-aggregate-copy : tie.Need-slice-aggregate-copy
+slice-aggregate-copy c = search needs
 
-slice-aggregate-put-2 : tie.Need-slice-aggregate-put-2
-slice-aggregate-put-2 c = search needs
+slice-aggregate-copy-2 : tie.Need-slice-aggregate-copy-2
+slice-aggregate-copy-2 c = search needs
 
-put-requires : tie.Need-put-requires
-put-requires c κs = search needs
+copy-requires : tie.Need-copy-requires
+copy-requires c κs = search needs
 
 with-cells-requires : tie.Need-with-cells-requires
 with-cells-requires c κs = search needs
@@ -33,19 +33,20 @@ returns c =
     let first = triggerField (a .trigger) in
     let cells = fieldsFrom (cellField configWidth) 0 (a .cells) in
     let connectors = fieldsFrom connectorField 0 (a .connectors) in
-    let put = c .before .before .before .put in
-    let inner = c .before .with-cells .ensures .0 ∙ ap (λ (r : List ℕ). sets r 4 cells) (put .ensures) in
+    let first-stored = c .before .before .before .copy .ensures .0 in
+    let inner = c .before .with-cells .ensures .0 ∙ ap (λ (r : List ℕ). sets r 4 cells) first-stored in
     c .with-connectors .ensures .0
     ∙ ap (λ (r : List ℕ). sets r 180 connectors) inner
-    ∙ sets-three (replicate 276 0) first cells connectors 4 180 refl (omega (arith, c .before .with-cells .ensures .1)) (omega (arith, c .with-connectors .ensures .1))
+    ∙ sets-three (replicate 276 0) first cells connectors 4 180 refl
+    (omega (arith, c .before .with-cells .ensures .1)) (omega (arith, c .with-connectors .ensures .1))
 
 pub encoded-spec : {M : Type 1} → statement M
 encoded-spec =
     tie.close
     (tie.spec
-    slice-aggregate-put
-    slice-aggregate-put-2
-    put-requires
+    slice-aggregate-copy
+    slice-aggregate-copy-2
+    copy-requires
     with-cells-requires
     with-connectors-requires
     returns)

@@ -20,7 +20,8 @@ number : (c : tie.After-encoded)
     (cond (valid cellCount (triggerIn (a .bytes .now)) (c .before .before .cells-in .result) (c .before .connectors-in .result)) 0 15) 14
 number c =
     let a = c .before .before .before .before .before .before .args in
-    number-from cellCount configWidth (a .bytes .now) (triggerIn (a .bytes .now)) _ _ refl (sym (c .before .before .cells-in .ensures)) (sym (c .before .connectors-in .ensures))
+    number-from cellCount configWidth (a .bytes .now) (triggerIn (a .bytes .now)) _ _ refl
+    (sym (c .before .before .cells-in .ensures)) (sym (c .before .connectors-in .ensures))
     ∙ rw (← c .encoded .ensures)
 
 returns : tie.Need-returns
@@ -65,7 +66,9 @@ returns-3 c =
     let a = c .before .before .before .before .before .before .before .before .before .before .before .before .args in
     let alike : c .before .before .before .before .same .result ≡ true = not-false _ (c .before .before .before .if2 .left) in
     let bad : c .before .valid-settings .result ≡ false = not-true _ (c .if3 .taken) in
-    let n : loadNumber cellCount configWidth (a .bytes .now) ≡ 15 = number (c .before .before .before .before .before .before) ∙ rw (← c .before .before .before .before .same .ensures, alike, ← c .before .valid-settings .ensures, bad) in
+    let w = c .before .before .before .before in
+    let n : loadNumber cellCount configWidth (a .bytes .now) ≡ 15 =
+    number (w .before .before) ∙ rw (← w .same .ensures, alike, ← c .before .valid-settings .ensures, bad) in
     (sym (load-refused cellCount configWidth (a .card) (a .bytes .now) (ap (λ (k : ℕ). eqb k 0) n)), sym n)
 
 returns-4 : tie.Need-returns-4
@@ -73,8 +76,14 @@ returns-4 c =
     let a = c .before .before .before .before .before .before .before .before .before .before .before .before .args in
     let alike : c .before .before .before .before .same .result ≡ true = not-false _ (c .before .before .before .if2 .left) in
     let good : c .before .valid-settings .result ≡ true = not-false _ (c .if3 .left) in
-    let n : loadNumber cellCount configWidth (a .bytes .now) ≡ 0 = number (c .before .before .before .before .before .before) ∙ rw (← c .before .before .before .before .same .ensures, alike, ← c .before .valid-settings .ensures, good) in
-    (c .before .before .started .ensures ∙ sym (loaded-from cellCount configWidth (a .bytes .now) (triggerIn (a .bytes .now)) _ _ refl (sym (c .before .before .before .before .before .before .before .before .cells-in .ensures)) (sym (c .before .before .before .before .before .before .before .connectors-in .ensures)) (a .card) n), sym n)
+    let w = c .before .before .before .before in
+    let r = w .before .before .before in
+    let n : loadNumber cellCount configWidth (a .bytes .now) ≡ 0 =
+    number (w .before .before) ∙ rw (← w .same .ensures, alike, ← c .before .valid-settings .ensures, good) in
+    let whole =
+    loaded-from cellCount configWidth (a .bytes .now) (triggerIn (a .bytes .now)) _ _ refl
+    (sym (r .before .cells-in .ensures)) (sym (r .connectors-in .ensures)) (a .card) n in
+    (c .before .before .started .ensures ∙ sym whole, sym n)
 
 pub load-spec : {M : Type 1} → statement M
 load-spec =

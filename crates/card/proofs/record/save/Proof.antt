@@ -14,11 +14,11 @@ returns c =
 encoded-requires : tie.Need-encoded-requires
 encoded-requires c κs = search needs
 
-slice-aggregate-put : tie.Need-slice-aggregate-put
-slice-aggregate-put c = search needs
+slice-aggregate-copy : tie.Need-slice-aggregate-copy
+slice-aggregate-copy c = search needs
 
-put-requires : tie.Need-put-requires
-put-requires c κs = search needs
+copy-requires : tie.Need-copy-requires
+copy-requires c κs = search needs
 
 same-length : tie.Need-same-length
 same-length c = search needs
@@ -27,9 +27,9 @@ returns-2 : tie.Need-returns-2
 unfolding savedTo recordOf
 returns-2 c =
     let room = le-ltb _ _ (c .before .before .before .before .before .before .before .before .if1 .left) in
-    (rw (c .before .before .put .ensures, c .before .before .before .before .before .encoded .ensures, room), rw room)
+    (rw (c .before .before .copy .ensures .0, c .before .before .before .before .before .encoded .ensures, room), rw room)
 
 pub save-spec : {M : Type 1} → statement M
 save-spec =
     tie.close
-    (tie.spec returns encoded-requires slice-aggregate-put put-requires same-length returns-2)
+    (tie.spec returns encoded-requires slice-aggregate-copy copy-requires same-length returns-2)

@@ -41,8 +41,11 @@ loop-less c = search needs
 loop-again : tie.Need-loop-again Inv-loop μ-loop
 loop-again c =
     let a = c .before .before .before .before .args in
-    let l = c .before .before .before .loop in
-    (omega arith, ap₂ (λ (x y : Bool). x && y) (l .inv .1) (c .valid-cell .ensures) ∙ sym (every-next (validCell cellCount) (l .i) (a .t1) noCell (search needs)))
+    let l = c .before .before .before .loop in (
+      omega arith,
+      ap₂ (λ (x y : Bool). x && y) (l .inv .1) (c .valid-cell .ensures)
+          ∙ sym (every-next (validCell cellCount) (l .i) (a .t1) noCell (search needs)),
+    )
 
 returns : tie.Need-returns Inv-loop μ-loop
 returns c =

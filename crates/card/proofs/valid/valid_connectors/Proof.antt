@@ -41,8 +41,11 @@ loop-less c = search needs
 loop-again : tie.Need-loop-again Inv-loop μ-loop
 loop-again c =
     let a = c .before .before .before .before .args in
-    let l = c .before .before .before .loop in
-    (omega arith, ap₂ (λ (x y : Bool). x && y) (l .inv .1) (c .valid-connector .ensures) ∙ sym (every-next (validConnector cellCount) (l .k) (a .t1) noConnector (search needs)))
+    let l = c .before .before .before .loop in (
+      omega arith,
+      ap₂ (λ (x y : Bool). x && y) (l .inv .1) (c .valid-connector .ensures)
+          ∙ sym (every-next (validConnector cellCount) (l .k) (a .t1) noConnector (search needs)),
+    )
 
 returns : tie.Need-returns Inv-loop μ-loop
 returns c =

@@ -28,7 +28,14 @@ ccb-form-requires c κs = search needs
 
 returns-2 : tie.Need-returns-2
 unfolding cardForm
-returns-2 c = rw (← c .before .before .before .before .before .is-word .ensures, c .before .before .before .before .if1 .left, ← c .before .before .is-word2 .ensures, c .before .if2 .taken, c .ccb-form .ensures)
+returns-2 c =
+    rw (
+      ← c .before .before .before .before .before .is-word .ensures,
+      c .before .before .before .before .if1 .left,
+      ← c .before .before .is-word2 .ensures,
+      c .before .if2 .taken,
+      c .ccb-form .ensures,
+    )
 
 slice-aggregate-is-word-3 : tie.Need-slice-aggregate-is-word-3
 slice-aggregate-is-word-3 c = search needs
@@ -41,7 +48,17 @@ read-form-requires c κs = search needs
 
 returns-3 : tie.Need-returns-3
 unfolding cardForm
-returns-3 c = rw (← c .before .before .before .before .before .before .before .before .is-word .ensures, c .before .before .before .before .before .before .before .if1 .left, ← c .before .before .before .before .before .is-word2 .ensures, c .before .before .before .before .if2 .left, ← c .before .before .is-word3 .ensures, c .before .if3 .taken, c .read-form .ensures)
+returns-3 c =
+    let p = c .before .before .before .before in
+    rw (
+      ← p .before .before .before .before .is-word .ensures,
+      p .before .before .before .if1 .left,
+      ← p .before .is-word2 .ensures,
+      p .if2 .left,
+      ← c .before .before .is-word3 .ensures,
+      c .before .if3 .taken,
+      c .read-form .ensures,
+    )
 
 slice-aggregate-is-word-4 : tie.Need-slice-aggregate-is-word-4
 slice-aggregate-is-word-4 c = search needs
@@ -51,11 +68,33 @@ is-word-requires-4 c κs = search needs
 
 returns-4 : tie.Need-returns-4
 unfolding cardForm
-returns-4 c = rw (← c .before .before .before .before .before .before .before .before .before .before .is-word .ensures, c .before .before .before .before .before .before .before .before .before .if1 .left, ← c .before .before .before .before .before .before .before .is-word2 .ensures, c .before .before .before .before .before .before .if2 .left, ← c .before .before .before .before .is-word3 .ensures, c .before .before .before .if3 .left, ← c .before .is-word4 .ensures, c .if4 .taken)
+returns-4 c =
+    let p = c .before .before .before .before in
+    rw (
+      ← p .before .before .before .before .before .before .is-word .ensures,
+      p .before .before .before .before .before .if1 .left,
+      ← p .before .before .before .is-word2 .ensures,
+      p .before .before .if2 .left,
+      ← p .is-word3 .ensures,
+      c .before .before .before .if3 .left,
+      ← c .before .is-word4 .ensures,
+      c .if4 .taken,
+    )
 
 returns-5 : tie.Need-returns-5
 unfolding cardForm
-returns-5 c = rw (← c .before .before .before .before .before .before .before .before .before .before .is-word .ensures, c .before .before .before .before .before .before .before .before .before .if1 .left, ← c .before .before .before .before .before .before .before .is-word2 .ensures, c .before .before .before .before .before .before .if2 .left, ← c .before .before .before .before .is-word3 .ensures, c .before .before .before .if3 .left, ← c .before .is-word4 .ensures, c .if4 .left)
+returns-5 c =
+    let p = c .before .before .before .before in
+    rw (
+      ← p .before .before .before .before .before .before .is-word .ensures,
+      p .before .before .before .before .before .if1 .left,
+      ← p .before .before .before .is-word2 .ensures,
+      p .before .before .if2 .left,
+      ← p .is-word3 .ensures,
+      c .before .before .before .if3 .left,
+      ← c .before .is-word4 .ensures,
+      c .if4 .left,
+    )
 
 pub card-form-spec : {M : Type 1} → statement M
 card-form-spec =

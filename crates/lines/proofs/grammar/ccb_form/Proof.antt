@@ -24,7 +24,15 @@ all-pairs-requires c κs = search needs
 
 returns : tie.Need-returns
 unfolding ccbForm
-returns c = rw (c .slot-form .ensures, c .before .slot-of .ensures, c .before .before .byte-at3 .ensures, ← c .before .before .before .before .before .byte-at .ensures, ← c .before .before .before .before .byte-at2 .ensures, c .before .before .before .if1 .taken)
+returns c =
+    rw (
+      c .slot-form .ensures,
+      c .before .slot-of .ensures,
+      c .before .before .byte-at3 .ensures,
+      ← c .before .before .before .before .before .byte-at .ensures,
+      ← c .before .before .before .before .byte-at2 .ensures,
+      c .before .before .before .if1 .taken,
+    )
 
 returns-2 : tie.Need-returns-2
 unfolding ccbForm

@@ -30,7 +30,10 @@ shared-slice-read-if1 : tie.Need-shared-slice-read-if1 Inv-loop μ-loop
 shared-slice-read-if1 c = search needs
 
 returns : tie.Need-returns Inv-loop μ-loop
-returns c = sym (c .before .before .before .before .loop .inv .1 ∙ word-next _ _ _ _ (c .before .before .before .loop-test .taken) ∙ rw (← c .before .before .byte-at .ensures, ne-eqb _ _ (c .if1 .taken)))
+returns c =
+    let at = c .before .before .before in
+    let so = at .before .loop .inv .1 ∙ word-next _ _ _ _ (at .loop-test .taken) in
+    sym (so ∙ rw (← c .before .before .byte-at .ensures, ne-eqb _ _ (c .if1 .taken)))
 
 add-i : tie.Need-add-i Inv-loop μ-loop
 add-i c = search needs
@@ -39,7 +42,10 @@ loop-less : tie.Need-loop-less Inv-loop μ-loop
 loop-less c = search needs
 
 loop-again : tie.Need-loop-again Inv-loop μ-loop
-loop-again c = (omega arith, c .before .before .before .before .loop .inv .1 ∙ word-next _ _ _ _ (c .before .before .before .loop-test .taken) ∙ rw (← c .before .before .byte-at .ensures, eq-eqb _ _ (c .if1 .left)))
+loop-again c =
+    let at = c .before .before .before in
+    let so = at .before .loop .inv .1 ∙ word-next _ _ _ _ (at .loop-test .taken) in
+    (omega arith, so ∙ rw (← c .before .before .byte-at .ensures, eq-eqb _ _ (c .if1 .left)))
 
 returns-2 : tie.Need-returns-2 Inv-loop μ-loop
 returns-2 c = sym (c .before .loop .inv .1 ∙ word-end _ _ _ _ (c .loop-test .left))

@@ -37,11 +37,33 @@ plain-form-requires c κs = search needs
 
 returns-3 : tie.Need-returns-3
 unfolding parse
-returns-3 c = rw (le-leb 1 _ (c .before .before .before .before .before .before .before .before .if1 .left), le-leb _ longestLine (c .before .before .before .before .before .before .before .if2 .left), ← c .before .before .before .before .before .before .byte-at .ensures, ← c .before .before .before .before .before .byte-at2 .ensures, ← c .before .before .before .before .is-digit .ensures, ← c .before .before .before .is-digit2 .ensures, c .before .before .if3 .taken) (c .addressed .ensures ∙ ap (addressed _) (c .before .card-form .ensures))
+returns-3 c =
+    let p = c .before .before .before in
+    rw (
+      le-leb 1 _ (p .before .before .before .before .before .if1 .left),
+      le-leb _ longestLine (p .before .before .before .before .if2 .left),
+      ← p .before .before .before .byte-at .ensures,
+      ← p .before .before .byte-at2 .ensures,
+      ← p .before .is-digit .ensures,
+      ← p .is-digit2 .ensures,
+      c .before .before .if3 .taken,
+    )
+    (c .addressed .ensures ∙ ap (addressed _) (c .before .card-form .ensures))
 
 returns-4 : tie.Need-returns-4
 unfolding parse
-returns-4 c = rw (le-leb 1 _ (c .before .before .before .before .before .before .before .if1 .left), le-leb _ longestLine (c .before .before .before .before .before .before .if2 .left), ← c .before .before .before .before .before .byte-at .ensures, ← c .before .before .before .before .byte-at2 .ensures, ← c .before .before .before .is-digit .ensures, ← c .before .before .is-digit2 .ensures, c .before .if3 .left) (c .plain-form .ensures)
+returns-4 c =
+    let p = c .before .before .before in
+    rw (
+      le-leb 1 _ (p .before .before .before .before .if1 .left),
+      le-leb _ longestLine (p .before .before .before .if2 .left),
+      ← p .before .before .byte-at .ensures,
+      ← p .before .byte-at2 .ensures,
+      ← p .is-digit .ensures,
+      ← c .before .before .is-digit2 .ensures,
+      c .before .if3 .left,
+    )
+    (c .plain-form .ensures)
 
 pub parse-line-spec : {M : Type 1} → statement M
 parse-line-spec =

@@ -34,7 +34,15 @@ triggered-requires c κs = search needs
 
 returns-2 : tie.Need-returns-2
 unfolding plainForm
-returns-2 c = rw (← c .before .before .before .before .before .before .is-word .ensures, c .before .before .before .before .before .if1 .left, ← c .before .before .before .is-word2 .ensures, c .before .before .if2 .taken, c .triggered .ensures, c .before .to-end2 .ensures)
+returns-2 c =
+    rw (
+      ← c .before .before .before .before .before .before .is-word .ensures,
+      c .before .before .before .before .before .if1 .left,
+      ← c .before .before .before .is-word2 .ensures,
+      c .before .before .if2 .taken,
+      c .triggered .ensures,
+      c .before .to-end2 .ensures,
+    )
 
 slice-aggregate-is-whole : tie.Need-slice-aggregate-is-whole
 slice-aggregate-is-whole c = search needs
@@ -44,7 +52,16 @@ is-whole-requires c κs = search needs
 
 returns-3 : tie.Need-returns-3
 unfolding plainForm
-returns-3 c = rw (← c .before .before .before .before .before .before .before .is-word .ensures, c .before .before .before .before .before .before .if1 .left, ← c .before .before .before .before .is-word2 .ensures, c .before .before .before .if2 .left, ← c .before .is-whole .ensures, c .if3 .taken)
+returns-3 c =
+    let p = c .before .before .before in
+    rw (
+      ← p .before .before .before .before .is-word .ensures,
+      p .before .before .before .if1 .left,
+      ← p .before .is-word2 .ensures,
+      p .if2 .left,
+      ← c .before .is-whole .ensures,
+      c .if3 .taken,
+    )
 
 slice-aggregate-is-whole-2 : tie.Need-slice-aggregate-is-whole-2
 slice-aggregate-is-whole-2 c = search needs
@@ -60,11 +77,35 @@ is-whole-requires-3 c κs = search needs
 
 returns-4 : tie.Need-returns-4
 unfolding plainForm
-returns-4 c = rw (← c .before .before .before .before .before .before .before .before .before .before .before .before .is-word .ensures, c .before .before .before .before .before .before .before .before .before .before .before .if1 .left, ← c .before .before .before .before .before .before .before .before .before .is-word2 .ensures, c .before .before .before .before .before .before .before .before .if2 .left, ← c .before .before .before .before .before .before .is-whole .ensures, c .before .before .before .before .before .if3 .left, ← c .before .before .before .is-whole2 .ensures, ← c .before .is-whole3 .ensures, c .if4 .taken)
+returns-4 c =
+    let p = c .before .before .before .before .before .before in
+    rw (
+      ← p .before .before .before .before .before .before .is-word .ensures,
+      p .before .before .before .before .before .if1 .left,
+      ← p .before .before .before .is-word2 .ensures,
+      p .before .before .if2 .left,
+      ← p .is-whole .ensures,
+      c .before .before .before .before .before .if3 .left,
+      ← c .before .before .before .is-whole2 .ensures,
+      ← c .before .is-whole3 .ensures,
+      c .if4 .taken,
+    )
 
 returns-5 : tie.Need-returns-5
 unfolding plainForm
-returns-5 c = rw (← c .before .before .before .before .before .before .before .before .before .before .before .before .is-word .ensures, c .before .before .before .before .before .before .before .before .before .before .before .if1 .left, ← c .before .before .before .before .before .before .before .before .before .is-word2 .ensures, c .before .before .before .before .before .before .before .before .if2 .left, ← c .before .before .before .before .before .before .is-whole .ensures, c .before .before .before .before .before .if3 .left, ← c .before .before .before .is-whole2 .ensures, ← c .before .is-whole3 .ensures, c .if4 .left)
+returns-5 c =
+    let p = c .before .before .before .before .before .before in
+    rw (
+      ← p .before .before .before .before .before .before .is-word .ensures,
+      p .before .before .before .before .before .if1 .left,
+      ← p .before .before .before .is-word2 .ensures,
+      p .before .before .if2 .left,
+      ← p .is-whole .ensures,
+      c .before .before .before .before .before .if3 .left,
+      ← c .before .before .before .is-whole2 .ensures,
+      ← c .before .is-whole3 .ensures,
+      c .if4 .left,
+    )
 
 pub plain-form-spec : {M : Type 1} → statement M
 plain-form-spec =

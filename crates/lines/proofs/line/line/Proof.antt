@@ -3,8 +3,6 @@ use Prim.Native.Nat.{zero-le}
 use mathlib.Core.Path.{_≡_, refl, ap, ap₂, _∙_}
 use lib.Dec.{eqb}
 use mathlib.Core.Bool.{_&&_, cond}
-use mathlib.Core.List.{List}
-use Prim.Native.Nat.{ℕ}
 use lib.ListN.{length}
 use lib.Seq.{sets}
 use borrow.Author.Tests.{lt-ltb, le-ltb}
@@ -62,7 +60,8 @@ returns-2 c =
     let made = e .decide-for .result in
     let d : made ≡ lineDecision cellCount (contextOf cellCount (a .card)) text room size =
     rw (le-ltb room shortestReply (z .if1 .left))
-    (e .decide-for .ensures ∙ ap₂ (λ (x : Context) (p : Parsed). decisionFor cellCount x size p) (y .context-of .ensures) (e .before .parse-line .ensures)) in
+    (e .decide-for .ensures
+    ∙ ap₂ (λ (x : Context) (p : Parsed). decisionFor cellCount x size p) (y .context-of .ensures) (e .before .parse-line .ensures)) in
     let put = c .before .before .before .before .before .before .before .before .put-reply in
     let reply = reply-is cellCount (a .card) text room size made (z .if1 .left) d in
     let saved = c .before .before .before .save-if .ensures in

@@ -3,8 +3,9 @@ use native.Mathlib.Omega.{arith}
 use lib.Dec.{lit≤}
 use Rattle.text.specs.Decimal.{decimal, maxDigits}
 use Rattle.text.proofs.DecimalLaws.{decimal-length}
-use Rattle.lines.proofs.Replies.{stored, stored-length}
-use Rattle.lines.specs.Line.{ending}
+use Rattle.text.proofs.Stores.{stored, behind, three}
+use Rattle.lines.specs.Line.{ending, shortestReply}
+use Prim.Native.Nat.{_≤_}
 use borrow.Author.Needs.{needs}
 use Rattle.lines.proofs.line.put_number.Statement.{statement}
 use Rattle.lines.proofs.line.put_number.Tie as tie
@@ -19,22 +20,36 @@ slice-aggregate-copy : tie.Need-slice-aggregate-copy
 slice-aggregate-copy c = search needs
 
 copy-requires-2 : tie.Need-copy-requires-2
-copy-requires-2 c κs = omega (arith, decimal-length (c .before .before .before .before .before .before .before .before .before .before .before .before .args .v) maxDigits (lit≤ tt) (search needs), c .before .before .before .before .put-decimal .ensures .1, c .before .before .before .before .before .before .before .before .copy .ensures .1, c .before .before .before .before .put-decimal .kept .0, c .before .before .before .before .before .before .before .before .copy .kept .0, c .before .before .before .before .before .before .before .before .before .before .before .before .pre)
+copy-requires-2 c κs =
+    let d = c .before .before .before .before in
+    let w = d .before .before .before .before in
+    let s = w .before .before .before .before in
+    omega (
+      arith,
+      decimal-length (s .args .v) maxDigits (lit≤ tt) (search needs),
+      d .put-decimal .ensures .1,
+      d .put-decimal .kept .0,
+      w .copy .ensures .1,
+      w .copy .kept .0,
+      s .pre,
+    )
 
 same-length : tie.Need-same-length
 same-length c = search needs
 
 returns : tie.Need-returns
 returns c =
-    let a = c .before .before .before .before .before .before .before .before .before .before .before .before .before .before .before .args in
-    let w = a .word .now in
-    let d = decimal (a .v) in (
-      stored (a .reply .now) _ _ _ w d ending _ _ (c .before .before .before .before .before .before .before .before .before .before .before .copy .ensures .0) (c .before .before .before .before .before .before .before .before .before .before .before .copy .ensures .1) (c .before .before .before .before .before .before .before .put-decimal .ensures .0) (c .before .before .before .before .before .before .before .put-decimal .ensures .1) (c .before .before .copy2 .ensures .0),
-      (
-        stored-length w d ending _ _ _ (c .before .before .before .before .before .before .before .before .before .before .before .copy .ensures .1) (c .before .before .before .before .before .before .before .put-decimal .ensures .1) (c .before .before .copy2 .ensures .1),
-        omega (arith, decimal-length (a .v) maxDigits (lit≤ tt) (search needs), c .before .before .before .before .before .before .before .put-decimal .ensures .1, c .before .before .before .before .before .before .before .before .before .before .before .copy .ensures .1, c .before .before .copy2 .ensures .1, c .before .before .before .before .before .before .before .before .before .before .before .before .before .before .before .pre),
-      ),
-    )
+    let d = c .before .before .before .before .before .before .before in
+    let w = d .before .before .before .before in
+    let s = w .before .before .before .before in
+    let a = s .args in
+    let word = stored (a .reply .now) (a .word .now) (w .copy .ensures) in
+    let all = behind (behind word (decimal (a .v)) (d .put-decimal .ensures)) ending (c .before .before .copy2 .ensures) in
+    let whole = three (a .word .now) (decimal (a .v)) ending all in
+    let digits = decimal-length (a .v) maxDigits (lit≤ tt) (search needs) in
+    let last = c .before .before .copy2 in
+    let size : last .result ≤ shortestReply = omega (arith, digits, d .put-decimal .ensures .1, w .copy .ensures .1, last .ensures .1, s .pre) in
+    (whole .0, (whole .1, size))
 
 pub put-number-spec : {M : Type 1} → statement M
 put-number-spec =

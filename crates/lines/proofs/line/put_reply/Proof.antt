@@ -20,7 +20,9 @@ same-length c = search needs
 
 returns : tie.Need-returns
 unfolding replyOf
-returns c = rw (eq-eqb _ _ (c .before .before .before .before .before .before .before .if1 .taken), c .before .before .before .before .before .before .if2 .taken) (c .before .before .put-number .ensures)
+returns c =
+    let p = c .before .before .before .before .before .before in
+    rw (eq-eqb _ _ (p .before .if1 .taken), p .if2 .taken) (c .before .before .put-number .ensures)
 
 slice-aggregate-copy : tie.Need-slice-aggregate-copy
 slice-aggregate-copy c = search needs
@@ -33,7 +35,12 @@ same-length-2 c = search needs
 
 returns-2 : tie.Need-returns-2
 unfolding replyOf
-returns-2 c = rw (eq-eqb _ _ (c .before .before .before .before .before .before .if1 .taken), c .before .before .before .before .before .if2 .left) (c .before .before .copy .ensures .0, (c .before .before .copy .ensures .1, omega (arith, c .before .before .copy .ensures .1)))
+returns-2 c =
+    rw (
+      eq-eqb _ _ (c .before .before .before .before .before .before .if1 .taken),
+      c .before .before .before .before .before .if2 .left,
+    )
+    (c .before .before .copy .ensures .0, (c .before .before .copy .ensures .1, omega (arith, c .before .before .copy .ensures .1)))
 
 slice-aggregate-put-number-2 : tie.Need-slice-aggregate-put-number-2
 slice-aggregate-put-number-2 c = search needs

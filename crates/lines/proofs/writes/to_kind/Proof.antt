@@ -31,7 +31,8 @@ returns : tie.Need-returns
 unfolding decision refusal changeFor responseTo
 returns c =
     let v = c .before .before .before .before .before .args .v in
-    rw (c .before .before .before .before .if1 .taken) (cc (same-decided _ (Kind _) (Kind v) silent (λ z. ap Kind (mod-eq-of-lt (kind-fits v (judged-none v _ 6 z .1))))))
+    rw (c .before .before .before .before .if1 .taken)
+    (cc (same-decided _ (Kind _) (Kind v) silent (λ z. ap Kind (mod-eq-of-lt (kind-fits v (judged-none v _ 6 z .1))))))
 
 bad-connector-type-requires : tie.Need-bad-connector-type-requires
 bad-connector-type-requires c κs = search needs

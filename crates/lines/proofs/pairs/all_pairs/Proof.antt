@@ -1,9 +1,9 @@
--- `lines::grammar::all_pairs` meets its contract: four steps, and the end of the line.
+-- `lines::pairs::all_pairs` meets its contract: four steps, and the end of the line.
 use mathlib.Core.Path.{ap, _∙_}
 use Rattle.lines.specs.Grammar.{stepped, pairsOf}
 use borrow.Author.Needs.{needs}
-use Rattle.lines.proofs.grammar.all_pairs.Statement.{statement}
-use Rattle.lines.proofs.grammar.all_pairs.Tie as tie
+use Rattle.lines.proofs.pairs.all_pairs.Statement.{statement}
+use Rattle.lines.proofs.pairs.all_pairs.Tie as tie
 
 step-requires : tie.Need-step-requires
 step-requires c κs = search needs
@@ -24,14 +24,18 @@ returns : tie.Need-returns
 unfolding pairsOf
 returns c =
     let t = c .before .before .before .before .before .before .before .before .before .args .text .now in
-    let e = c .before .before .before .before .step4 .ensures .0 ∙ ap (stepped t) (c .before .before .before .before .before .step3 .ensures .0 ∙ ap (stepped t) (c .before .before .before .before .before .before .step2 .ensures .0 ∙ ap (stepped t) (c .before .before .before .before .before .before .before .step .ensures .0))) in
+    let s = c .before .before .before .before in
+    let two = s .before .before .step2 .ensures .0 ∙ ap (stepped t) (s .before .before .before .step .ensures .0) in
+    let e = s .step4 .ensures .0 ∙ ap (stepped t) (s .before .step3 .ensures .0 ∙ ap (stepped t) two) in
     rw (← e, ← c .before .any .ensures, c .if1 .taken)
 
 returns-2 : tie.Need-returns-2
 unfolding pairsOf
 returns-2 c =
     let t = c .before .before .before .before .before .before .before .before .before .args .text .now in
-    let e = c .before .before .before .before .step4 .ensures .0 ∙ ap (stepped t) (c .before .before .before .before .before .step3 .ensures .0 ∙ ap (stepped t) (c .before .before .before .before .before .before .step2 .ensures .0 ∙ ap (stepped t) (c .before .before .before .before .before .before .before .step .ensures .0))) in
+    let s = c .before .before .before .before in
+    let two = s .before .before .step2 .ensures .0 ∙ ap (stepped t) (s .before .before .before .step .ensures .0) in
+    let e = s .step4 .ensures .0 ∙ ap (stepped t) (s .before .step3 .ensures .0 ∙ ap (stepped t) two) in
     rw (← e, ← c .before .any .ensures, c .if1 .left)
 
 pub all-pairs-spec : {M : Type 1} → statement M

@@ -1,8 +1,8 @@
--- `lines::grammar::gave` meets its contract: each arm is a case of the definition.
+-- `lines::pairs::gave` meets its contract: each arm is a case of the definition.
 use Rattle.lines.specs.Grammar.{gave}
 use borrow.Author.Needs.{needs}
-use Rattle.lines.proofs.grammar.gave.Statement.{statement}
-use Rattle.lines.proofs.grammar.gave.Tie as tie
+use Rattle.lines.proofs.pairs.gave.Statement.{statement}
+use Rattle.lines.proofs.pairs.gave.Tie as tie
 
 enum-told : tie.Need-enum-told
 enum-told c = search needs

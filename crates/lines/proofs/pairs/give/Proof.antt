@@ -1,8 +1,8 @@
--- `lines::grammar::give` meets its contract: each arm is a case of the definition.
+-- `lines::pairs::give` meets its contract: each arm is a case of the definition.
 use Rattle.lines.specs.Grammar.{give}
 use borrow.Author.Needs.{needs}
-use Rattle.lines.proofs.grammar.give.Statement.{statement}
-use Rattle.lines.proofs.grammar.give.Tie as tie
+use Rattle.lines.proofs.pairs.give.Statement.{statement}
+use Rattle.lines.proofs.pairs.give.Tie as tie
 
 enum-told : tie.Need-enum-told
 enum-told c = search needs

@@ -1,8 +1,8 @@
--- `lines::grammar::number_from` meets its contract: past the end there is no digit.
+-- `lines::pairs::number_from` meets its contract: past the end there is no digit.
 use Rattle.lines.proofs.Words.{number-past}
 use borrow.Author.Needs.{needs}
-use Rattle.lines.proofs.grammar.number_from.Statement.{statement}
-use Rattle.lines.proofs.grammar.number_from.Tie as tie
+use Rattle.lines.proofs.pairs.number_from.Statement.{statement}
+use Rattle.lines.proofs.pairs.number_from.Tie as tie
 
 number-at-requires : tie.Need-number-at-requires
 number-at-requires c κs = search needs
