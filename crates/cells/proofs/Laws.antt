@@ -12,7 +12,7 @@ use Rattle.cells.specs.declared.table.Class.the-variants.{Nothing, Const
 use Rattle.cells.specs.declared.table.FlopKind.{FlopKind}
 use Rattle.cells.specs.declared.table.FlopKind.the-variants.{DFlop, SyncDFlop, ClearDFlop, Jk}
 use Rattle.cells.specs.declared.cell.State.{State}
-use Rattle.cells.specs.Table.{rowOf, masked, levelSlots, anySlot, slots, no-slot, only-Y, only-Z, XYF, XYZF}
+use Rattle.cells.specs.Table.{rowOf, masked, levelSlots, anySlot, slots}
 use Rattle.cells.specs.Work.{constantOut, gateOut, flopNext, trigger, taken, nextCount, nextPulse, countAfter, pulseAfter}
 use Rattle.cells.specs.Work.{keeping, holding, counting, workAs, workOut}
 use Rattle.cells.specs.Wake.{timerStirred, flopClock, stirredAs, stirred, hasEdges, NeverStirred, differ, disagreeOn, disagree, wakes}
@@ -49,20 +49,21 @@ none-in s e = rw (e .x, e .y, e .z, e .f)
 
 -- ---- why a cell may sleep
 
--- the slots that a class reads whether or not it is stirred: no edge slot of a type may be among them
+-- the slots that a class reads whether or not it is stirred: no edge slot of a type may be among them. The sets are written out, and not by the
+-- table's names for them, so that they bind the table
 flopAlways : FlopKind → Slots
 flopAlways DFlop = slots false false true true
-flopAlways SyncDFlop = no-slot
-flopAlways ClearDFlop = only-Z
-flopAlways Jk = no-slot
+flopAlways SyncDFlop = slots false false false false
+flopAlways ClearDFlop = slots false false true false
+flopAlways Jk = slots false false false false
 
 always : Class → Slots
-always Nothing = no-slot
-always Constant = no-slot
-always (Gate g) = XYZF
+always Nothing = slots false false false false
+always Constant = slots false false false false
+always (Gate g) = slots true true true true
 always (Flop f) = flopAlways f
-always (OneShot t) = only-Z
-always (Delay t) = only-Z
+always (OneShot t) = slots false false true false
+always (Delay t) = slots false false true false
 
 rowFits : Row → Bool
 rowFits w = not (anySlot (masked (always (w .class)) (w .edge)))
@@ -151,10 +152,10 @@ and-or-right true a b h = or-right a b h
 and-or-right false a b h = refl
 
 quiet-clock : (s : State) (r : Slots) → timerStirred s r ≡ false → (r .y && ltb 0 (s .count .0)) ≡ false
-quiet-clock s r h = and-or-left (r .y) (ltb 0 (s .count .0)) (s .pulse) (or-right (trigger r) _ h)
+quiet-clock s r h = and-or-left (r .y) (ltb 0 (s .count .0)) _ (or-right (trigger r) _ h)
 
 quiet-pulse : (s : State) (r : Slots) → timerStirred s r ≡ false → (r .y && s .pulse) ≡ false
-quiet-pulse s r h = and-or-right (r .y) (ltb 0 (s .count .0)) (s .pulse) (or-right (trigger r) _ h)
+quiet-pulse s r h = and-or-right (r .y) (ltb 0 (s .count .0)) _ (or-right (trigger r) _ h)
 
 not-taken : (t : Bool) (r : Slots) (n : ℕ) → trigger r ≡ false → taken t r n ≡ false
 unfolding taken
@@ -207,18 +208,18 @@ again kind config s last now d h =
 
 -- the slots by which a class is stirred: no level slot of a type may be among them
 flopStirs : FlopKind → Slots
-flopStirs DFlop = only-Y
-flopStirs SyncDFlop = only-Y
-flopStirs ClearDFlop = only-Y
-flopStirs Jk = only-Z
+flopStirs DFlop = slots false true false false
+flopStirs SyncDFlop = slots false true false false
+flopStirs ClearDFlop = slots false true false false
+flopStirs Jk = slots false false true false
 
 stirs : Class → Slots
-stirs Nothing = no-slot
-stirs Constant = no-slot
-stirs (Gate g) = no-slot
+stirs Nothing = slots false false false false
+stirs Constant = slots false false false false
+stirs (Gate g) = slots false false false false
 stirs (Flop f) = flopStirs f
-stirs (OneShot t) = XYF
-stirs (Delay t) = XYF
+stirs (OneShot t) = slots true true false true
+stirs (Delay t) = slots true true false true
 
 rowStirs : Row → Bool
 rowStirs w = not (anySlot (masked (stirs (w .class)) (levelSlots w)))
@@ -234,7 +235,7 @@ flop-still SyncDFlop r e = e .y
 flop-still ClearDFlop r e = e .y
 flop-still Jk r e = e .z
 
-timer-still : (s : State) (r : Slots) → Empty (masked XYF r) → timerStirred s r ≡ false
+timer-still : (s : State) (r : Slots) → Empty (masked (slots true true false true) r) → timerStirred s r ≡ false
 timer-still s r e = rw (e .x, e .y, e .f)
 
 still-as : (k : Class) (s : State) (r : Slots) → Empty (masked (stirs k) r) → stirredAs k s r ≡ false
