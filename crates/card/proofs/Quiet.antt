@@ -2,25 +2,24 @@
 -- readers then have, a quick tick leaves every cell and every output as it was.
 use Prim.Native.Nat.{ℕ, zero, suc, _+_, _*_, _^_, _≤_, _<_}
 use mathlib.Core.Path.{_≡_, refl, sym, ap, ap₂, _∙_}
-use mathlib.Core.Bool.{Bool, true, false, _||_}
-use mathlib.Core.List.{List, map, map-id}
+use mathlib.Core.Bool.{Bool, false}
+use mathlib.Core.List.{List, map-id}
 use mathlib.Core.Logic.{_⊎_, inl, inr}
 use native.Mathlib.Nat.{le-refl, le-of-lt, le-of-suc-le-suc, eq-or-lt-of-le}
 use native.Mathlib.Numerals.{add-one}
 use lib.ListN.{getD, length}
 use lib.Pow.{pow-pos}
 use Rattle.words.specs.Bits.{bitAt, bitNumber, wordOf}
-use Rattle.words.specs.Listed.{listed}
 use Rattle.words.proofs.Laws.{bit-zero, bit-built, built-same, built-of-bits}
 use Rattle.words.proofs.Listed.{listed-same, listed-map}
 use Rattle.cells.specs.declared.cell.Cell.{Cell}
 use Rattle.cells.specs.declared.table.Slots.{Slots}
-use Rattle.cells.specs.Wake.{stirred, disagree, wakes}
+use Rattle.cells.specs.Wake.{stirred, wakes}
 use Rattle.cells.proofs.Laws.{wakes-splits, disagree-self}
 use Rattle.card.specs.declared.tick.Wires.{Wires}
 use Rattle.card.specs.declared.tick.Turn.{Turn}
 use Rattle.card.specs.Address.{levelAt, slotsRead, mixed, view}
-use Rattle.card.specs.Tick.{noCell, readNow, readLast, workedTurn, sleptTurn, named, turnAt, outputsBelow, turnOf, cellAfter, wokeAt, turned}
+use Rattle.card.specs.Tick.{noCell, readNow, readLast, sleptTurn, named, turnAt, outputsBelow, turnOf, cellAfter, wokeAt, turned}
 use Rattle.card.specs.Quiet.{steadyWires, AllRest, sleptAll}
 use Rattle.card.proofs.Sleep.{view-same}
 use Rattle.card.proofs.Views.{mixed-one}

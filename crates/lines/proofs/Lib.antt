@@ -6,7 +6,6 @@ pub mod Long
 pub mod Printed
 pub mod Reached
 pub mod Replies
-pub mod Said
 pub mod SaveLoad
 pub mod Settable
 pub mod Wired
