@@ -29,13 +29,8 @@ ccb-form-requires c κs = search needs
 returns-2 : tie.Need-returns-2
 unfolding cardForm
 returns-2 c =
-    rw (
-      ← c .before .before .before .before .before .is-word .ensures,
-      c .before .before .before .before .if1 .left,
-      ← c .before .before .is-word2 .ensures,
-      c .before .if2 .taken,
-      c .ccb-form .ensures,
-    )
+    let p = c .before .before .before .before in
+    rw (← p .before .is-word .ensures, p .if1 .left, ← c .before .before .is-word2 .ensures, c .before .if2 .taken) cc
 
 slice-aggregate-is-word-3 : tie.Need-slice-aggregate-is-word-3
 slice-aggregate-is-word-3 c = search needs

@@ -22,30 +22,14 @@ cca-write-requires c κs = search needs
 
 returns : tie.Need-returns
 unfolding ccaForm
-returns c =
-    rw (
-      c .cca-write .ensures,
-      c .before .to-end .ensures,
-      c .before .before .before .before .slot-of .ensures,
-      c .before .before .before .before .before .byte-at .ensures,
-      ← c .before .before .before .byte-at2 .ensures,
-      eq-eqb _ _ (c .before .before .if1 .taken),
-    )
+returns c = rw (← c .before .before .before .byte-at2 .ensures, eq-eqb _ _ (c .before .before .if1 .taken)) cc
 
 cca-read-requires : tie.Need-cca-read-requires
 cca-read-requires c κs = search needs
 
 returns-2 : tie.Need-returns-2
 unfolding ccaForm
-returns-2 c =
-    rw (
-      c .cca-read .ensures,
-      c .before .before .before .before .slot-of .ensures,
-      c .before .before .before .before .before .byte-at .ensures,
-      ← c .before .before .before .byte-at2 .ensures,
-      ne-eqb _ _ (c .before .before .if1 .left),
-      c .before .if2 .taken,
-    )
+returns-2 c = rw (← c .before .before .before .byte-at2 .ensures, ne-eqb _ _ (c .before .before .if1 .left), c .before .if2 .taken) cc
 
 returns-3 : tie.Need-returns-3
 unfolding ccaForm

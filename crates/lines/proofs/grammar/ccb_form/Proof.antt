@@ -25,14 +25,8 @@ all-pairs-requires c κs = search needs
 returns : tie.Need-returns
 unfolding ccbForm
 returns c =
-    rw (
-      c .slot-form .ensures,
-      c .before .slot-of .ensures,
-      c .before .before .byte-at3 .ensures,
-      ← c .before .before .before .before .before .byte-at .ensures,
-      ← c .before .before .before .before .byte-at2 .ensures,
-      c .before .before .before .if1 .taken,
-    )
+    let p = c .before .before .before in
+    rw (← p .before .before .byte-at .ensures, ← p .before .byte-at2 .ensures, p .if1 .taken) cc
 
 returns-2 : tie.Need-returns-2
 unfolding ccbForm

@@ -35,14 +35,8 @@ triggered-requires c κs = search needs
 returns-2 : tie.Need-returns-2
 unfolding plainForm
 returns-2 c =
-    rw (
-      ← c .before .before .before .before .before .before .is-word .ensures,
-      c .before .before .before .before .before .if1 .left,
-      ← c .before .before .before .is-word2 .ensures,
-      c .before .before .if2 .taken,
-      c .triggered .ensures,
-      c .before .to-end2 .ensures,
-    )
+    let p = c .before .before .before .before .before in
+    rw (← p .before .is-word .ensures, p .if1 .left, ← c .before .before .before .is-word2 .ensures, c .before .before .if2 .taken) cc
 
 slice-aggregate-is-whole : tie.Need-slice-aggregate-is-whole
 slice-aggregate-is-whole c = search needs

@@ -18,14 +18,7 @@ read-of-requires c κs = search needs
 
 returns : tie.Need-returns
 unfolding readForm
-returns c =
-    rw (
-      c .read-of .ensures,
-      c .before .slot-of .ensures,
-      c .before .before .byte-at2 .ensures,
-      ← c .before .before .before .before .byte-at .ensures,
-      c .before .before .before .if1 .taken,
-    )
+returns c = rw (← c .before .before .before .before .byte-at .ensures, c .before .before .before .if1 .taken) cc
 
 returns-2 : tie.Need-returns-2
 unfolding readForm

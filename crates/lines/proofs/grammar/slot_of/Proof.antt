@@ -23,12 +23,8 @@ returns-4 c = rw (c .if4 .taken)
 returns-5 : tie.Need-returns-5
 unfolding slotOf
 returns-5 c =
-    rw (
-      ne-eqb _ _ (c .before .before .before .if1 .left),
-      ne-eqb _ _ (c .before .before .if2 .left),
-      ne-eqb _ _ (c .before .if3 .left),
-      ne-eqb _ _ (c .if4 .left),
-    )
+    let p = c .before .before in
+    rw (ne-eqb _ _ (p .before .if1 .left), ne-eqb _ _ (p .if2 .left), ne-eqb _ _ (c .before .if3 .left), ne-eqb _ _ (c .if4 .left))
 
 pub slot-of-spec : {M : Type 1} → statement M
 slot-of-spec = tie.close (tie.spec returns returns-2 returns-3 returns-4 returns-5)

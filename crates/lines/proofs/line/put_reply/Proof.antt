@@ -36,11 +36,9 @@ same-length-2 c = search needs
 returns-2 : tie.Need-returns-2
 unfolding replyOf
 returns-2 c =
-    rw (
-      eq-eqb _ _ (c .before .before .before .before .before .before .if1 .taken),
-      c .before .before .before .before .before .if2 .left,
-    )
-    (c .before .before .copy .ensures .0, (c .before .before .copy .ensures .1, omega (arith, c .before .before .copy .ensures .1)))
+    let p = c .before .before .before .before .before in
+    let end = c .before .before .copy .ensures in
+    rw (eq-eqb _ _ (p .before .if1 .taken), p .if2 .left) (end .0, (end .1, omega (arith, end .1)))
 
 slice-aggregate-put-number-2 : tie.Need-slice-aggregate-put-number-2
 slice-aggregate-put-number-2 c = search needs

@@ -48,16 +48,7 @@ returns c =
     let s = n .before .before .before .before .before .before .before in
     let a = s .args in
     let inside = ltb-true (a .r .at) (length (a .text .now)) (and-right (a .r .ok) _ t) in (
-      rw (
-        t,
-        c .before .before .before .before .byte-at2 .ensures,
-        c .before .before .before .byte-at3 .ensures,
-        c .before .before .gave .ensures,
-        c .give .ensures,
-        n .before .slot-of .ensures,
-        n .before .before .byte-at .ensures,
-        n .number-from .ensures,
-      ),
+      rw t cc,
       rw (n .number-from .ensures)
           (next-within (a .text .now) (a .r .at + 3) (longestLine + 3) (omega (arith, inside, s .pre)) (omega (arith, s .pre))),
     )
