@@ -18,7 +18,8 @@ use Rattle.card.specs.Edits.{atCell, atConnector, withCell, withConnecto
 use Rattle.card.specs.Edits.{move, setTrigger, home, setType, setConfig, setState, setSlots, setConnectorType, setSource}
 use Rattle.card.specs.Presets.{editedAfter, preset}
 use Rattle.card.specs.Untouched.{Edit}
-use Rattle.card.proofs.EditLaws.{no-edit, move-edit, trigger-edit, home-edit, type-edit, config-edit, state-edit, slots-edit, connector-type-edit, source-edit, preset-edit}
+use Rattle.card.proofs.EditLaws.{no-edit, move-edit, trigger-edit, home-edit, type-edit, config-edit, state-edit, slots-edit, connector-type-edit}
+use Rattle.card.proofs.EditLaws.{source-edit, preset-edit}
 
 pub changed-edit : (n : ℕ) (c : Card) (change : Change) → Edit n c (changed n c change)
 unfolding changed

@@ -16,7 +16,8 @@ use Rattle.cells.proofs.Laws.{or-left, or-right}
 use Rattle.card.specs.declared.card.Card.{Card}
 use Rattle.card.specs.declared.card.Connector.{Connector}
 use Rattle.card.specs.Tick.{noCell}
-use Rattle.card.specs.Edits.{atCell, atConnector, withSettings, withCell, putCell, putConnector, move, setTrigger, home, setType, setConfig, setState, setSlots, setConnectorType, setSource}
+use Rattle.card.specs.Edits.{atCell, atConnector, withSettings, withCell, putCell, putConnector, move, setTrigger, home, setType, setConfig, setState}
+use Rattle.card.specs.Edits.{setSlots, setConnectorType, setSource}
 use Rattle.card.specs.Presets.{presetCell, has, cellAfter, editedAfter, preset}
 use Rattle.card.specs.Record.{poweredUp}
 use Rattle.card.specs.Settled.{Settled}

@@ -16,7 +16,8 @@ use Rattle.words.specs.Listed.{listed}
 use Rattle.words.proofs.Listed.{length-listed}
 use Rattle.card.specs.Address.{firstCell, firstConnector, connectorCount}
 use Rattle.card.specs.Valid.{valid}
-use Rattle.card.specs.Record.{field, bigEndian, bigValue, triggerField, cellField, connectorField, fieldsFrom, encode, triggerLength, cellLength, connectorLength, recordLength, triggerIn, cellIn, connectorIn, cellsIn, connectorsIn, sameBytes, loadNumber}
+use Rattle.card.specs.Record.{field, bigEndian, bigValue, triggerField, cellField, connectorField, fieldsFrom, encode, triggerLength, cellLength}
+use Rattle.card.specs.Record.{connectorLength, recordLength, triggerIn, cellIn, connectorIn, cellsIn, connectorsIn, sameBytes, loadNumber}
 use Rattle.card.specs.Headers.{Bytes, everyBelow, startsAt, numberedAt, triggerHeaded, cellHeaded, connectorHeaded, headed}
 use Rattle.card.proofs.Fields.{fields-snoc, big-back, same-eq, same-append}
 use Rattle.card.proofs.Records.{cell-length, connector-length, other-length}

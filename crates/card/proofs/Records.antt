@@ -21,8 +21,11 @@ use Rattle.card.specs.Address.{cellCount, connectorCount}
 use Rattle.card.specs.Connectors.{noConnector}
 use Rattle.card.specs.Fresh.{fresh, clearState}
 use Rattle.card.specs.Tick.{noCell}
-use Rattle.card.specs.Valid.{permittedBase, badClock, frontDriven, badCellType, badConnectorType, badAddress, validSlot, validSlots, validCell, validConnector, every, valid, validCard}
-use Rattle.card.specs.Record.{bigEndian, bigValue, triggerField, cellField, connectorField, fieldsFrom, encode, configWidth, triggerLength, cellLength, connectorLength, recordLength, triggerIn, cellIn, connectorIn, cellsIn, connectorsIn, recordOf, sameBytes, loadNumber, poweredUp, loaded, savedTo}
+use Rattle.card.specs.Valid.{permittedBase, badClock, frontDriven, badCellType, badConnectorType, badAddress, validSlot, validSlots, validCell}
+use Rattle.card.specs.Valid.{validConnector, every, valid, validCard}
+use Rattle.card.specs.Record.{bigEndian, bigValue, triggerField, cellField, connectorField, fieldsFrom, encode, configWidth, triggerLength, cellLength}
+use Rattle.card.specs.Record.{connectorLength, recordLength, triggerIn, cellIn, connectorIn, cellsIn, connectorsIn, recordOf, sameBytes, loadNumber}
+use Rattle.card.specs.Record.{poweredUp, loaded, savedTo}
 use Rattle.card.specs.Edits.{clearedCell}
 use Rattle.card.proofs.Settings.{every-at, every-map, Sound, split}
 use Rattle.card.proofs.Fields.{fields-length, field-at, fields-map, length-big, big-read, four, same-refl, same-sound, same-not}
@@ -159,7 +162,8 @@ pub config-fits : largestConfig < 256 ^ configWidth
 config-fits = lit< tt
 
 -- the cells and the connectors that stand in the bytes of a record
-module _ (width : ℕ) (trigger : ℕ) (cells : List Cell) (connectors : List Connector) (slots : FourSlots cells) (fit : (i : ℕ) → i < length cells → getD cells i noCell .config < 256 ^ width) where
+module _ (width : ℕ) (trigger : ℕ) (cells : List Cell) (connectors : List Connector) (slots : FourSlots cells)
+    (fit : (i : ℕ) → i < length cells → getD cells i noCell .config < 256 ^ width) where
   pub cells-read : cellsIn (length cells) width (encode width trigger cells connectors) ≡ map clearedCell cells
   cells-read =
       let bytes = encode width trigger cells connectors in
@@ -167,7 +171,8 @@ module _ (width : ℕ) (trigger : ℕ) (cells : List Cell) (connectors : List Co
       ext-getD noCell (cellsIn (length cells) width bytes) (map clearedCell cells) (n ∙ sym (length-map cells clearedCell))
       (λ i h. let g : i < length cells = omega arith in
       listed-at (cellIn width bytes) (length cells) i noCell g
-      ∙ cell-there width i (getD cells i noCell) bytes _ (triggerLength + i * cellLength width) (cell-place width trigger cells connectors slots i g) (slots i g) (fit i g) refl
+      ∙ cell-there width i (getD cells i noCell) bytes _ (triggerLength + i * cellLength width)
+      (cell-place width trigger cells connectors slots i g) (slots i g) (fit i g) refl
       ∙ sym (List·getD-map clearedCell cells i noCell))
 
   pub connectors-read : length connectors ≡ connectorCount → connectorsIn (length cells) width (encode width trigger cells connectors) ≡ connectors
@@ -353,7 +358,12 @@ module _ (n width : ℕ) (wide : largestConfig < 256 ^ width) (c : Card) (ok : v
   unfolding recordOf
   load-accepts =
       number-from n width (recordOf width c) (c .trigger) (map clearedCell (c .cells)) (c .connectors) trigger-back cells-back connectors-back
-      ∙ rw (encode-cleared width (c .trigger) (c .cells) (c .connectors), same-refl (recordOf width c), valid-cleared n (c .trigger) (c .cells) (c .connectors), settings)
+      ∙ rw (
+        encode-cleared width (c .trigger) (c .cells) (c .connectors),
+        same-refl (recordOf width c),
+        valid-cleared n (c .trigger) (c .cells) (c .connectors),
+        settings,
+      )
 
   pub load-save : (d : Card) → loaded n width d (recordOf width c) ≡ poweredUp n (c .trigger) (map clearedCell (c .cells)) (c .connectors)
   load-save d =

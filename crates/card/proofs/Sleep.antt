@@ -26,7 +26,8 @@ use Rattle.card.specs.declared.tick.Input.{Input}
 use Rattle.card.specs.declared.tick.Wires.{Wires}
 use Rattle.card.specs.Address.{cellCount, levelAt, slotsRead, mixed, view}
 use Rattle.card.specs.Fresh.{clearState, freshCell, noMemory, fresh}
-use Rattle.card.specs.Tick.{noCell, readNow, readLast, withState, workedTurn, sleptTurn, named, turnAt, outputsBelow, cellAfter, wokeAt, turned, wiresOf, lines, cardAfter, readIn, ticked, idle, tick}
+use Rattle.card.specs.Tick.{noCell, readNow, readLast, withState, workedTurn, sleptTurn, named, turnAt, outputsBelow, cellAfter, wokeAt, turned}
+use Rattle.card.specs.Tick.{wiresOf, lines, cardAfter, readIn, ticked, idle, tick}
 use Rattle.card.specs.Settled.{remembered, Keeps, Settled, AlikeTicks}
 use Rattle.card.specs.Examples.{clock0, unsettled, wrong-stays, wrong-goes}
 use Rattle.card.proofs.Views.{view-low}

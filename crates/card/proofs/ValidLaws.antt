@@ -26,9 +26,13 @@ use Rattle.card.specs.Connectors.{noConnector}
 use Rattle.card.specs.Fresh.{freshCell}
 use Rattle.card.specs.Tick.{noCell, workedTurn, sleptTurn, named, turnAt, outputsBelow, turned, wiresOf, lines, ticked, idle, tick}
 use Rattle.card.specs.Tick
-use Rattle.card.specs.Valid.{frontTrigger, permittedBase, badClock, badCellType, badConnectorType, badConfig, unusedSlot, badAddress, frontDriven, validSlot, validSlots, validCell, validConnector, every, valid, validCard}
-use Rattle.card.specs.Edits.{atCell, atConnector, withCell, withConnector, clearedCell, blankSlots, input, stored, wiredSlot, currentCell, currentConnector, putCell, putConnector, move, setTrigger, home, typed, setType, configured, setConfig, stated, setState, wired, setSlots, setConnectorType, setSource}
-use Rattle.card.specs.Presets.{Setting, Entry, table, find, has, cellsOf, sourcesOf, settingOf, presetCell, presetSource, setsFront, sourced, cellAfter, connectorAfter, preset}
+use Rattle.card.specs.Valid.{frontTrigger, permittedBase, badClock, badCellType, badConnectorType, badConfig, unusedSlot, badAddress, frontDriven}
+use Rattle.card.specs.Valid.{validSlot, validSlots, validCell, validConnector, every, valid, validCard}
+use Rattle.card.specs.Edits.{atCell, atConnector, withCell, withConnector, clearedCell, blankSlots, input, stored, wiredSlot, currentCell}
+use Rattle.card.specs.Edits.{currentConnector, putCell, putConnector, move, setTrigger, home, typed, setType, configured, setConfig, stated, setState}
+use Rattle.card.specs.Edits.{wired, setSlots, setConnectorType, setSource}
+use Rattle.card.specs.Presets.{Setting, Entry, table, find, has, cellsOf, sourcesOf, settingOf, presetCell, presetSource, setsFront, sourced, cellAfter}
+use Rattle.card.specs.Presets.{connectorAfter, preset}
 use Rattle.card.proofs.Settings.{every-at, every-map, every-set, every-listed, Sound, split, join}
 use Rattle.card.proofs.Views.{among-bounds}
 

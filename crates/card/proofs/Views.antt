@@ -202,11 +202,17 @@ quarter-reads n b a h = level (decLt a 64)
         let z : 1 ≤ i = omega arith in
         let e : a ≡ 192 → ⊥ = omega arith in
         rw (ne-eqb a 192 e, le-ltb a 64 (omega arith), le-ltb a 128 (omega arith), le-ltb a 192 g)
-        (bit-or (bitAnd (bitXor n all) b) 1 i ∙ ap (λ (x : Bool). bitAt (bitAnd (bitXor n all) b) i || x) (bit-above 1 1 i (omega arith) z) ∙ or-false (bitAt (bitAnd (bitXor n all) b) i) ∙ fell n b i below)
+        (bit-or (bitAnd (bitXor n all) b) 1 i
+        ∙ ap (λ (x : Bool). bitAt (bitAnd (bitXor n all) b) i || x) (bit-above 1 1 i (omega arith) z)
+        ∙ or-false (bitAt (bitAnd (bitXor n all) b) i)
+        ∙ fell n b i below)
     last (no k) g =
         let e : a ≡ 192 = omega arith in
         let z : i ≡ 0 = omega arith in
-        rw (eq-eqb a 192 e) (bit-or (bitAnd (bitXor n all) b) 1 i ∙ ap (λ (k : ℕ). bitAt (bitAnd (bitXor n all) b) i || bitAt 1 k) z ∙ or-true (bitAt (bitAnd (bitXor n all) b) i))
+        rw (eq-eqb a 192 e)
+        (bit-or (bitAnd (bitXor n all) b) 1 i
+        ∙ ap (λ (k : ℕ). bitAt (bitAnd (bitXor n all) b) i || bitAt 1 k) z
+        ∙ or-true (bitAt (bitAnd (bitXor n all) b) i))
 
     fall : Dec (a < 192) → 128 ≤ a → bitAt (getD (quarterWords n b) (a / 64) 0) i ≡ reads (bitAt n) (bitAt b) a
     fall (yes k) g =

@@ -22,8 +22,11 @@ use Rattle.card.specs.Address.{firstCell, firstConnector, connectorCount
 use Rattle.card.specs.Connectors.{openDrain, pushPull, isOutput, noConnector}
 use Rattle.card.specs.Fresh.{clearState}
 use Rattle.card.specs.Tick.{noCell}
-use Rattle.card.specs.Valid.{largestAddress, frontTrigger, frontDriven, badPlace, badConnectorType, badConfig, unusedSlot, badAddress, validSlot, validSlots, validCell, validConnector}
-use Rattle.card.specs.Edits.{atCell, atConnector, input, blankSlot, clearedCell, stored, wiredSlot, configuredState, currentCell, currentConnector, putCell, putConnector, move, setTrigger, typed, setType, configured, setConfig, wired, setSlots, setConnectorType, setSource}
+use Rattle.card.specs.Valid.{largestAddress, frontTrigger, frontDriven, badPlace, badConnectorType, badConfig, unusedSlot, badAddress, validSlot}
+use Rattle.card.specs.Valid.{validSlots, validCell, validConnector}
+use Rattle.card.specs.Edits.{atCell, atConnector, input, blankSlot, clearedCell, stored, wiredSlot, configuredState, currentCell, currentConnector}
+use Rattle.card.specs.Edits.{putCell, putConnector, move, setTrigger, typed, setType, configured, setConfig, wired, setSlots, setConnectorType}
+use Rattle.card.specs.Edits.{setSource}
 use Rattle.card.specs.Written.{configuredAs, written}
 use Rattle.card.proofs.Fields.{four}
 use Rattle.card.proofs.Records.{cell-slots, config-most}

@@ -11,8 +11,10 @@ use Rattle.card.specs.declared.card.Card.{Card}
 use Rattle.card.specs.declared.card.Connector.{Connector}
 use Rattle.card.specs.Address.{cellCount}
 use Rattle.card.specs.Fresh.{fresh}
-use Rattle.card.specs.Valid.{permittedBase, badClock, frontDriven, badCellType, badConnectorType, badAddress, validSlot, validSlots, validCell, validConnector, every, valid}
-use Rattle.card.specs.Record.{bigEndian, cellField, connectorField, fieldsFrom, encode, configWidth, bigValue, triggerIn, cellIn, connectorIn, recordOf, sameBytes, loadNumber, loaded}
+use Rattle.card.specs.Valid.{permittedBase, badClock, frontDriven, badCellType, badConnectorType, badAddress, validSlot, validSlots, validCell}
+use Rattle.card.specs.Valid.{validConnector, every, valid}
+use Rattle.card.specs.Record.{bigEndian, cellField, connectorField, fieldsFrom, encode, configWidth, bigValue, triggerIn, cellIn, connectorIn, recordOf}
+use Rattle.card.specs.Record.{sameBytes, loadNumber, loaded}
 
 -- ---- a record
 

@@ -20,10 +20,14 @@ use Rattle.lines.specs.declared.grammar.Reading.{Reading}
 use Rattle.lines.specs.declared.grammar.Slot.{Slot}
 use Rattle.lines.specs.declared.grammar.Slot.the-variants.{X, Y, Z, F, NoSlot}
 use Rattle.lines.specs.declared.grammar.Command.{Command}
-use Rattle.lines.specs.declared.grammar.Command.the-variants.{Move, Where, Trigger, Home, Preset, SetKind, SetConfig, SetState, GetKind, GetConfig, GetState, SetSlots, GetSlot, Front, Back, Cells, Save}
+use Rattle.lines.specs.declared.grammar.Command.the-variants.{Move, Where, Trigger, Home, Preset, SetKind, SetConfig, SetState, GetKind, GetConfig}
+use Rattle.lines.specs.declared.grammar.Command.the-variants.{GetState, SetSlots, GetSlot, Front, Back, Cells, Save}
 use Rattle.lines.specs.declared.grammar.Parsed.the-variants.{Here}
-use Rattle.lines.specs.Grammar.{byteAt, isWord, isWhole, toEnd, slotOf, noPairs, gave, give, begun, stepped, finished, pairsOf, writeOf, ccaWrite, ccaRead, ccaForm, slotForm, ccbForm, readOf, readForm, cardForm, plainForm, addressed, longestLine, parse, equals, blank, CCA, CCB, M-E=, PM-E=}
-use Rattle.lines.specs.Wiring.{letterOf, cardLine, ccaText, givenPair, givenPairs, pairsText, commandText, printable, printableSlot, printableSlots, printableCommand}
+use Rattle.lines.specs.Grammar.{byteAt, isWord, isWhole, toEnd, slotOf, noPairs, gave, give, begun, stepped, finished, pairsOf, writeOf, ccaWrite}
+use Rattle.lines.specs.Grammar.{ccaRead, ccaForm, slotForm, ccbForm, readOf, readForm, cardForm, plainForm, addressed, longestLine, parse, equals}
+use Rattle.lines.specs.Grammar.{blank, CCA, CCB, M-E=, PM-E=}
+use Rattle.lines.specs.Wiring.{letterOf, cardLine, ccaText, givenPair, givenPairs, pairsText, commandText, printable, printableSlot, printableSlots}
+use Rattle.lines.specs.Wiring.{printableCommand}
 
 -- ---- numbers and letters
 

@@ -20,10 +20,12 @@ use Rattle.card.specs.Presets.{offered}
 use Rattle.card.specs.Record.{configWidth, loadNumber, loaded}
 use Rattle.card.specs.Valid.{badCellType, badConnectorType, badClock, badConfig, unusedSlot, badAddress, validCard}
 use Rattle.card.proofs.Records.{load-refused, loaded-valid, fresh-valid}
-use Rattle.card.proofs.ValidLaws.{valid-move, valid-trigger, valid-home, valid-type, valid-config, valid-state, valid-slots, valid-connector-type, valid-source, valid-preset, valid-tick}
+use Rattle.card.proofs.ValidLaws.{valid-move, valid-trigger, valid-home, valid-type, valid-config, valid-state, valid-slots, valid-connector-type}
+use Rattle.card.proofs.ValidLaws.{valid-source, valid-preset, valid-tick}
 use Rattle.lines.specs.declared.grammar.Pairs.{Pairs}
 use Rattle.lines.specs.declared.grammar.Command.{Command}
-use Rattle.lines.specs.declared.grammar.Command.the-variants.{Move, Where, Trigger, Home, Preset, SetKind, SetConfig, SetState, GetKind, GetConfig, GetState, SetSlots, GetSlot, Front, Back, Cells, Save}
+use Rattle.lines.specs.declared.grammar.Command.the-variants.{Move, Where, Trigger, Home, Preset, SetKind, SetConfig, SetState, GetKind, GetConfig}
+use Rattle.lines.specs.declared.grammar.Command.the-variants.{GetState, SetSlots, GetSlot, Front, Back, Cells, Save}
 use Rattle.lines.specs.declared.grammar.Parsed.{Parsed}
 use Rattle.lines.specs.declared.grammar.Parsed.the-variants.{Malformed, Elsewhere, Here}
 use Rattle.lines.specs.Grammar.{parse}

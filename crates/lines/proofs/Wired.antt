@@ -27,12 +27,16 @@ use Rattle.text.proofs.Stores.{sets-all}
 use Rattle.card.proofs.Records.{cell-config}
 use Rattle.card.proofs.Settings.{Sound, split}
 use Rattle.card.proofs.ValidLaws.{kind-known, kind-good, source-good}
-use Rattle.card.proofs.WriteLaws.{CellWritten, ConnectorWritten, written-is, unslotted, configured-is, config-permitted, slots-each, slots-permitted, slot-unused, slot-most, address-most, used-given, cell-place, connector-place, at-cell, current-written, move-written, type-written, config-written, slots-written, beside-cells, move-connector-written, connector-type-written, source-written, trigger-leaves}
+use Rattle.card.proofs.WriteLaws.{CellWritten, ConnectorWritten, written-is, unslotted, configured-is, config-permitted, slots-each, slots-permitted}
+use Rattle.card.proofs.WriteLaws.{slot-unused, slot-most, address-most, used-given, cell-place, connector-place, at-cell, current-written, move-written}
+use Rattle.card.proofs.WriteLaws.{type-written, config-written, slots-written, beside-cells, move-connector-written, connector-type-written, source-written}
+use Rattle.card.proofs.WriteLaws.{trigger-leaves}
 use Rattle.lines.specs.declared.grammar.Command.{Command}
 use Rattle.lines.specs.declared.grammar.Command.the-variants.{Move, Trigger, SetKind, SetConfig, SetSlots}
 use Rattle.lines.specs.Refusal.{tooLarge, largestNumber, anyTooLarge, refusal}
 use Rattle.lines.specs.Line.{wireOf, wiresOf, changeFor, obeyed, decision, decisionFor, shortestReply, lineDecision, lineOutcome}
-use Rattle.lines.specs.Wiring.{only, pairsIn, cellCommands, connectorCommands, commandsFrom, wiring, commandText, printable, printableSlot, printableCommand}
+use Rattle.lines.specs.Wiring.{only, pairsIn, cellCommands, connectorCommands, commandsFrom, wiring, commandText, printable, printableSlot}
+use Rattle.lines.specs.Wiring.{printableCommand}
 use Rattle.lines.specs.Settable.{fed, allAccepted, Settable}
 use Rattle.lines.proofs.Decisions.{clock-fits, kind-fits, connector-fits}
 use Rattle.lines.proofs.Printed.{text-parses}
@@ -50,7 +54,8 @@ module _ {n store : ℕ} where
   both-run none later = later
   both-run (next prints free early) later = next prints free (both-run early later)
 
-  only-runs : (test : Bool) (c : Card) (command : Command) → (test ≡ true → printableCommand command ≡ true) → (test ≡ true → refusal n (contextOf n c) store command ≡ 0)
+  only-runs : (test : Bool) (c : Card) (command : Command) → (test ≡ true → printableCommand command ≡ true)
+      → (test ≡ true → refusal n (contextOf n c) store command ≡ 0)
       → Runs n store c (only test command) (cond test (obeyed n c command) c)
   only-runs true c command prints free = next (prints refl) (free refl) none
   only-runs false c command prints free = none
@@ -258,7 +263,8 @@ module _ (n store : ℕ) (apart : firstCell + n ≤ firstConnector) where
 
   -- the commands of a valid connector set it, and nothing else of the settings; under trigger 0 no type is refused with 13
   module _ (c : Card) (k : ℕ) (within : k < connectorCount) (there : k < length (c .connectors)) (idle : c .trigger ≡ 0) where
-    type-free : (old : Connector) (d : Card) → ConnectorWritten c k old d → (v : ℕ) → badConnectorType v ≡ false → refusal n (contextOf n d) store (SetKind v) ≡ 0
+    type-free : (old : Connector) (d : Card) → ConnectorWritten c k old d → (v : ℕ) → badConnectorType v ≡ false
+        → refusal n (contextOf n d) store (SetKind v) ≡ 0
     unfolding refusal frontDriven
     type-free old d w v known =
         let small = connector-fits v known in
@@ -266,7 +272,8 @@ module _ (n store : ℕ) (apart : firstCell + n ≤ firstConnector) where
         let off = w .trigger ∙ idle in
         rw (away, small-fits v (omega arith), known, off, and-false (eqb (d .pointer) firstConnector))
 
-    source-free : (old : Connector) (d : Card) → ConnectorWritten c k old d → (v : ℕ) → badAddress n v ≡ false → refusal n (contextOf n d) store (SetConfig v) ≡ 0
+    source-free : (old : Connector) (d : Card) → ConnectorWritten c k old d → (v : ℕ) → badAddress n v ≡ false
+        → refusal n (contextOf n d) store (SetConfig v) ≡ 0
     unfolding refusal
     source-free old d w v good =
         let most = address-most n v good in

@@ -14,9 +14,11 @@ use Rattle.card.specs.Address.{cellCount}
 use Rattle.card.specs.Edits.{withPointer, currentCell, currentConnector, putCell, typed, setType, setTrigger}
 use Rattle.card.specs.Change.{changed}
 use Rattle.card.specs.Fresh.{fresh}
-use Rattle.card.specs.Valid.{permittedBase, badPlace, badCellType, badConnectorType, badClock, badConfig, noConfig, unusedSlot, badAddress, badStateAs, badState, noState, frontDriven}
+use Rattle.card.specs.Valid.{permittedBase, badPlace, badCellType, badConnectorType, badClock, badConfig, noConfig, unusedSlot, badAddress, badStateAs}
+use Rattle.card.specs.Valid.{badState, noState, frontDriven}
 use Rattle.card.specs.Presets.{table, settingOf, offered, presetCell, presetSource, setsFront, preset}
-use Rattle.lines.specs.Grammar.{isWord, isWhole, toEnd, slotOf, gave, give, stepped, pairsOf, writeOf, ccaWrite, ccaRead, ccaForm, slotForm, ccbForm, readOf, readForm, cardForm, plainForm, addressed, parse}
+use Rattle.lines.specs.Grammar.{isWord, isWhole, toEnd, slotOf, gave, give, stepped, pairsOf, writeOf, ccaWrite, ccaRead, ccaForm, slotForm, ccbForm}
+use Rattle.lines.specs.Grammar.{readOf, readForm, cardForm, plainForm, addressed, parse}
 use Rattle.lines.specs.Refusal.{alone, refusal}
 use Rattle.lines.specs.Line.{changeFor, responseTo, decision, decisionFor, lineDecision, lineOutcome}
 

@@ -19,7 +19,9 @@ use Rattle.words.proofs.pushed16.Reads as pushed16-reads
 
 abbrev Inv-loop : tie.InvT-loop
 Inv-loop now before sample connectors driven₀ levels₀ k₀ driven levels k =
-    (k ≤ connectorCount) × (driven ≡ wordOf (drivenAt (bitAt now) (bitAt before) connectors) k) × (levels ≡ wordOf (levelOf (bitAt now) (bitAt before) connectors sample) k)
+    (k ≤ connectorCount)
+    × (driven ≡ wordOf (drivenAt (bitAt now) (bitAt before) connectors) k)
+    × (levels ≡ wordOf (levelOf (bitAt now) (bitAt before) connectors sample) k)
 
 abbrev μ-loop : tie.MeasureT-loop
 μ-loop now before sample connectors driven₀ levels₀ k₀ driven levels k = connectorCount - k
@@ -63,7 +65,8 @@ loop-again c =
     let a = c .before .before .before .before .before .before .before .before .args in
     let l = c .before .before .before .before .before .before .before .loop in
     let drove = c .before .before .before .before .driven-bit .ensures in
-    let shows = c .before .before .level-bit .ensures ∙ ap₂ (levelBit (getD (a .t1) (l .k) noConnector .kind)) (c .before .before .before .bit .ensures) drove in (
+    let sampled = c .before .before .before .bit .ensures in
+    let shows = c .before .before .level-bit .ensures ∙ ap₂ (levelBit (getD (a .t1) (l .k) noConnector .kind)) sampled drove in (
       omega arith,
       built-next (drivenAt (bitAt (a .now)) (bitAt (a .before)) (a .t1)) (l .k) (l .driven) _ _ (l .inv .1) drove (c .before .pushed16 .ensures),
       built-next (levelOf (bitAt (a .now)) (bitAt (a .before)) (a .t1) (a .sample)) (l .k) (l .levels) _ _ (l .inv .2) shows (c .pushed162 .ensures),

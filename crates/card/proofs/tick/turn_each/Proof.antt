@@ -73,11 +73,14 @@ unfolding outputsBelow
 loop-again c =
     let a = c .before .before .before .before .before .before .before .args in
     let l = c .before .before .before .before .before .before .loop in
-    let turn = c .before .before .before .turn-at .ensures ∙ ap (turnAt cellCount (a .full) (getD (a .t2) (l .i) noCell) (l .i) (a .edited) (a .w)) (l .inv .2) in (
+    let cell = getD (a .t2) (l .i) noCell in
+    let turn = c .before .before .before .turn-at .ensures ∙ ap (turnAt cellCount (a .full) cell (l .i) (a .edited) (a .w)) (l .inv .2) in
+    let became = ap (λ (t : Turn). t .cell) turn in
+    let woke = ap (λ (t : Turn). t .woke) turn in (
       omega arith,
-      listed-next (cellAfter cellCount (a .full) (a .t2) (a .edited) (a .w)) (l .i) (a .t2) (l .next) _ noCell (l .inv .1) (ap (λ (t : Turn). t .cell) turn) (search needs),
+      listed-next (cellAfter cellCount (a .full) (a .t2) (a .edited) (a .w)) (l .i) (a .t2) (l .next) _ noCell (l .inv .1) became (search needs),
       rw (add-one, c .before .pushed16 .ensures, turn, l .inv .2),
-      built-next (wokeAt cellCount (a .full) (a .t2) (a .edited) (a .w)) (l .i) (l .woken) _ _ (l .inv .3) (ap (λ (t : Turn). t .woke) turn) (c .pushed162 .ensures),
+      built-next (wokeAt cellCount (a .full) (a .t2) (a .edited) (a .w)) (l .i) (l .woken) _ _ (l .inv .3) woke (c .pushed162 .ensures),
     )
 
 returns : tie.Need-returns Inv-loop μ-loop

@@ -27,8 +27,9 @@ returns : tie.Need-returns
 returns c =
     let q = c .before .before in
     let a = q .before .before .args in
-    picked (bitAt (a .now)) (bitAt (a .before)) (q .before .quarters .result) (a .address) _ _ _ (q .before .quarters .ensures) (q .quarter .ensures) (c .before .base .ensures .0)
-    (c .bit .ensures)
+    let words = q .before .quarters in
+    picked (bitAt (a .now)) (bitAt (a .before)) (words .result) (a .address) _ _ _ (words .ensures) (q .quarter .ensures)
+    (c .before .base .ensures .0) (c .bit .ensures)
 
 pub read-spec : {M : Type 1} → statement M
 read-spec =

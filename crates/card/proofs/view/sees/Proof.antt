@@ -35,11 +35,11 @@ shl-mask c = search needs
 sub-mask : tie.Need-sub-mask
 sub-mask c = rw (one-shifted (c .args .i) (search needs)) (pow-pos (c .args .i))
 
--- src/view.rt:9:1
 returns : tie.Need-returns
 returns c =
     let a = c .args in
-    view-word cellCount (a .i) (a .below) (a .others) (a .levels) _ (lit≤ tt) (search needs) (search needs) (search needs) (placed (a .i) (a .below) (a .others) (a .levels) (search needs) (search needs) (search needs) (search needs))
+    view-word cellCount (a .i) (a .below) (a .others) (a .levels) _ (lit≤ tt) (search needs) (search needs) (search needs)
+    (placed (a .i) (a .below) (a .others) (a .levels) (search needs) (search needs) (search needs) (search needs))
 
 pub sees-spec : {M : Type 1} → statement M
 sees-spec = tie.close (tie.spec shl-mask sub-mask returns)
