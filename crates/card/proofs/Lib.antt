@@ -2,11 +2,11 @@
 pub mod ChangeLaws
 pub mod Counts
 pub mod EditLaws
+pub mod FastPath
 pub mod Fields
 pub mod Headers
 pub mod PresetLaws
 pub mod PresetRows
-pub mod Quiet
 pub mod Records
 pub mod Settings
 pub mod Sleep

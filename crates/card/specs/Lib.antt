@@ -1,19 +1,20 @@
--- The definitions that the contracts cite, in the order of document 01.
+-- What a reader must believe, in the order of document 01.
 pub mod Address
 pub mod Connectors
 pub mod Fresh
 pub mod Tick
-pub mod Quiet
-pub mod Valid
 pub mod Edits
-pub mod Written
-pub mod Presets
-pub mod PresetRows
 pub mod Context
 pub mod Change
+pub mod Presets
 pub mod Record
-pub mod Headers
-pub mod Settled
-pub mod Untouched
+pub mod Valid
 pub mod Examples
 pub mod RecordExamples
+-- Another view of a rule above, or what only proofs use: laws say that they agree.
+pub mod Headers
+pub mod PresetRows
+pub mod FastPath
+pub mod Settled
+pub mod Untouched
+pub mod Written

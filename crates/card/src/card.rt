@@ -1,6 +1,11 @@
 // What the card holds, by value.
 ghost use mathlib.Core.Path.{_≡_};
 ghost use Rattle.card.specs.Fresh;
+use crate::limits::CELLS;
+use crate::limits::CONNECTORS;
+use crate::limits::FIRST_CELL;
+use crate::limits::INPUT;
+use crate::limits::PUSH_PULL;
 use cells::cell::Cell;
 use cells::cell::Pulses;
 use cells::cell::State;
@@ -29,14 +34,19 @@ pub struct Memory {
 pub struct Card {
     pub pointer: u8,
     pub trigger: u8,
-    pub cells: [Cell; 16],
-    pub connectors: [Connector; 16],
+    pub cells: [Cell; CELLS],
+    pub connectors: [Connector; CONNECTORS],
     pub edited: u16,
     pub memory: Memory,
 }
 
 // A card that powers up with settings: all else is fresh.
-pub fn started(trigger: u8, cells: [Cell; 16], connectors: [Connector; 16], edited: u16) -> Card
+pub fn started(
+    trigger: u8,
+    cells: [Cell; CELLS],
+    connectors: [Connector; CONNECTORS],
+    edited: u16,
+) -> Card
     ensures { λ c. ⌜ c ≡ Fresh.started trigger cells connectors edited ⌝ }
 {
     let memory = Memory {
@@ -48,7 +58,7 @@ pub fn started(trigger: u8, cells: [Cell; 16], connectors: [Connector; 16], edit
         levels2: 0,
     };
     Card {
-        pointer: 1,
+        pointer: FIRST_CELL,
         trigger: trigger,
         cells: cells,
         connectors: connectors,
@@ -71,8 +81,14 @@ pub fn fresh() -> Card
             pulse: false,
         },
     };
-    let front = Connector { kind: 2, source: 0 };
-    let back = Connector { kind: 0, source: 0 };
+    let front = Connector {
+        kind: PUSH_PULL,
+        source: 0,
+    };
+    let back = Connector {
+        kind: INPUT,
+        source: 0,
+    };
     let connectors = [
         front,
         front,
@@ -91,5 +107,5 @@ pub fn fresh() -> Card
         back,
         back,
     ];
-    started(0, [cell; 16], connectors, 0)
+    started(0, [cell; CELLS], connectors, 0)
 }

@@ -3,6 +3,9 @@ ghost use mathlib.Core.Path.{_≡_};
 ghost use Rattle.words.specs.Bits.{bitAt};
 ghost use Rattle.card.specs.Connectors.{drivenBit, levelBit, linesOf};
 use crate::card::Connector;
+use crate::limits::CONNECTORS;
+use crate::limits::OPEN_DRAIN;
+use crate::limits::PUSH_PULL;
 use crate::view::read;
 
 // The driven word and the levels of a tick.
@@ -15,7 +18,7 @@ pub struct Lines {
 fn driven_bit(c: Connector, now: u64, before: u64) -> bool
     ensures { λ q. ⌜ q ≡ drivenBit (bitAt now) (bitAt before) c ⌝ }
 {
-    if (c.kind == 1) | (c.kind == 2) {
+    if (c.kind == OPEN_DRAIN) | (c.kind == PUSH_PULL) {
         read(now, before, c.source)
     } else {
         false
@@ -26,9 +29,9 @@ fn driven_bit(c: Connector, now: u64, before: u64) -> bool
 fn level_bit(kind: u8, sample: bool, driven: bool) -> bool
     ensures { λ q. ⌜ q ≡ levelBit kind sample driven ⌝ }
 {
-    if kind == 2 {
+    if kind == PUSH_PULL {
         driven
-    } else if kind == 1 {
+    } else if kind == OPEN_DRAIN {
         sample & driven
     } else {
         sample
@@ -36,7 +39,7 @@ fn level_bit(kind: u8, sample: bool, driven: bool) -> bool
 }
 
 // Both words, connector by connector.
-pub fn drive(connectors: [Connector; 16], now: u64, before: u64, sample: u16) -> Lines
+pub fn drive(connectors: [Connector; CONNECTORS], now: u64, before: u64, sample: u16) -> Lines
     ensures { λ l. ⌜ l ≡ linesOf (bitAt now) (bitAt before) connectors sample ⌝ }
 {
     let mut driven: u16 = 0;

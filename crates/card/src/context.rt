@@ -8,6 +8,8 @@ use crate::card::Connector;
 use crate::edits::at_cell;
 use crate::edits::current_cell;
 use crate::edits::current_connector;
+use crate::limits::FIRST_CONNECTOR;
+use crate::limits::FRONT_TRIGGER;
 use crate::presets::sets_front;
 use crate::valid::front_driven;
 use cells::cell::Cell;
@@ -117,12 +119,12 @@ pub fn read_back(x: Context) -> u16
 pub fn drives_front(x: Context, v: u32) -> bool
     ensures { λ q. ⌜ q ≡ drivesFront x v ⌝ }
 {
-    (x.pointer == 33) & front_driven(x.trigger, v)
+    (x.pointer == FIRST_CONNECTOR) & front_driven(x.trigger, v)
 }
 
 // 13: the preset makes BNC1 an output while it brings the trigger.
 pub fn preset_drives(x: Context, v: u32) -> bool
     ensures { λ q. ⌜ q ≡ presetDrives x v ⌝ }
 {
-    sets_front(v) & (x.trigger == 4)
+    sets_front(v) & (x.trigger == FRONT_TRIGGER)
 }

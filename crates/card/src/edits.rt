@@ -8,6 +8,15 @@ ghost use Rattle.card.specs.Edits.{atCell, currentCell, currentConnector
 ghost use Rattle.card.specs.Edits.{setType, setConfig, setState, wiredSlots, setSlots, setConnectorType, setSource, blankSlot};
 use crate::card::Card;
 use crate::card::Connector;
+use crate::limits::ALL_CELLS;
+use crate::limits::CELLS;
+use crate::limits::CELLS_END;
+use crate::limits::CONNECTORS_END;
+use crate::limits::EDGES;
+use crate::limits::FIRST_CELL;
+use crate::limits::FIRST_CONNECTOR;
+use crate::limits::FRONT_TRIGGER;
+use crate::limits::INPUT;
 use cells::cell::Cell;
 use cells::cell::Pulses;
 use cells::cell::State;
@@ -25,7 +34,7 @@ const CLEAR: State = State {
 pub fn at_cell(card: Card) -> bool
     ensures { λ q. ⌜ q ≡ atCell cellCount card ⌝ }
 {
-    (1 <= card.pointer) & (card.pointer < 17)
+    (FIRST_CELL <= card.pointer) & (card.pointer < CELLS_END)
 }
 
 // The cell at the pointer.
@@ -33,8 +42,8 @@ pub fn current_cell(card: Card) -> Cell
     ensures { λ r. ⌜ r ≡ currentCell cellCount card ⌝ }
 {
     let p = card.pointer;
-    if (1 <= p) & (p < 17) {
-        let at = (p - 1) as usize;
+    if (FIRST_CELL <= p) & (p < CELLS_END) {
+        let at = (p - FIRST_CELL) as usize;
         card.cells[at]
     } else {
         Cell {
@@ -51,11 +60,14 @@ pub fn current_connector(card: Card) -> Connector
     ensures { λ r. ⌜ r ≡ currentConnector card ⌝ }
 {
     let p = card.pointer;
-    if (33 <= p) & (p < 49) {
-        let at = (p - 33) as usize;
+    if (FIRST_CONNECTOR <= p) & (p < CONNECTORS_END) {
+        let at = (p - FIRST_CONNECTOR) as usize;
         card.connectors[at]
     } else {
-        Connector { kind: 0, source: 0 }
+        Connector {
+            kind: INPUT,
+            source: 0,
+        }
     }
 }
 
@@ -64,8 +76,8 @@ fn put_cell(card: Card, cell: Cell) -> Card
     ensures { λ r. ⌜ r ≡ putCell cellCount card cell ⌝ }
 {
     let p = card.pointer;
-    if (1 <= p) & (p < 17) {
-        let i = (p - 1) as u32;
+    if (FIRST_CELL <= p) & (p < CELLS_END) {
+        let i = (p - FIRST_CELL) as u32;
         let at = i as usize;
         let mut next = card;
         next.cells[at] = cell;
@@ -81,8 +93,8 @@ fn put_connector(card: Card, connector: Connector) -> Card
     ensures { λ r. ⌜ r ≡ putConnector card connector ⌝ }
 {
     let p = card.pointer;
-    if (33 <= p) & (p < 49) {
-        let at = (p - 33) as usize;
+    if (FIRST_CONNECTOR <= p) & (p < CONNECTORS_END) {
+        let at = (p - FIRST_CONNECTOR) as usize;
         let mut next = card;
         next.connectors[at] = connector;
         next
@@ -105,10 +117,10 @@ pub fn set_trigger(card: Card, t: u8) -> Card
 {
     let mut next = card;
     next.trigger = t;
-    if t == 4 {
+    if t == FRONT_TRIGGER {
         let old = card.connectors[0];
         next.connectors[0] = Connector {
-            kind: 0,
+            kind: INPUT,
             source: old.source,
         };
     }
@@ -116,12 +128,12 @@ pub fn set_trigger(card: Card, t: u8) -> Card
 }
 
 // Every cell with its state cleared.
-fn cleared(cells: [Cell; 16]) -> [Cell; 16]
+fn cleared(cells: [Cell; CELLS]) -> [Cell; CELLS]
     ensures { λ r. ⌜ r ≡ map clearedCell cells ⌝ }
 {
     let clear = CLEAR;
     let mut next = cells;
-    for i in 0..16usize {
+    for i in 0..CELLS {
         let mut cell = cells[i];
         cell.state = clear;
         next[i] = cell;
@@ -136,7 +148,7 @@ pub fn home(card: Card) -> Card
     let after = cleared(cells);
     let mut next = card;
     next.cells = after;
-    next.edited = 65535;
+    next.edited = ALL_CELLS;
     next
 }
 
@@ -144,7 +156,7 @@ pub fn home(card: Card) -> Card
 fn blank_slot(edge: bool) -> u8
     ensures { λ r. ⌜ r ≡ blankSlot edge ⌝ }
 {
-    if edge { 128 } else { 0 }
+    if edge { EDGES } else { 0 }
 }
 
 fn typed(kind: u8) -> Cell
@@ -241,7 +253,7 @@ fn wired_slot(given: bool, edge: bool, v: u8, old: u8) -> u8
     ensures { λ r. ⌜ r ≡ wiredSlot given edge v old ⌝ }
 {
     if given {
-        if edge & (v < 128) { v + 128 } else { v }
+        if edge & (v < EDGES) { v + EDGES } else { v }
     } else {
         old
     }

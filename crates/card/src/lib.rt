@@ -4,6 +4,7 @@ pub mod change;
 pub mod connectors;
 pub mod context;
 pub mod edits;
+pub mod limits;
 pub mod presets;
 pub mod record;
 pub mod tick;

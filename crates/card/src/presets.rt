@@ -14,6 +14,9 @@ ghost use Rattle.card.specs.Presets.{offered, presetCell, presetSource, 
 ghost use Rattle.card.specs.Tick.{noCell};
 use crate::card::Card;
 use crate::card::Connector;
+use crate::limits::CELLS;
+use crate::limits::CONNECTORS;
+use crate::limits::PUSH_PULL;
 use cells::cell::Cell;
 use cells::cell::Pulses;
 use cells::cell::State;
@@ -86,7 +89,7 @@ const SOURCES: [u64; 60] = [
 // Two rows for each preset number, read by bytes: the first cell that it sets and how many from there, then that cell's type, configuration
 // and slots X Y Z F; in the second row, behind a zero, 1 where the addresses in X and Y are the cell's index further, then the type,
 // configuration and slots of the other cells. No later preset sets a cell.
-const CELLS: [u64; 74] = [
+const CELL_ROWS: [u64; 74] = [
     0x01_10_00_00_00_00_00_00,
     0x00_00_00_00_00_00_00_00,
     0x00_00_00_00_00_00_00_00,
@@ -188,7 +191,7 @@ fn source_rows() -> [u64; 60]
 fn cell_rows() -> [u64; 74]
     ensures { λ r. ⌜ CellRows r ⌝ }
 {
-    CELLS
+    CELL_ROWS
 }
 
 // A number past the table sources nothing.
@@ -259,7 +262,7 @@ fn connector_under(row: u64, k: u32, old: Connector) -> Connector
         let first = words::bit(row, 24 + k);
         let a = address(first, byte(row, 2), byte(row, 1));
         Connector {
-            kind: 2,
+            kind: PUSH_PULL,
             source: stepped(words::bit(row, 0), k as u8, a),
         }
     } else {
@@ -312,7 +315,7 @@ fn cell_under(row: CellRow, i: u32, old: Cell) -> Cell
     }
 }
 
-fn connectors_under(row: u64, connectors: [Connector; 16]) -> [Connector; 16]
+fn connectors_under(row: u64, connectors: [Connector; CONNECTORS]) -> [Connector; CONNECTORS]
     ensures { λ r. ⌜ r ≡ listed (λ k. sourced (sourceIn row k) (getD connectors k noConnector)) connectorCount ⌝ }
 {
     let mut next = connectors;
@@ -324,7 +327,7 @@ fn connectors_under(row: u64, connectors: [Connector; 16]) -> [Connector; 16]
     next
 }
 
-fn cells_under(row: CellRow, cells: [Cell; 16]) -> [Cell; 16]
+fn cells_under(row: CellRow, cells: [Cell; CELLS]) -> [Cell; CELLS]
     ensures { λ r. ⌜ r ≡ listed (λ i. Option·getD (cellIn (row .0) (row .1) i) (getD cells i noCell)) cellCount ⌝ }
 {
     let mut next = cells;

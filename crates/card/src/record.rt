@@ -12,6 +12,10 @@ ghost use Rattle.card.specs.Record.{cellIn, connectorIn, cellsIn, connec
 use crate::card::Card;
 use crate::card::Connector;
 use crate::card::started;
+use crate::limits::ALL_CELLS;
+use crate::limits::CELLS;
+use crate::limits::CONNECTORS;
+use crate::limits::FIRST_CONNECTOR;
 use crate::valid::valid_settings;
 use cells::cell::Cell;
 use cells::cell::Pulses;
@@ -40,16 +44,16 @@ fn cell_bytes(i: u8, cell: Cell) -> [u8; 11]
     [2, 0, 8, i + 1, cell.kind, high, low, s[0], s[1], s[2], s[3]]
 }
 
-// The field of connector k, whose address is k + 33.
+// The field of connector k, whose address is k + FIRST_CONNECTOR.
 fn connector_bytes(k: u8, c: Connector) -> [u8; 6]
     requires { ⌜ k < connectorCount ⌝ }
     ensures { λ r. ⌜ r ≡ connectorField k c ⌝ }
 {
-    [3, 0, 3, k + 33, c.kind, c.source]
+    [3, 0, 3, k + FIRST_CONNECTOR, c.kind, c.source]
 }
 
 // The fields of all cells, after that of the trigger.
-fn with_cells(out: [u8; RECORD_LENGTH], cells: [Cell; 16]) -> [u8; RECORD_LENGTH]
+fn with_cells(out: [u8; RECORD_LENGTH], cells: [Cell; CELLS]) -> [u8; RECORD_LENGTH]
     ensures { λ r. ⌜ r ≡ sets out triggerLength (fieldsFrom (cellField configWidth) 0 cells) ⌝ }
     ensures { λ r. ⌜ length (fieldsFrom (cellField configWidth) 0 cells) ≡ cellCount * cellLength configWidth ⌝ }
 {
@@ -63,7 +67,10 @@ fn with_cells(out: [u8; RECORD_LENGTH], cells: [Cell; 16]) -> [u8; RECORD_LENGTH
 }
 
 // The fields of all connectors, after those of the cells.
-fn with_connectors(out: [u8; RECORD_LENGTH], connectors: [Connector; 16]) -> [u8; RECORD_LENGTH]
+fn with_connectors(
+    out: [u8; RECORD_LENGTH],
+    connectors: [Connector; CONNECTORS],
+) -> [u8; RECORD_LENGTH]
     ensures { λ r. ⌜ r ≡ sets out (triggerLength + cellCount * cellLength configWidth) (fieldsFrom connectorField 0 connectors) ⌝ }
     ensures { λ r. ⌜ length (fieldsFrom connectorField 0 connectors) ≡ connectorCount * connectorLength ⌝ }
 {
@@ -77,7 +84,11 @@ fn with_connectors(out: [u8; RECORD_LENGTH], connectors: [Connector; 16]) -> [u8
 }
 
 // The settings as bytes.
-fn encoded(trigger: u8, cells: [Cell; 16], connectors: [Connector; 16]) -> [u8; RECORD_LENGTH]
+fn encoded(
+    trigger: u8,
+    cells: [Cell; CELLS],
+    connectors: [Connector; CONNECTORS],
+) -> [u8; RECORD_LENGTH]
     ensures { λ r. ⌜ r ≡ encode configWidth trigger cells connectors ⌝ }
 {
     let first = [1, 0, 1, trigger];
@@ -130,13 +141,13 @@ fn connector_in(bytes: &[u8], k: usize) -> Connector
 }
 
 // All cells of a record.
-fn cells_in(bytes: &[u8]) -> [Cell; 16]
+fn cells_in(bytes: &[u8]) -> [Cell; CELLS]
     requires { ⌜ length (now bytes) ≡ recordLength cellCount configWidth ⌝ }
     ensures { λ r. ⌜ r ≡ cellsIn cellCount configWidth (now (bytes .entry)) ⌝ }
 {
     let first = cell_in(bytes, 0);
-    let mut cells = [first; 16];
-    for i in 1..16usize {
+    let mut cells = [first; CELLS];
+    for i in 1..CELLS {
         let cell = cell_in(bytes, i);
         cells[i] = cell;
     }
@@ -144,13 +155,13 @@ fn cells_in(bytes: &[u8]) -> [Cell; 16]
 }
 
 // All connectors of a record.
-fn connectors_in(bytes: &[u8]) -> [Connector; 16]
+fn connectors_in(bytes: &[u8]) -> [Connector; CONNECTORS]
     requires { ⌜ length (now bytes) ≡ recordLength cellCount configWidth ⌝ }
     ensures { λ r. ⌜ r ≡ connectorsIn cellCount configWidth (now (bytes .entry)) ⌝ }
 {
     let first = connector_in(bytes, 0);
-    let mut connectors = [first; 16];
-    for k in 1..16usize {
+    let mut connectors = [first; CONNECTORS];
+    for k in 1..CONNECTORS {
         let c = connector_in(bytes, k);
         connectors[k] = c;
     }
@@ -190,7 +201,7 @@ pub fn load(card: Card, bytes: &[u8]) -> Loaded
     if !same(&again, bytes) {
         return Loaded { card: card, k: 14 };
     }
-    let next = started(trigger, cells, connectors, 65535);
+    let next = started(trigger, cells, connectors, ALL_CELLS);
     if !valid_settings(trigger, cells, connectors) {
         return Loaded { card: card, k: 15 };
     }

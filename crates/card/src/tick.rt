@@ -6,13 +6,14 @@ ghost use Rattle.words.specs.Bits.{bitAt};
 ghost use Rattle.cells.specs.Wake.{stirred, wakes};
 ghost use Rattle.cells.specs.Work.{slotsOf};
 ghost use Rattle.card.specs.Address.{cellCount, slotsRead};
-ghost use Rattle.card.specs.Quiet.{steadyWires, AllRest, sleptAll};
+ghost use Rattle.card.specs.FastPath.{steadyWires, AllRest, sleptAll};
 ghost use Rattle.card.specs.Tick;
 ghost use Rattle.card.specs.Tick.{workedTurn, readLast, turnAt, turned, ticked};
 use crate::card::Card;
 use crate::card::Memory;
 use crate::connectors::Lines;
 use crate::connectors::drive;
+use crate::limits::CELLS;
 use crate::view::readings;
 use crate::view::sees;
 use cells::cell::Cell;
@@ -45,7 +46,7 @@ pub struct Turn {
 
 // What a tick makes of all cells.
 pub struct Turned {
-    pub cells: [Cell; 16],
+    pub cells: [Cell; CELLS],
     pub outputs: u16,
     pub woken: u16,
 }
@@ -123,7 +124,7 @@ fn turn_at(full: bool, cell: Cell, i: u32, edited: u16, w: Wires, below: u16) ->
 }
 
 // The turns of all cells, in order.
-fn turn_each(full: bool, cells: [Cell; 16], edited: u16, w: Wires) -> Turned
+fn turn_each(full: bool, cells: [Cell; CELLS], edited: u16, w: Wires) -> Turned
     ensures { λ t. ⌜ t ≡ turned cellCount full cells edited w ⌝ }
 {
     let mut next = cells;
@@ -144,7 +145,7 @@ fn turn_each(full: bool, cells: [Cell; 16], edited: u16, w: Wires) -> Turned
     }
 }
 
-// ---- the quiet way of a quick tick
+// ---- the fast path of a quick tick
 //
 // While no cell is edited and every word is what it was in the last two ticks, all readers see one view, level slots read as they did, and a cell
 // sleeps unless an edge slot of it is high all the same.
@@ -161,10 +162,10 @@ fn rests(cell: Cell, view: u64) -> bool
     !cells::wake::stirred(cell.kind, cell.state, now)
 }
 
-fn all_rest(cells: [Cell; 16], view: u64) -> bool
+fn all_rest(cells: [Cell; CELLS], view: u64) -> bool
     ensures { λ q. ⌜ (q ≡ true → AllRest cellCount (bitAt view) cells) ⌝ }
 {
-    for i in 0..16usize {
+    for i in 0..CELLS {
         if !rests(cells[i], view) {
             return false;
         }
@@ -181,7 +182,7 @@ fn unchanged(w: Wires) -> bool
 }
 
 // Whether a tick leaves every cell as it is. It may say no where a closer look would say yes.
-fn is_quiet(full: bool, cells: [Cell; 16], edited: u16, w: Wires) -> bool
+fn is_quiet(full: bool, cells: [Cell; CELLS], edited: u16, w: Wires) -> bool
     ensures { λ q. ⌜ (q ≡ true → turned cellCount full cells edited w ≡ sleptAll cells (w .outputs)) ⌝ }
 {
     if full | (edited != 0) {
@@ -194,7 +195,7 @@ fn is_quiet(full: bool, cells: [Cell; 16], edited: u16, w: Wires) -> bool
 }
 
 // What a tick makes of all cells.
-fn turn_all(full: bool, cells: [Cell; 16], edited: u16, w: Wires) -> Turned
+fn turn_all(full: bool, cells: [Cell; CELLS], edited: u16, w: Wires) -> Turned
     ensures { λ t. ⌜ t ≡ turned cellCount full cells edited w ⌝ }
 {
     if is_quiet(full, cells, edited, w) {

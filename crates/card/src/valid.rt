@@ -4,6 +4,10 @@ ghost use Rattle.card.specs.Address.{cellCount};
 ghost use Rattle.card.specs.Valid.{badPlace, badCellType, badConnectorType, badClock, badConfig, unusedSlot, badAddress, frontDriven};
 ghost use Rattle.card.specs.Valid.{validSlot, validSlots, validCell, validConnector, every, valid, noConfig, badStateAs, badState, noState};
 use crate::card::Connector;
+use crate::limits::CELLS;
+use crate::limits::CONNECTORS;
+use crate::limits::EDGES;
+use crate::limits::FRONT_TRIGGER;
 use cells::cell::Cell;
 use cells::table::Kept;
 use cells::table::Row;
@@ -65,7 +69,7 @@ pub fn bad_address(a: u32) -> bool
 pub fn front_driven(trigger: u8, kind: u32) -> bool
     ensures { λ r. ⌜ r ≡ frontDriven trigger kind ⌝ }
 {
-    (trigger == 4) & ((kind == 1) | (kind == 2))
+    (trigger == FRONT_TRIGGER) & ((kind == 1) | (kind == 2))
 }
 
 // What a slot may hold.
@@ -73,7 +77,7 @@ fn valid_slot(used: bool, edge: bool, a: u8) -> bool
     ensures { λ r. ⌜ r ≡ validSlot cellCount used edge a ⌝ }
 {
     if used {
-        !bad_address(a as u32) & (!edge | (128 <= a))
+        !bad_address(a as u32) & (!edge | (EDGES <= a))
     } else {
         a == 0
     }
@@ -110,11 +114,11 @@ fn valid_connector(c: Connector) -> bool
 }
 
 // Every cell may have its settings.
-fn valid_cells(cells: [Cell; 16]) -> bool
+fn valid_cells(cells: [Cell; CELLS]) -> bool
     ensures { λ r. ⌜ r ≡ every (validCell cellCount) cells ⌝ }
 {
     let mut ok = true;
-    for i in 0..16usize {
+    for i in 0..CELLS {
         let v = valid_cell(cells[i]);
         ok = ok & v;
     }
@@ -122,11 +126,11 @@ fn valid_cells(cells: [Cell; 16]) -> bool
 }
 
 // So may every connector.
-fn valid_connectors(connectors: [Connector; 16]) -> bool
+fn valid_connectors(connectors: [Connector; CONNECTORS]) -> bool
     ensures { λ r. ⌜ r ≡ every (validConnector cellCount) connectors ⌝ }
 {
     let mut ok = true;
-    for k in 0..16usize {
+    for k in 0..CONNECTORS {
         let v = valid_connector(connectors[k]);
         ok = ok & v;
     }
@@ -134,7 +138,11 @@ fn valid_connectors(connectors: [Connector; 16]) -> bool
 }
 
 // The settings that lines can set.
-pub fn valid_settings(trigger: u8, cells: [Cell; 16], connectors: [Connector; 16]) -> bool
+pub fn valid_settings(
+    trigger: u8,
+    cells: [Cell; CELLS],
+    connectors: [Connector; CONNECTORS],
+) -> bool
     ensures { λ r. ⌜ r ≡ valid cellCount trigger cells connectors ⌝ }
 {
     let front = connectors[0];

@@ -1,3 +1,4 @@
+-- What a reader must believe, in the order of document 01.
 pub mod Table
 pub mod Work
 pub mod Wake

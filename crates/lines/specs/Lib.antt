@@ -1,12 +1,13 @@
--- The definitions that the contracts cite, in the order of document 01.
+-- What a reader must believe, in the order of document 01.
 pub mod Grammar
 pub mod Refusal
 pub mod Line
 pub mod Calls
 pub mod Demand3
-pub mod SaveLoad
-pub mod Examples
-pub mod Box
 pub mod History
-pub mod Wiring
+pub mod SaveLoad
 pub mod Settable
+pub mod Box
+pub mod Examples
+-- Another view of a rule above: the way from settings to lines, which the laws of Settable go by.
+pub mod Wiring

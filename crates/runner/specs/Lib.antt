@@ -1,2 +1,2 @@
--- The definitions that the contracts cite.
+-- What a reader must believe: the definitions that the contracts cite.
 pub mod Run

@@ -1,4 +1,4 @@
--- The definitions that the contracts cite.
+-- What a reader must believe: the definitions that the contracts cite.
 pub mod Digits
 pub mod Decimal
 pub mod Hex

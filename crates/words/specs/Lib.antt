@@ -1,3 +1,3 @@
--- The definitions that the contracts cite.
+-- What a reader must believe: the definitions that the contracts cite.
 pub mod Bits
 pub mod Listed

@@ -8,7 +8,7 @@ use lib.ListN.{drop, length, replicate}
 use borrow.Author.Needs.{needs}
 use Rattle.words.specs.Listed.{listed}
 use Rattle.words.proofs.Listed.{listed-next, listed-done}
-use Rattle.card.specs.Address.{cellCount}
+use Rattle.card.specs.Address.{cellCount, connectorCount}
 use Rattle.card.specs.Record.{configWidth, connectorIn}
 use Rattle.card.proofs.record.connectors_in.Statement.{statement}
 use Rattle.card.proofs.record.connectors_in.Tie as tie
@@ -16,12 +16,12 @@ use Rattle.card.proofs.record.connectors_in.Tie as tie
 abbrev Inv-loop : tie.InvT-loop
 Inv-loop bytes connectors₀ k₀ connectors k =
     (1 ≤ k)
-    × (k ≤ cellCount)
+    × (k ≤ connectorCount)
     × (connectors ≡ listed (connectorIn cellCount configWidth bytes) k ++ drop k connectors₀)
-    × (length connectors₀ ≡ cellCount)
+    × (length connectors₀ ≡ connectorCount)
 
 abbrev μ-loop : tie.MeasureT-loop
-μ-loop bytes connectors₀ k₀ connectors k = cellCount - k
+μ-loop bytes connectors₀ k₀ connectors k = connectorCount - k
 
 connector-in-requires : tie.Need-connector-in-requires Inv-loop μ-loop
 connector-in-requires c κs = search needs
@@ -55,8 +55,8 @@ returns : tie.Need-returns Inv-loop μ-loop
 returns c =
     let l = c .before .loop in
     let f = connectorIn cellCount configWidth (c .before .before .before .before .args .bytes .now) in
-    let end : l .k ≡ cellCount = omega arith in
-    listed-done f cellCount (replicate cellCount (c .before .before .connector-in .result)) (l .connectors) (rw end at (l .inv .2)) (le-refl cellCount)
+    let end : l .k ≡ connectorCount = omega arith in
+    listed-done f connectorCount (replicate connectorCount (c .before .before .connector-in .result)) (l .connectors) (rw end at (l .inv .2)) (le-refl connectorCount)
 
 pub connectors-in-spec : {M : Type 1} → statement M
 connectors-in-spec =

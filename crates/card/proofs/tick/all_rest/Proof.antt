@@ -7,9 +7,9 @@ use native.Mathlib.Omega.{arith}
 use lib.ListN.{getD}
 use Rattle.words.specs.Bits.{bitAt}
 use Rattle.card.specs.Address.{cellCount}
-use Rattle.card.specs.Quiet.{AllRest}
+use Rattle.card.specs.FastPath.{AllRest}
 use borrow.Author.Tests.{not-false}
-use Rattle.card.proofs.Quiet.{rest-next}
+use Rattle.card.proofs.FastPath.{rest-next}
 use borrow.Author.Needs.{needs}
 use Rattle.card.proofs.tick.all_rest.Statement.{statement}
 use Rattle.card.proofs.tick.all_rest.Tie as tie

@@ -1,4 +1,4 @@
--- `card::tick::is_quiet` meets its contract: what it tests is what the law of the quiet way asks.
+-- `card::tick::is_quiet` meets its contract: what it tests is what the law of the fast path asks.
 use Prim.Native.Nat.{ℕ}
 use mathlib.Core.Path.{_≡_, sym, ap, _∙_}
 use mathlib.Core.Bool.{Bool, true, false, false≢true}
@@ -8,10 +8,10 @@ use Rattle.words.specs.Bits.{bitAt, wordOf}
 use Rattle.cells.specs.Wake.{stirred}
 use Rattle.cells.proofs.Laws.{or-left, or-right}
 use Rattle.card.specs.Address.{cellCount, slotsRead, view}
-use Rattle.card.specs.Quiet.{AllRest}
+use Rattle.card.specs.FastPath.{AllRest}
 use Rattle.card.specs.Tick.{noCell, turned}
 use Rattle.card.proofs.Views.{slots-built}
-use Rattle.card.proofs.Quiet.{quiet-turned}
+use Rattle.card.proofs.FastPath.{quiet-turned}
 use borrow.Author.Needs.{needs}
 use Rattle.card.proofs.tick.is_quiet.Statement.{statement}
 use Rattle.card.proofs.tick.is_quiet.Tie as tie

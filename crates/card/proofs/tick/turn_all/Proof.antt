@@ -1,4 +1,4 @@
--- `card::tick::turn_all` meets its contract: a quiet tick by the law of the quiet way, any other cell by cell.
+-- `card::tick::turn_all` meets its contract: a quiet tick by the law of the fast path, any other cell by cell.
 use mathlib.Core.Path.{sym}
 use borrow.Author.Needs.{needs}
 use Rattle.card.proofs.tick.turn_all.Statement.{statement}

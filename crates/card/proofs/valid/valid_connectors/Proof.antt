@@ -6,7 +6,7 @@ use native.Mathlib.Omega.{arith}
 use lib.ListN.{take}
 use lib.Seq.{take-all}
 use borrow.Author.Needs.{needs}
-use Rattle.card.specs.Address.{cellCount}
+use Rattle.card.specs.Address.{cellCount, connectorCount}
 use Rattle.card.specs.Valid.{validConnector, every}
 use Rattle.card.specs.Connectors.{noConnector}
 use Rattle.card.proofs.Settings.{every-next}
@@ -14,10 +14,10 @@ use Rattle.card.proofs.valid.valid_connectors.Statement.{statement}
 use Rattle.card.proofs.valid.valid_connectors.Tie as tie
 
 abbrev Inv-loop : tie.InvT-loop
-Inv-loop connectors ok₀ k₀ ok k = (k ≤ cellCount) × (ok ≡ every (validConnector cellCount) (take k connectors))
+Inv-loop connectors ok₀ k₀ ok k = (k ≤ connectorCount) × (ok ≡ every (validConnector cellCount) (take k connectors))
 
 abbrev μ-loop : tie.MeasureT-loop
-μ-loop connectors ok₀ k₀ ok k = cellCount - k
+μ-loop connectors ok₀ k₀ ok k = connectorCount - k
 
 loop-holds : tie.Need-loop-holds Inv-loop μ-loop
 unfolding every
@@ -50,7 +50,7 @@ loop-again c =
 returns : tie.Need-returns Inv-loop μ-loop
 returns c =
     let l = c .before .loop in
-    let end : l .k ≡ cellCount = omega arith in
+    let end : l .k ≡ connectorCount = omega arith in
     l .inv .1 ∙ ap (every (validConnector cellCount)) (take-all (l .k) (c .before .before .args .t1) (search needs))
 
 pub valid-connectors-spec : {M : Type 1} → statement M

@@ -1,4 +1,4 @@
--- The law of the quiet way: where no cell is edited, no word has changed in the last two ticks and no cell is stirred under the view that all
+-- The law of the fast path: where no cell is edited, no word has changed in the last two ticks and no cell is stirred under the view that all
 -- readers then have, a quick tick leaves every cell and every output as it was.
 use Prim.Native.Nat.{ℕ, zero, suc, _+_, _*_, _^_, _≤_, _<_}
 use mathlib.Core.Path.{_≡_, refl, sym, ap, ap₂, _∙_}
@@ -20,7 +20,7 @@ use Rattle.card.specs.declared.tick.Wires.{Wires}
 use Rattle.card.specs.declared.tick.Turn.{Turn}
 use Rattle.card.specs.Address.{levelAt, slotsRead, mixed, view}
 use Rattle.card.specs.Tick.{noCell, readNow, readLast, sleptTurn, named, turnAt, outputsBelow, turnOf, cellAfter, wokeAt, turned}
-use Rattle.card.specs.Quiet.{steadyWires, AllRest, sleptAll}
+use Rattle.card.specs.FastPath.{steadyWires, AllRest, sleptAll}
 use Rattle.card.proofs.Sleep.{view-same}
 use Rattle.card.proofs.Views.{mixed-one}
 

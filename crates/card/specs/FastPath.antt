@@ -1,4 +1,4 @@
--- The quiet way of a quick tick: what the code tests before it looks at any cell closely. No rule of document 01 stands here; the law is that such a
+-- The fast path of a quick tick: what the code tests before it looks at any cell closely. No rule of document 01 stands here; the law is that such a
 -- tick is the tick of specs/Tick.
 use Prim.Native.Nat.{ℕ, _<_}
 use mathlib.Core.Path.{_≡_}

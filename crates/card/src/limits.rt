@@ -1,0 +1,37 @@
+// The limits of the card by name, in code as in definitions. They serve as array lengths too.
+
+// How many cells and connectors there are, the first place of each, and the place behind the last.
+pub const CELLS: usize = 16;
+
+pub const CONNECTORS: usize = 16;
+
+pub const FIRST_CELL: u8 = 1;
+
+pub const CELLS_END: u8 = FIRST_CELL + CELLS as u8;
+
+pub const FIRST_CONNECTOR: u8 = 33;
+
+pub const CONNECTORS_END: u8 = FIRST_CONNECTOR + CONNECTORS as u8;
+
+// A word with a bit for each cell, and the one with all of them.
+pub type CellWord = u16;
+
+pub const ALL_CELLS: CellWord = 65535;
+
+// A cell's configuration.
+pub type Config = u16;
+
+// The types of a connector.
+pub const INPUT: u8 = 0;
+
+pub const OPEN_DRAIN: u8 = 1;
+
+pub const PUSH_PULL: u8 = 2;
+
+// The largest clock code, and the one under which BNC1 brings the trigger.
+pub const LARGEST_CLOCK: u8 = 4;
+
+pub const FRONT_TRIGGER: u8 = 4;
+
+// The first address of the edges.
+pub const EDGES: u8 = 128;
