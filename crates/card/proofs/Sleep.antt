@@ -25,7 +25,7 @@ use Rattle.card.specs.declared.card.Memory.{Memory}
 use Rattle.card.specs.declared.tick.Input.{Input}
 use Rattle.card.specs.declared.tick.Wires.{Wires}
 use Rattle.card.specs.Address.{cellCount, levelAt, slotsRead, mixed, view}
-use Rattle.card.specs.Fresh.{clearState, freshCell, noMemory, fresh}
+use Rattle.card.specs.Fresh.{clearState, freshCell, noMemory, freshOf}
 use Rattle.card.specs.Tick.{noCell, readNow, readLast, withState, workedTurn, sleptTurn, named, turnAt, outputsBelow, cellAfter, wokeAt, turned}
 use Rattle.card.specs.Tick.{wiresOf, lines, cardAfter, readIn, ticked, idle, tick}
 use Rattle.card.specs.Settled.{remembered, Keeps, Settled, AlikeTicks}
@@ -246,10 +246,10 @@ same-ticks n c input settled = go (eqb (input .code) (c .trigger))
     go false = record { card = refl; ran = refl; driven = refl; cells = refl }
 
 -- a fresh card is settled
-pub fresh-settled : Settled cellCount fresh
-unfolding Settled Keeps fresh
-fresh-settled i h edited now agree quiet =
-    rw (getD-replicate cellCount i freshCell noCell h, bit-zero i) (constant-works 0 clearState now)
+pub fresh-settled : (n : ℕ) → Settled n (freshOf n)
+unfolding Settled Keeps
+fresh-settled n i h edited now agree quiet =
+    rw (getD-replicate n i freshCell noCell h, bit-zero i) (constant-works 0 clearState now)
 
 -- not every card is settled: on this one the two kinds of tick differ
 pub not-settled : Settled cellCount unsettled → ⊥

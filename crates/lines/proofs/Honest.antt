@@ -14,7 +14,7 @@ use Rattle.cells.specs.declared.table.Slots.{Slots}
 use Rattle.cells.specs.Wake.{wakes}
 use Rattle.card.specs.declared.card.Card.{Card}
 use Rattle.card.specs.Address.{cellCount}
-use Rattle.card.specs.Fresh.{noMemory, fresh}
+use Rattle.card.specs.Fresh.{noMemory, freshOf}
 use Rattle.card.specs.Record.{configWidth, loadNumber, loaded}
 use Rattle.card.specs.Settled.{remembered}
 use Rattle.card.specs.Tick
@@ -26,107 +26,107 @@ use Rattle.lines.specs.Calls.Call.{line, load, tick}
 use Rattle.lines.specs.History.{editedNext, editedSince, Readings, lowReadings, readNext, readSince, WhoWakes, lastNext, lastSince}
 use Rattle.lines.proofs.Lists.{line-edit}
 
--- ---- edits
+module _ (n : ℕ) where
+  -- ---- edits
 
--- after a call a cell is edited as the calls say
-pub call-edited : (c : Card) (call : Call) (i : ℕ) → i < cellCount → bitAt (after c call .edited) i ≡ editedNext c call i (bitAt (c .edited) i)
-unfolding after editedNext lineOutcome loaded Tick.tick
-call-edited c (line text reply store) i h = changed-bit cellCount c (lineChange cellCount c text (length reply) (length store)) i h
-call-edited c (load bytes) i h = go (eqb (loadNumber cellCount configWidth bytes) 0) _ refl
-  where
-    go : (b : Bool) (d : Card) → d .edited ≡ 2 ^ cellCount - 1 → bitAt (cond b d c .edited) i ≡ cond b true (bitAt (c .edited) i)
-    go true d e = rw e (bit-ones cellCount i h)
-    go false d e = refl
-call-edited c (tick full input) i h = go (eqb (input .code) (c .trigger))
-  where
-    go : (b : Bool) → let t = cond b (Tick.ticked cellCount full c input) (Tick.idle c) in
-        bitAt (t .card .edited) i ≡ cond (t .answer .ran) false (bitAt (c .edited) i)
-    go true = bit-zero i
-    go false = refl
+  -- after a call a cell is edited as the calls say
+  pub call-edited : (c : Card) (call : Call) (i : ℕ) → i < n → bitAt (after n c call .edited) i ≡ editedNext n c call i (bitAt (c .edited) i)
+  unfolding after editedNext lineOutcome loaded Tick.tick
+  call-edited c (line text reply store) i h = changed-bit n c (lineChange n c text (length reply) (length store)) i h
+  call-edited c (load bytes) i h = go (eqb (loadNumber n configWidth bytes) 0) _ refl
+    where
+      go : (b : Bool) (d : Card) → d .edited ≡ 2 ^ n - 1 → bitAt (cond b d c .edited) i ≡ cond b true (bitAt (c .edited) i)
+      go true d e = rw e (bit-ones n i h)
+      go false d e = refl
+  call-edited c (tick full input) i h = go (eqb (input .code) (c .trigger))
+    where
+      go : (b : Bool) → let t = cond b (Tick.ticked n full c input) (Tick.idle c) in
+          bitAt (t .card .edited) i ≡ cond (t .answer .ran) false (bitAt (c .edited) i)
+      go true = bit-zero i
+      go false = refl
 
--- over every list
-pub edited-honest : (c : Card) (calls : List Call) (i : ℕ) → i < cellCount → bitAt (end c calls .edited) i ≡ editedSince c calls i (bitAt (c .edited) i)
-unfolding end editedSince
-edited-honest c [] i h = refl
-edited-honest c (call ∷ calls) i h =
-    edited-honest (after c call) calls i h ∙ ap (editedSince (after c call) calls i) (call-edited c call i h)
+  -- over every list
+  pub edited-honest : (c : Card) (calls : List Call) (i : ℕ) → i < n → bitAt (end n c calls .edited) i ≡ editedSince n c calls i (bitAt (c .edited) i)
+  unfolding end editedSince
+  edited-honest c [] i h = refl
+  edited-honest c (call ∷ calls) i h =
+      edited-honest (after n c call) calls i h ∙ ap (editedSince n (after n c call) calls i) (call-edited c call i h)
 
--- from a fresh card, where none is edited
-pub edited-from-fresh : (calls : List Call) (i : ℕ) → i < cellCount → bitAt (end fresh calls .edited) i ≡ editedSince fresh calls i false
-unfolding fresh
-edited-from-fresh calls i h = edited-honest fresh calls i h ∙ ap (editedSince fresh calls i) (bit-zero i)
+  -- from a fresh card, where none is edited
+  pub edited-from-fresh : (calls : List Call) (i : ℕ) → i < n → bitAt (end n (freshOf n) calls .edited) i ≡ editedSince n (freshOf n) calls i false
+  edited-from-fresh calls i h = edited-honest (freshOf n) calls i h ∙ ap (editedSince n (freshOf n) calls i) (bit-zero i)
 
--- ---- words
+  -- ---- words
 
--- after a call the memory is what the calls say
-pub call-last : (c : Card) (call : Call) → after c call .memory ≡ lastNext c call (c .memory)
-unfolding after lastNext loaded Tick.tick
-call-last c (line text reply store) = line-edit cellCount c text (length reply) (length store) .memory
-call-last c (load bytes) = go (eqb (loadNumber cellCount configWidth bytes) 0) _ refl
-  where
-    go : (b : Bool) (d : Card) → d .memory ≡ noMemory → cond b d c .memory ≡ cond b noMemory (c .memory)
-    go true d e = e
-    go false d e = refl
-call-last c (tick full input) = go (eqb (input .code) (c .trigger))
-  where
-    go : (b : Bool) → let t = cond b (Tick.ticked cellCount full c input) (Tick.idle c) in
-        let next = Tick.moved (c .memory) (t .answer .driven) (t .answer .cells) (Tick.lines cellCount c input .levels) in
-        t .card .memory ≡ cond (t .answer .ran) next (c .memory)
-    go true = refl
-    go false = refl
+  -- after a call the memory is what the calls say
+  pub call-last : (c : Card) (call : Call) → after n c call .memory ≡ lastNext n c call (c .memory)
+  unfolding after lastNext loaded Tick.tick
+  call-last c (line text reply store) = line-edit n c text (length reply) (length store) .memory
+  call-last c (load bytes) = go (eqb (loadNumber n configWidth bytes) 0) _ refl
+    where
+      go : (b : Bool) (d : Card) → d .memory ≡ noMemory → cond b d c .memory ≡ cond b noMemory (c .memory)
+      go true d e = e
+      go false d e = refl
+  call-last c (tick full input) = go (eqb (input .code) (c .trigger))
+    where
+      go : (b : Bool) → let t = cond b (Tick.ticked n full c input) (Tick.idle c) in
+          let next = Tick.moved (c .memory) (t .answer .driven) (t .answer .cells) (Tick.lines n c input .levels) in
+          t .card .memory ≡ cond (t .answer .ran) next (c .memory)
+      go true = refl
+      go false = refl
 
--- over every list
-pub last-honest : (c : Card) (calls : List Call) → end c calls .memory ≡ lastSince c calls (c .memory)
-unfolding end lastSince
-last-honest c [] = refl
-last-honest c (call ∷ calls) = last-honest (after c call) calls ∙ ap (lastSince (after c call) calls) (call-last c call)
+  -- over every list
+  pub last-honest : (c : Card) (calls : List Call) → end n c calls .memory ≡ lastSince n c calls (c .memory)
+  unfolding end lastSince
+  last-honest c [] = refl
+  last-honest c (call ∷ calls) = last-honest (after n c call) calls ∙ ap (lastSince n (after n c call) calls) (call-last c call)
 
--- ---- readings
+  -- ---- readings
 
--- before the first tick everything counts as low
-low-fresh : (i : ℕ) → remembered cellCount i (fresh .memory) ≡ lowReadings
-unfolding fresh lowReadings
-low-fresh i = started-low cellCount i
+  -- before the first tick everything counts as low
+  low-fresh : (i : ℕ) → remembered n i ((freshOf n) .memory) ≡ lowReadings
+  unfolding lowReadings
+  low-fresh i = started-low n i
 
--- after a call the memory says what the last tick that ran read, as the calls say it
-pub call-read : (c : Card) (call : Call) (i : ℕ) → i ≤ cellCount
-    → remembered cellCount i (after c call .memory) ≡ readNext c call i (remembered cellCount i (c .memory))
-unfolding after readNext lowReadings loaded Tick.tick
-call-read c (line text reply store) i h = ap (remembered cellCount i) (line-edit cellCount c text (length reply) (length store) .memory)
-call-read c (load bytes) i h = go (eqb (loadNumber cellCount configWidth bytes) 0) _ (started-low cellCount i)
-  where
-    go : (b : Bool) (d : Card) → remembered cellCount i (d .memory) ≡ lowReadings
-        → remembered cellCount i (cond b d c .memory) ≡ cond b lowReadings (remembered cellCount i (c .memory))
-    go true d e = e
-    go false d e = refl
-call-read c (tick full input) i h = go (eqb (input .code) (c .trigger))
-  where
-    go : (b : Bool) → let t = cond b (Tick.ticked cellCount full c input) (Tick.idle c) in
-        remembered cellCount i (t .card .memory) ≡ cond (t .answer .ran) (Tick.readIn cellCount full c input i) (remembered cellCount i (c .memory))
-    go true = λ k s. remembers cellCount full c input i s h k
-    go false = refl
+  -- after a call the memory says what the last tick that ran read, as the calls say it
+  pub call-read : (c : Card) (call : Call) (i : ℕ) → i ≤ n
+      → remembered n i (after n c call .memory) ≡ readNext n c call i (remembered n i (c .memory))
+  unfolding after readNext lowReadings loaded Tick.tick
+  call-read c (line text reply store) i h = ap (remembered n i) (line-edit n c text (length reply) (length store) .memory)
+  call-read c (load bytes) i h = go (eqb (loadNumber n configWidth bytes) 0) _ (started-low n i)
+    where
+      go : (b : Bool) (d : Card) → remembered n i (d .memory) ≡ lowReadings
+          → remembered n i (cond b d c .memory) ≡ cond b lowReadings (remembered n i (c .memory))
+      go true d e = e
+      go false d e = refl
+  call-read c (tick full input) i h = go (eqb (input .code) (c .trigger))
+    where
+      go : (b : Bool) → let t = cond b (Tick.ticked n full c input) (Tick.idle c) in
+          remembered n i (t .card .memory) ≡ cond (t .answer .ran) (Tick.readIn n full c input i) (remembered n i (c .memory))
+      go true = λ k s. remembers n full c input i s h k
+      go false = refl
 
--- over every list
-pub read-honest : (c : Card) (calls : List Call) (i : ℕ) → i ≤ cellCount
-    → remembered cellCount i (end c calls .memory) ≡ readSince c calls i (remembered cellCount i (c .memory))
-unfolding end readSince
-read-honest c [] i h = refl
-read-honest c (call ∷ calls) i h = read-honest (after c call) calls i h ∙ ap (readSince (after c call) calls i) (call-read c call i h)
+  -- over every list
+  pub read-honest : (c : Card) (calls : List Call) (i : ℕ) → i ≤ n
+      → remembered n i (end n c calls .memory) ≡ readSince n c calls i (remembered n i (c .memory))
+  unfolding end readSince
+  read-honest c [] i h = refl
+  read-honest c (call ∷ calls) i h = read-honest (after n c call) calls i h ∙ ap (readSince n (after n c call) calls i) (call-read c call i h)
 
--- from a fresh card
-pub read-from-fresh : (calls : List Call) (i : ℕ) → i ≤ cellCount → remembered cellCount i (end fresh calls .memory) ≡ readSince fresh calls i lowReadings
-read-from-fresh calls i h = read-honest fresh calls i h ∙ ap (readSince fresh calls i) (low-fresh i)
+  -- from a fresh card
+  pub read-from-fresh : (calls : List Call) (i : ℕ) → i ≤ n → remembered n i (end n (freshOf n) calls .memory) ≡ readSince n (freshOf n) calls i lowReadings
+  read-from-fresh calls i h = read-honest (freshOf n) calls i h ∙ ap (readSince n (freshOf n) calls i) (low-fresh i)
 
--- ---- the woken set of a quick tick, said of the list
+  -- ---- the woken set of a quick tick, said of the list
 
-pub who-wakes : WhoWakes
-unfolding WhoWakes Tick.named Tick.tick
-who-wakes calls input i h own =
-    let c = end fresh calls in
-    let levels = Tick.lines cellCount c input .levels in
-    let cell = getD (c .cells) i Tick.noCell in
-    let now = Tick.readIn cellCount false c input i (cell .slots) in
-    let read = read-from-fresh calls i (le-of-lt h) in
-    let last = recalls cellCount i (c .memory) levels (cell .slots) ∙ ap (λ (r : Readings). r (cell .slots)) read in
-    let said = ap₂ (λ (e : Bool) (r : Slots). wakes (cell .kind) (cell .state) e now r) (edited-from-fresh calls i h) last in
-    rw (eq-eqb (input .code) (c .trigger) own) (quick-set cellCount (c .cells) (c .edited) (Tick.wiresOf (c .memory) levels) i h ∙ said)
+  pub who-wakes : WhoWakes n
+  unfolding WhoWakes Tick.named Tick.tick
+  who-wakes calls input i h own =
+      let c = end n (freshOf n) calls in
+      let levels = Tick.lines n c input .levels in
+      let cell = getD (c .cells) i Tick.noCell in
+      let now = Tick.readIn n false c input i (cell .slots) in
+      let read = read-from-fresh calls i (le-of-lt h) in
+      let last = recalls n i (c .memory) levels (cell .slots) ∙ ap (λ (r : Readings). r (cell .slots)) read in
+      let said = ap₂ (λ (e : Bool) (r : Slots). wakes (cell .kind) (cell .state) e now r) (edited-from-fresh calls i h) last in
+      rw (eq-eqb (input .code) (c .trigger) own) (quick-set n (c .cells) (c .edited) (Tick.wiresOf (c .memory) levels) i h ∙ said)

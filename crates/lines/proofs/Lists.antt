@@ -8,12 +8,11 @@ use lib.Dec.{eqb, ltb}
 use lib.ListN.{length}
 use Rattle.card.specs.declared.card.Card.{Card}
 use Rattle.card.specs.declared.tick.Input.{Input}
-use Rattle.card.specs.Address.{cellCount}
 use Rattle.card.specs.declared.change.Change.the-variants.{Nothing}
 use Rattle.card.specs.declared.context.Context.{Context}
 use Rattle.card.specs.Change.{changed}
 use Rattle.card.specs.Context.{contextOf}
-use Rattle.card.specs.Fresh.{fresh}
+use Rattle.card.specs.Fresh.{freshOf}
 use Rattle.card.specs.Record.{configWidth, loaded, loadNumber}
 use Rattle.card.specs.Tick
 use Rattle.card.specs.Settled.{Settled, AlikeTicks}
@@ -55,63 +54,64 @@ unfolding changed lineDecision lineOutcome
 refused-kept n c text reply store e =
     ap (changed n c) (short-nothing n (contextOf n c) (ltb reply shortestReply) store (parse text) e)
 
--- ---- one call
+module _ (n : ℕ) where
+  -- ---- one call
 
-load-settled : (c : Card) (b : Bool) (d : Card) → Settled cellCount d → Settled cellCount c → Settled cellCount (cond b d c)
-load-settled c true d p q = p
-load-settled c false d p q = q
+  load-settled : (c : Card) (b : Bool) (d : Card) → Settled n d → Settled n c → Settled n (cond b d c)
+  load-settled c true d p q = p
+  load-settled c false d p q = q
 
--- every call keeps a card settled
-pub call-settled : (c : Card) (call : Call) → Settled cellCount c → Settled cellCount (after c call)
-unfolding after loaded
-call-settled c (line text reply store) s = edit-settled cellCount c _ (line-edit cellCount c text (length reply) (length store)) s
-call-settled c (load bytes) s = load-settled c (eqb (loadNumber cellCount configWidth bytes) 0) _ (powered-settled cellCount _ _ _) s
-call-settled c (tick full input) s = tick-settled cellCount full c input s
+  -- every call keeps a card settled
+  pub call-settled : (c : Card) (call : Call) → Settled n c → Settled n (after n c call)
+  unfolding after loaded
+  call-settled c (line text reply store) s = edit-settled n c _ (line-edit n c text (length reply) (length store)) s
+  call-settled c (load bytes) s = load-settled c (eqb (loadNumber n configWidth bytes) 0) _ (powered-settled n _ _ _) s
+  call-settled c (tick full input) s = tick-settled n full c input s
 
--- two ticks of any kinds do the same on a settled card
-ticks-alike : (c : Card) (full quick : Bool) (input : Input) → Settled cellCount c
-    → AlikeTicks (Tick.tick cellCount full c input) (Tick.tick cellCount quick c input)
-ticks-alike c true true input s = record { card = refl; ran = refl; driven = refl; cells = refl }
-ticks-alike c false false input s = record { card = refl; ran = refl; driven = refl; cells = refl }
-ticks-alike c false true input s = same-ticks cellCount c input s
-ticks-alike c true false input s =
-    let a = same-ticks cellCount c input s in
-    record { card = sym (a .card); ran = sym (a .ran); driven = sym (a .driven); cells = sym (a .cells) }
+  -- two ticks of any kinds do the same on a settled card
+  ticks-alike : (c : Card) (full quick : Bool) (input : Input) → Settled n c
+      → AlikeTicks (Tick.tick n full c input) (Tick.tick n quick c input)
+  ticks-alike c true true input s = record { card = refl; ran = refl; driven = refl; cells = refl }
+  ticks-alike c false false input s = record { card = refl; ran = refl; driven = refl; cells = refl }
+  ticks-alike c false true input s = same-ticks n c input s
+  ticks-alike c true false input s =
+      let a = same-ticks n c input s in
+      record { card = sym (a .card); ran = sym (a .ran); driven = sym (a .driven); cells = sym (a .cells) }
 
-same-after : (c : Card) {a b : Call} → SameCall a b → Settled cellCount c → after c a ≡ after c b
-unfolding after
-same-after c (same-line text reply other store another p q) s = λ i. lineOutcome cellCount c text (p i) (q i) .card
-same-after c (same-load bytes) s = refl
-same-after c (same-tick full quick input) s = ticks-alike c full quick input s .card
+  same-after : (c : Card) {a b : Call} → SameCall a b → Settled n c → after n c a ≡ after n c b
+  unfolding after
+  same-after c (same-line text reply other store another p q) s = λ i. lineOutcome n c text (p i) (q i) .card
+  same-after c (same-load bytes) s = refl
+  same-after c (same-tick full quick input) s = ticks-alike c full quick input s .card
 
-same-answer : (c : Card) {a b : Call} → SameCall a b → Settled cellCount c → AlikeReply (answer c a) (answer c b)
-unfolding answer
-same-answer c (same-line text reply other store another p q) s = rw (p, q) (alike-line _ _ _)
-same-answer c (same-load bytes) s = alike-load _
-same-answer c (same-tick full quick input) s =
-    let a = ticks-alike c full quick input s in
-    alike-tick (a .ran) (a .driven) (a .cells)
+  same-answer : (c : Card) {a b : Call} → SameCall a b → Settled n c → AlikeReply (answer n c a) (answer n c b)
+  unfolding answer
+  same-answer c (same-line text reply other store another p q) s = rw (p, q) (alike-line _ _ _)
+  same-answer c (same-load bytes) s = alike-load _
+  same-answer c (same-tick full quick input) s =
+      let a = ticks-alike c full quick input s in
+      alike-tick (a .ran) (a .driven) (a .cells)
 
--- ---- lists
+  -- ---- lists
 
--- from one settled card on
-pub same-lists : (c : Card) {calls others : List Call} → SameCalls calls others → Settled cellCount c
-    → (end c calls ≡ end c others) × AlikeReplies (answers c calls) (answers c others)
-unfolding end answers
-same-lists c no-calls s = (refl, no-replies)
-same-lists c (more-calls {a = a} {b = b} {s = before} {t = t} p ps) s =
-    let e = same-after c p s in
-    let rest = same-lists (after c a) ps (call-settled c a s) in (
-      rest .0 ∙ ap (λ (d : Card). end d t) e,
-      more-replies (same-answer c p s) (subst (λ (d : Card). AlikeReplies (answers (after c a) before) (answers d t)) e (rest .1)),
-    )
+  -- from one settled card on
+  pub same-lists : (c : Card) {calls others : List Call} → SameCalls calls others → Settled n c
+      → (end n c calls ≡ end n c others) × AlikeReplies (answers n c calls) (answers n c others)
+  unfolding end answers
+  same-lists c no-calls s = (refl, no-replies)
+  same-lists c (more-calls {a = a} {b = b} {s = before} {t = t} p ps) s =
+      let e = same-after c p s in
+      let rest = same-lists (after n c a) ps (call-settled c a s) in (
+        rest .0 ∙ ap (λ (d : Card). end n d t) e,
+        more-replies (same-answer c p s) (subst (λ (d : Card). AlikeReplies (answers n (after n c a) before) (answers n d t)) e (rest .1)),
+      )
 
-pub demand3 : Demand3
-unfolding Demand3
-demand3 calls others same = same-lists fresh same fresh-settled
+  pub demand3 : Demand3 n
+  unfolding Demand3
+  demand3 calls others same = same-lists (freshOf n) same (fresh-settled n)
 
--- every card that a list reaches is settled
-pub reached-settled : (c : Card) (calls : List Call) → Settled cellCount c → Settled cellCount (end c calls)
-unfolding end
-reached-settled c [] s = s
-reached-settled c (call ∷ calls) s = reached-settled (after c call) calls (call-settled c call s)
+  -- every card that a list reaches is settled
+  pub reached-settled : (c : Card) (calls : List Call) → Settled n c → Settled n (end n c calls)
+  unfolding end
+  reached-settled c [] s = s
+  reached-settled c (call ∷ calls) s = reached-settled (after n c call) calls (call-settled c call s)

@@ -132,17 +132,17 @@ load-valid c bytes ok = go (eqb (loadNumber cellCount configWidth bytes) 0) refl
     go false e = rw (load-refused cellCount configWidth c bytes e) ok
 
 -- every call keeps a card valid
-pub call-valid : (c : Card) (call : Call) → validCard cellCount c ≡ true → validCard cellCount (after c call) ≡ true
+pub call-valid : (c : Card) (call : Call) → validCard cellCount c ≡ true → validCard cellCount (after cellCount c call) ≡ true
 unfolding after
 call-valid c (line text reply store) ok = line-valid c text (length reply) (length store) ok
 call-valid c (load bytes) ok = load-valid c bytes ok
 call-valid c (tick full input) ok = valid-tick cellCount c ok full input
 
 -- every card that a list reaches is valid
-pub reached-valid : (c : Card) (calls : List Call) → validCard cellCount c ≡ true → validCard cellCount (end c calls) ≡ true
+pub reached-valid : (c : Card) (calls : List Call) → validCard cellCount c ≡ true → validCard cellCount (end cellCount c calls) ≡ true
 unfolding end
 reached-valid c [] ok = ok
-reached-valid c (call ∷ calls) ok = reached-valid (after c call) calls (call-valid c call ok)
+reached-valid c (call ∷ calls) ok = reached-valid (after cellCount c call) calls (call-valid c call ok)
 
-pub fresh-reached-valid : (calls : List Call) → validCard cellCount (end fresh calls) ≡ true
+pub fresh-reached-valid : (calls : List Call) → validCard cellCount (end cellCount fresh calls) ≡ true
 fresh-reached-valid calls = reached-valid fresh calls fresh-valid

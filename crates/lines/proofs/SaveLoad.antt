@@ -74,7 +74,7 @@ module _ (c : Card) (text : List ℕ) (reply store : ℕ) (s : Saves c text repl
   both = rw (eq-eqb (lineOutcome cellCount c text reply store .k) 0 (s .accepted)) (s .saves)
 
   -- what it writes is the record
-  bytes-are : savedBytes c text reply store ≡ recordOf configWidth c
+  bytes-are : savedBytes cellCount c text reply store ≡ recordOf configWidth c
   unfolding savedBytes
   bytes-are = rw both
 
@@ -105,7 +105,7 @@ restored c ok d =
     record { trigger = ap (λ (x : Card). x .trigger) e; cells = ap (λ (x : Card). x .cells) e; connectors = ap (λ (x : Card). x .connectors) e }
 
 written : (c : Card) (text reply store : List ℕ) → validCard cellCount c ≡ true → Saves c text (length reply) (length store)
-    → Written c (savedBytes c text (length reply) (length store)) store (storeAfter cellCount c text (length reply) store)
+    → Written c (savedBytes cellCount c text (length reply) (length store)) store (storeAfter cellCount c text (length reply) store)
 written c text reply store ok s =
     rw (bytes-are c text (length reply) (length store) s)
     (record {
@@ -119,6 +119,6 @@ pub save-load : SaveLoad
 save-load =
     record {
       saves = line-saves;
-      save-load = λ calls text reply store s. written (end fresh calls) text reply store (fresh-reached-valid calls) s;
+      save-load = λ calls text reply store s. written (end cellCount fresh calls) text reply store (fresh-reached-valid calls) s;
       load-save = λ d bytes text reply store ok s. bytes-are _ text reply store s ∙ Records.save-load cellCount configWidth d bytes ok;
     }

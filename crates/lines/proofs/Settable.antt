@@ -20,7 +20,7 @@ use Rattle.lines.proofs.Reached.{fresh-reached-valid}
 use Rattle.lines.proofs.Wired.{settable}
 
 -- lines as calls leave what the lines leave
-end-fed : (c : Card) (texts : List (List ℕ)) → end c (lineCalls texts) ≡ fed cellCount shortestReply 0 c texts
+end-fed : (c : Card) (texts : List (List ℕ)) → end cellCount c (lineCalls texts) ≡ fed cellCount shortestReply 0 c texts
 unfolding end after fed
 end-fed c [] = refl
 end-fed c (text ∷ texts) = end-fed (lineOutcome cellCount c text shortestReply 0 .card) texts

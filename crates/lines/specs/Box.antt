@@ -154,7 +154,7 @@ box =
     )
     -- "One run": six lines and four quick ticks on a fresh card
     ∷ (
-      replies (answers fresh run),
+      replies (answers cellCount fresh run),
       replies (
           accepted ∷ accepted ∷ accepted ∷ accepted ∷ accepted ∷ accepted
           ∷ ran 0x0000 0x0001 0x0001 1

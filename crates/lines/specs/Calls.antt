@@ -1,4 +1,4 @@
--- Document 01, "Lists of calls": calls of any kind in any order, each on the card that the one before it returned. Built from the definitions
+-- Document 01, "Lists of calls": calls of any kind in any order, each on the card that the one before it returned, over the number n of cells. Built from the definitions
 -- that the contracts of `line`, `load`, `full_tick` and `quick_tick` cite.
 use Prim.Native.Nat.{ℕ}
 use mathlib.Core.Bool.{Bool, _&&_, cond}
@@ -8,7 +8,6 @@ use lib.ListN.{length}
 use Rattle.card.specs.declared.card.Card.{Card}
 use Rattle.card.specs.declared.tick.Input.{Input}
 use Rattle.card.specs.declared.tick.Answer.{Answer}
-use Rattle.card.specs.Address.{cellCount}
 use Rattle.card.specs.Record.{configWidth, recordOf, loadNumber, loaded}
 use Rattle.card.specs.Tick
 use Rattle.lines.specs.Line
@@ -27,29 +26,30 @@ pub data Reply : Type 0 where
   loadReply : (k : ℕ) → Reply
   tickReply : (answer : Answer) → Reply
 
--- "the bytes that `36SS Z` wrote"
-unfoldable pub savedBytes : Card → (text : List ℕ) → (reply store : ℕ) → List ℕ
-savedBytes c text reply store =
-    cond (eqb (lineOutcome cellCount c text reply store .k) 0 && lineOutcome cellCount c text reply store .response .saves) (recordOf configWidth c) []
+module _ (n : ℕ) where
+  -- "the bytes that `36SS Z` wrote"
+  unfoldable pub savedBytes : Card → (text : List ℕ) → (reply store : ℕ) → List ℕ
+  savedBytes c text reply store =
+      cond (eqb (lineOutcome n c text reply store .k) 0 && lineOutcome n c text reply store .response .saves) (recordOf configWidth c) []
 
--- the card after a call, and the call's answer
-unfoldable pub after : Card → Call → Card
-after c (line text reply store) = lineOutcome cellCount c text (length reply) (length store) .card
-after c (load bytes) = loaded cellCount configWidth c bytes
-after c (tick full input) = Tick.tick cellCount full c input .card
+  -- the card after a call, and the call's answer
+  unfoldable pub after : Card → Call → Card
+  after c (line text reply store) = lineOutcome n c text (length reply) (length store) .card
+  after c (load bytes) = loaded n configWidth c bytes
+  after c (tick full input) = Tick.tick n full c input .card
 
-unfoldable pub answer : Card → Call → Reply
-answer c (line text reply store) =
-    lineReply (lineOutcome cellCount c text (length reply) (length store) .k) (Line.lineReply cellCount c text (length reply) (length store))
-    (savedBytes c text (length reply) (length store))
-answer c (load bytes) = loadReply (loadNumber cellCount configWidth bytes)
-answer c (tick full input) = tickReply (Tick.tick cellCount full c input .answer)
+  unfoldable pub answer : Card → Call → Reply
+  answer c (line text reply store) =
+      lineReply (lineOutcome n c text (length reply) (length store) .k) (Line.lineReply n c text (length reply) (length store))
+      (savedBytes c text (length reply) (length store))
+  answer c (load bytes) = loadReply (loadNumber n configWidth bytes)
+  answer c (tick full input) = tickReply (Tick.tick n full c input .answer)
 
--- a list of calls: the card at its end, and the answers
-unfoldable pub end : Card → List Call → Card
-end c [] = c
-end c (call ∷ calls) = end (after c call) calls
+  -- a list of calls: the card at its end, and the answers
+  unfoldable pub end : Card → List Call → Card
+  end c [] = c
+  end c (call ∷ calls) = end (after c call) calls
 
-unfoldable pub answers : Card → List Call → List Reply
-answers c [] = []
-answers c (call ∷ calls) = answer c call ∷ answers (after c call) calls
+  unfoldable pub answers : Card → List Call → List Reply
+  answers c [] = []
+  answers c (call ∷ calls) = answer c call ∷ answers (after c call) calls

@@ -7,7 +7,7 @@ use mathlib.Core.List.{List, [], _∷_}
 use lib.ListN.{length}
 use Rattle.card.specs.declared.tick.Answer.{Answer}
 use Rattle.card.specs.declared.tick.Input.{Input}
-use Rattle.card.specs.Fresh.{fresh}
+use Rattle.card.specs.Fresh.{freshOf}
 use Rattle.lines.specs.Calls.{Call, Reply, end, answers}
 use Rattle.lines.specs.Calls.Call.{line, load, tick}
 use Rattle.lines.specs.Calls.Reply.{lineReply, loadReply, tickReply}
@@ -35,6 +35,6 @@ pub data AlikeReplies : List Reply → List Reply → Type 0 where
   more-replies : {a b : Reply} {s t : List Reply} → AlikeReply a b → AlikeReplies s t → AlikeReplies (a ∷ s) (b ∷ t)
 
 -- "Compared after the list: pointer; settings ...; states ...; outputs, levels and driven word": the whole cards are equal
-unfoldable pub Demand3 : Type 0
-Demand3 = (calls others : List Call) → SameCalls calls others
-    → (end fresh calls ≡ end fresh others) × AlikeReplies (answers fresh calls) (answers fresh others)
+unfoldable pub Demand3 : ℕ → Type 0
+Demand3 n = (calls others : List Call) → SameCalls calls others
+    → (end n (freshOf n) calls ≡ end n (freshOf n) others) × AlikeReplies (answers n (freshOf n) calls) (answers n (freshOf n) others)

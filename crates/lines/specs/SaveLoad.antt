@@ -40,9 +40,9 @@ pub record SaveLoad : Type 0 where
   -- with room for the reply and the record, `36SS Z` saves any card
   pub saves : (c : Card) (reply store : ℕ) → shortestReply ≤ reply → wholeRecord ≤ store → Saves c (bytesOf "36SS Z") reply store
   -- a save behind any list of calls, and a load of what it wrote
-  pub save-load : (calls : List Call) (text reply store : List ℕ) → let c = end fresh calls in
+  pub save-load : (calls : List Call) (text reply store : List ℕ) → let c = end cellCount fresh calls in
       Saves c text (length reply) (length store)
-      → Written c (savedBytes c text (length reply) (length store)) store (storeAfter cellCount c text (length reply) store)
+      → Written c (savedBytes cellCount c text (length reply) (length store)) store (storeAfter cellCount c text (length reply) store)
   -- an accepted load, and a save of what it gave: the same bytes
   pub load-save : (d : Card) (bytes text : List ℕ) (reply store : ℕ) → let c = loaded cellCount configWidth d bytes in
-      loadNumber cellCount configWidth bytes ≡ 0 → Saves c text reply store → savedBytes c text reply store ≡ bytes
+      loadNumber cellCount configWidth bytes ≡ 0 → Saves c text reply store → savedBytes cellCount c text reply store ≡ bytes

@@ -46,7 +46,7 @@ lineCalls texts = map (λ (text : List ℕ). line text (replicate shortestReply 
 
 -- some list of lines sets these settings on a fresh card
 unfoldable pub SetByLines : ℕ → List Cell → List Connector → Type 0
-SetByLines trigger cells connectors = (texts : List (List ℕ)) × Has trigger cells connectors (end fresh (lineCalls texts))
+SetByLines trigger cells connectors = (texts : List (List ℕ)) × Has trigger cells connectors (end cellCount fresh (lineCalls texts))
 
 -- "record value no line could set": settings are valid where lines set them, and nowhere else
 unfoldable pub ValidIsSettable : Type 0
