@@ -56,7 +56,8 @@ returns c =
     let l = c .before .loop in
     let f = connectorIn cellCount configWidth (c .before .before .before .before .args .bytes .now) in
     let end : l .k ≡ connectorCount = omega arith in
-    listed-done f connectorCount (replicate connectorCount (c .before .before .connector-in .result)) (l .connectors) (rw end at (l .inv .2)) (le-refl connectorCount)
+    let blank = replicate connectorCount (c .before .before .connector-in .result) in
+    listed-done f connectorCount blank (l .connectors) (rw end at (l .inv .2)) (le-refl connectorCount)
 
 pub connectors-in-spec : {M : Type 1} → statement M
 connectors-in-spec =
