@@ -3,6 +3,7 @@ ghost use mathlib.Core.Path.{_≡_};
 ghost use Rattle.card.specs.Fresh;
 use crate::limits::CELLS;
 use crate::limits::CONNECTORS;
+use crate::limits::CellWord;
 use crate::limits::FIRST_CELL;
 use crate::limits::INPUT;
 use crate::limits::PUSH_PULL;
@@ -22,9 +23,9 @@ pub struct Connector {
 #[repr(C)]
 pub struct Memory {
     pub driven: u16,
-    pub outputs: u16,
-    pub outputs2: u16,
-    pub outputs3: u16,
+    pub outputs: CellWord,
+    pub outputs2: CellWord,
+    pub outputs3: CellWord,
     pub levels: u16,
     pub levels2: u16,
 }
@@ -36,7 +37,7 @@ pub struct Card {
     pub trigger: u8,
     pub cells: [Cell; CELLS],
     pub connectors: [Connector; CONNECTORS],
-    pub edited: u16,
+    pub edited: CellWord,
     pub memory: Memory,
 }
 
@@ -45,7 +46,7 @@ pub fn started(
     trigger: u8,
     cells: [Cell; CELLS],
     connectors: [Connector; CONNECTORS],
-    edited: u16,
+    edited: CellWord,
 ) -> Card
     ensures { λ c. ⌜ c ≡ Fresh.started trigger cells connectors edited ⌝ }
 {

@@ -18,9 +18,6 @@ pub type CellWord = u16;
 
 pub const ALL_CELLS: CellWord = 65535;
 
-// A cell's configuration.
-pub type Config = u16;
-
 // The types of a connector.
 pub const INPUT: u8 = 0;
 
@@ -28,9 +25,7 @@ pub const OPEN_DRAIN: u8 = 1;
 
 pub const PUSH_PULL: u8 = 2;
 
-// The largest clock code, and the one under which BNC1 brings the trigger.
-pub const LARGEST_CLOCK: u8 = 4;
-
+// The clock code under which BNC1 brings the trigger.
 pub const FRONT_TRIGGER: u8 = 4;
 
 // The first address of the edges.

@@ -14,6 +14,7 @@ use crate::card::Memory;
 use crate::connectors::Lines;
 use crate::connectors::drive;
 use crate::limits::CELLS;
+use crate::limits::CellWord;
 use crate::view::readings;
 use crate::view::sees;
 use cells::cell::Cell;
@@ -32,9 +33,9 @@ pub struct Wires {
     pub levels: u16,
     pub levels2: u16,
     pub levels3: u16,
-    pub outputs: u16,
-    pub outputs2: u16,
-    pub outputs3: u16,
+    pub outputs: CellWord,
+    pub outputs2: CellWord,
+    pub outputs3: CellWord,
 }
 
 // What a tick makes of one cell: the cell, its output, and whether it was worked out.
@@ -47,8 +48,8 @@ pub struct Turn {
 // What a tick makes of all cells.
 pub struct Turned {
     pub cells: [Cell; CELLS],
-    pub outputs: u16,
-    pub woken: u16,
+    pub outputs: CellWord,
+    pub woken: CellWord,
 }
 
 // A tick's answer. An idle tick has not run, and its words are 0.
@@ -56,8 +57,8 @@ pub struct Turned {
 pub struct Answer {
     pub ran: bool,
     pub driven: u16,
-    pub cells: u16,
-    pub woken: u16,
+    pub cells: CellWord,
+    pub woken: CellWord,
     pub count: u32,
 }
 
@@ -83,7 +84,7 @@ fn worked_turn(cell: Cell, now: u32) -> Turn
 }
 
 // Whether cell i is worked out: in a full tick, or because the rules name it.
-fn is_worked(full: bool, cell: Cell, i: u32, edited: u16, w: Wires, now: u32) -> bool
+fn is_worked(full: bool, cell: Cell, i: u32, edited: CellWord, w: Wires, now: u32) -> bool
     requires { ⌜ i < 64 ⌝ }
     ensures { λ q. ⌜ q ≡ (full || wakes (cell .kind) (cell .state) (bitAt edited i) (slotsOf now) (readLast cellCount i w (cell .slots))) ⌝ }
 {
@@ -104,7 +105,7 @@ fn is_worked(full: bool, cell: Cell, i: u32, edited: u16, w: Wires, now: u32) ->
 }
 
 // The turn of cell i, below which this tick's outputs are known.
-fn turn_at(full: bool, cell: Cell, i: u32, edited: u16, w: Wires, below: u16) -> Turn
+fn turn_at(full: bool, cell: Cell, i: u32, edited: CellWord, w: Wires, below: CellWord) -> Turn
     requires { ⌜ i < 64 ⌝ }
     ensures { λ t. ⌜ t ≡ turnAt cellCount full cell i edited w below ⌝ }
 {
@@ -124,12 +125,12 @@ fn turn_at(full: bool, cell: Cell, i: u32, edited: u16, w: Wires, below: u16) ->
 }
 
 // The turns of all cells, in order.
-fn turn_each(full: bool, cells: [Cell; CELLS], edited: u16, w: Wires) -> Turned
+fn turn_each(full: bool, cells: [Cell; CELLS], edited: CellWord, w: Wires) -> Turned
     ensures { λ t. ⌜ t ≡ turned cellCount full cells edited w ⌝ }
 {
     let mut next = cells;
-    let mut outputs: u16 = 0;
-    let mut woken: u16 = 0;
+    let mut outputs: CellWord = 0;
+    let mut woken: CellWord = 0;
     for i in 0..16u32 {
         let at = i as usize;
         let t = turn_at(full, cells[at], i, edited, w, outputs);
@@ -182,7 +183,7 @@ fn unchanged(w: Wires) -> bool
 }
 
 // Whether a tick leaves every cell as it is. It may say no where a closer look would say yes.
-fn is_quiet(full: bool, cells: [Cell; CELLS], edited: u16, w: Wires) -> bool
+fn is_quiet(full: bool, cells: [Cell; CELLS], edited: CellWord, w: Wires) -> bool
     ensures { λ q. ⌜ (q ≡ true → turned cellCount full cells edited w ≡ sleptAll cells (w .outputs)) ⌝ }
 {
     if full | (edited != 0) {
@@ -195,7 +196,7 @@ fn is_quiet(full: bool, cells: [Cell; CELLS], edited: u16, w: Wires) -> bool
 }
 
 // What a tick makes of all cells.
-fn turn_all(full: bool, cells: [Cell; CELLS], edited: u16, w: Wires) -> Turned
+fn turn_all(full: bool, cells: [Cell; CELLS], edited: CellWord, w: Wires) -> Turned
     ensures { λ t. ⌜ t ≡ turned cellCount full cells edited w ⌝ }
 {
     if is_quiet(full, cells, edited, w) {
