@@ -1,4 +1,4 @@
--- Edits keep a card settled: cells that they change are edited, and so exempt. Said once for edits in general, and then of each edit that it is one.
+-- Every change of settings is an edit: it leaves the memory, and the cells that it changes are edited afterwards.
 use Prim.Native.Nat.{ℕ, _-_, _^_, _<_}
 use mathlib.Core.Path.{_≡_, refl, sym, ap, _∙_}
 use mathlib.Core.Bool.{Bool, true, false, cond, true≢false}
@@ -15,21 +15,11 @@ use Rattle.cells.specs.declared.table.Slots.{Slots}
 use Rattle.cells.proofs.Laws.{or-left, or-right}
 use Rattle.card.specs.declared.card.Card.{Card}
 use Rattle.card.specs.declared.card.Connector.{Connector}
-use Rattle.card.specs.Tick.{noCell}
+use Rattle.card.specs.Fresh.{noCell}
 use Rattle.card.specs.Edits.{atCell, atConnector, withSettings, withCell, putCell, putConnector, move, setTrigger, home, setType, setConfig, setState}
 use Rattle.card.specs.Edits.{setSlots, setConnectorType, setSource}
 use Rattle.card.specs.Presets.{presetCell, has, cellAfter, editedAfter, preset}
-use Rattle.card.specs.Record.{poweredUp}
-use Rattle.card.specs.Settled.{Settled}
 use Rattle.card.specs.Untouched.{Edit}
-
--- an edit keeps a card settled
-pub edit-settled : (n : ℕ) (c d : Card) → Edit n c d → Settled n c → Settled n d
-unfolding Settled
-edit-settled n c d e settled i h edited =
-    rw (e .kept i h edited, e .memory) (settled i h (e .unedited i h edited))
-
--- ---- the edits
 
 -- new settings leave everything else: what is to be shown is of the cells and the edits alone
 settings-edit : (n : ℕ) (c : Card) (trigger : ℕ) (cells : List Cell) (connectors : List Connector) (edited : ℕ)
@@ -46,7 +36,7 @@ pub no-edit : (n : ℕ) (c : Card) → Edit n c c
 no-edit n c = same-edit n c (c .trigger) (c .connectors)
 
 -- where all cells are edited, nothing is to be shown
-all-edited : {A : Type 0} (n i : ℕ) → i < n → bitAt (2 ^ n - 1) i ≡ false → A
+pub all-edited : {A : Type 0} (n i : ℕ) → i < n → bitAt (2 ^ n - 1) i ≡ false → A
 all-edited n i h e = absurd (true≢false (sym (bit-ones n i h) ∙ e))
 
 module _ (n : ℕ) (c : Card) where
@@ -121,8 +111,3 @@ module _ (n : ℕ) (c : Card) where
       (λ i h e.
       listed-at (cellAfter c v) n i noCell h
       ∙ unset (presetCell v i) (getD (c .cells) i noCell) (or-right (bitAt (c .edited) i) _ (sym (bit-built (editedAfter c v) n i h) ∙ e)))
-
--- a card that has just powered up is settled, since all its cells are edited
-pub powered-settled : (n trigger : ℕ) (cells : List Cell) (connectors : List Connector) → Settled n (poweredUp n trigger cells connectors)
-unfolding Settled
-powered-settled n trigger cells connectors i h edited = all-edited n i h edited

@@ -14,7 +14,7 @@ use Rattle.card.specs.declared.card.Card.{Card}
 use Rattle.card.specs.Address.{connectorCount}
 use Rattle.card.specs.Connectors.{noConnector}
 use Rattle.card.specs.Edits.{withSettings}
-use Rattle.card.specs.Tick.{noCell}
+use Rattle.card.specs.Fresh.{noCell}
 use Rattle.card.specs.Presets.{Setting, has, settingOf, offered, presetCell, presetSource, cellAfter, connectorAfter, editedAfter, preset}
 
 -- a preset leaves the memory, the pointer and the trigger source

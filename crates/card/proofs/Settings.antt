@@ -1,22 +1,25 @@
 -- Laws of settings: a test of every entry of a list, as a loop makes it, at one entry, and after a change; and what valid settings are.
-use Prim.Native.Nat.{ℕ, zero, suc, _+_, _<_}
+use Prim.Native.Nat.{ℕ, zero, suc, _+_, _≤_, _<_}
 use mathlib.Core.Path.{_≡_, refl, sym, ap, _∙_}
 use mathlib.Core.Bool.{Bool, true, false, not, _&&_, and-true, and-assoc}
 use mathlib.Core.List.{List, [], _∷_, _++_, map}
-use native.Mathlib.Nat.{not-suc-le-zero, le-of-suc-le-suc, lt-suc-self}
+use native.Mathlib.Nat.{not-suc-le-zero, le-of-suc-le-suc, lt-suc-self, le-trans}
 use native.Mathlib.Numerals.{add-one}
 use native.Mathlib.Omega.{arith}
-use lib.Dec.{eqb}
-use lib.ListN.{length, getD, set, take}
+use lib.Dec.{leb, eqb}
+use lib.ListN.{length, getD, set, take, replicate, length-map}
 use lib.Seq.{take-suc}
-use borrow.Author.Tests.{eqb-true, not-true, eq-eqb}
+use borrow.Author.Tests.{eqb-true, not-true, eq-eqb, leb-true}
 use Rattle.words.specs.Listed.{listed}
 use Rattle.cells.specs.declared.cell.Cell.{Cell}
-use Rattle.cells.proofs.Rows.{and-left, and-right}
+use Rattle.cells.specs.declared.table.Row.{Row}
+use Rattle.cells.specs.Table.{largestConfig, rowOf}
+use Rattle.cells.proofs.Rows.{and-left, and-right, every-row}
 use Rattle.card.specs.declared.card.Connector.{Connector}
 use Rattle.card.specs.Address.{connectorCount}
 use Rattle.card.specs.Connectors.{noConnector}
-use Rattle.card.specs.Valid.{badClock, frontDriven, validCell, validConnector, every, valid}
+use Rattle.card.specs.Edits.{clearedCell}
+use Rattle.card.specs.Valid.{badClock, badCellType, frontDriven, validSlots, validCell, validConnector, every, valid}
 
 module _ {A : Type 0} (f : A → Bool) where
   every-snoc : (l : List A) (x : A) → every f (l ++ (x ∷ [])) ≡ (every f l && f x)
@@ -47,6 +50,12 @@ module _ {A : Type 0} (f : A → Bool) where
   every-set [] i x e h = refl
   every-set (y ∷ ys) zero x e h = rw h (and-right (f y) (every f ys) e)
   every-set (y ∷ ys) (suc i) x e h = rw (and-left (f y) (every f ys) e) (every-set ys i x (and-right (f y) (every f ys) e) h)
+
+  -- a list of one entry
+  pub every-replicate : (n : ℕ) (x : A) → f x ≡ true → every f (replicate n x) ≡ true
+  unfolding every
+  every-replicate zero x h = refl
+  every-replicate (suc n) x h = rw (h, every-replicate n x h)
 
   -- a list given entry by entry
   pub every-listed : (g : ℕ → A) (n : ℕ) → ((i : ℕ) → i < n → f (g i) ≡ true) → every f (listed g n) ≡ true
@@ -100,3 +109,35 @@ module _ (n trigger : ℕ) (cells : List Cell) (connectors : List Connector) whe
         s .cells-pass,
         s .connectors-pass,
       )
+
+-- ---- what valid settings have
+
+-- no type allows more than the largest configuration
+pub largest-fits : (kind : ℕ) → rowOf kind .largest ≤ largestConfig
+largest-fits kind =
+    leb-true (rowOf kind .largest) largestConfig (every-row (λ (r : Row). leb (r .largest) largestConfig) refl kind)
+
+module _ (n : ℕ) (cell : Cell) (ok : validCell n cell ≡ true) where
+  pub cell-slots : length (cell .slots) ≡ 4
+  unfolding validCell validSlots
+  cell-slots =
+      eqb-true (length (cell .slots)) 4
+      (and-left (eqb (length (cell .slots)) 4) _
+      (and-right (not (badCellType (cell .kind)) && leb (cell .config) (rowOf (cell .kind) .largest)) (validSlots n (rowOf (cell .kind)) (cell .slots)) ok))
+
+  pub config-most : cell .config ≤ rowOf (cell .kind) .largest
+  unfolding validCell
+  config-most =
+      let limit = leb (cell .config) (rowOf (cell .kind) .largest) in
+      let known = not (badCellType (cell .kind)) in
+      leb-true (cell .config) (rowOf (cell .kind) .largest)
+      (and-right known limit (and-left (known && limit) (validSlots n (rowOf (cell .kind)) (cell .slots)) ok))
+
+  pub cell-config : cell .config ≤ largestConfig
+  cell-config = le-trans config-most (largest-fits (cell .kind))
+
+-- validity says nothing of states
+pub valid-cleared : (n trigger : ℕ) (cells : List Cell) (connectors : List Connector)
+    → valid n trigger (map clearedCell cells) connectors ≡ valid n trigger cells connectors
+unfolding valid validCell
+valid-cleared n trigger cells connectors = rw (length-map cells clearedCell, every-map (validCell n) clearedCell (λ x. refl) cells)

@@ -1,17 +1,14 @@
--- Every accepted edit, and every tick, keeps a card valid: one law for each.
+-- A fresh card is valid, and every accepted edit keeps a card valid: one law for each. Of presets, see PresetValid.
 use Prim.Native.Nat.{ℕ, _+_, _-_, _%_, _≤_, _<_, zero-le}
 use mathlib.Core.Path.{_≡_, refl, sym, _∙_}
 use mathlib.Core.Bool.{Bool, true, false, not, _&&_, _||_, cond, true≢false, and-false}
 use mathlib.Core.List.{List, [], _∷_, map}
-use mathlib.Core.Option.{Option, none, some, Option·getD}
 use native.Mathlib.Decide.{ℕ-discrete}
 use native.Mathlib.Omega.{arith}
 use lib.Dec.{leb, ltb, eqb}
-use lib.ListN.{length, getD, set, length-map, length-set}
+use lib.ListN.{length, getD, set, replicate, length-map, length-set, length-replicate}
 use lib.Seq.{getD-set-same, getD-set-other}
 use borrow.Author.Tests.{ltb-true, ltb-false, not-true, le-leb, le-ltb, eq-eqb, ne-eqb}
-use Rattle.words.specs.Listed.{listed}
-use Rattle.words.proofs.Listed.{length-listed, listed-at}
 use Rattle.cells.specs.declared.table.Slots.{Slots}
 use Rattle.cells.specs.declared.table.Row.{Row}
 use Rattle.cells.specs.declared.cell.Cell.{Cell}
@@ -19,22 +16,17 @@ use Rattle.cells.specs.Table.{rowOf}
 use Rattle.cells.proofs.Laws.{or-left, or-right}
 use Rattle.cells.proofs.Rows.{and-left, and-right, every-row}
 use Rattle.card.specs.declared.card.Card.{Card}
-use Rattle.card.specs.declared.tick.Input.{Input}
 use Rattle.card.specs.declared.card.Connector.{Connector}
-use Rattle.card.specs.Address.{cellCount, connectorCount, firstCell, firstConnector}
+use Rattle.card.specs.Address.{connectorCount, firstCell, firstConnector}
 use Rattle.card.specs.Connectors.{noConnector}
-use Rattle.card.specs.Fresh.{freshCell}
-use Rattle.card.specs.Tick.{noCell, workedTurn, sleptTurn, named, turnAt, outputsBelow, turned, wiresOf, lines, ticked, idle, tick}
-use Rattle.card.specs.Tick
+use Rattle.card.specs.Fresh.{noCell, freshCell, freshConnectors, freshOf}
 use Rattle.card.specs.Valid.{frontTrigger, permittedBase, badClock, badCellType, badConnectorType, badConfig, unusedSlot, badAddress, frontDriven}
 use Rattle.card.specs.Valid.{validSlot, validSlots, validCell, validConnector, every, valid, validCard}
 use Rattle.card.specs.Edits.{atCell, atConnector, withCell, withConnector, clearedCell, blankSlots, input, stored, wiredSlot, currentCell}
 use Rattle.card.specs.Edits.{currentConnector, putCell, putConnector, move, setTrigger, home, typed, setType, configured, setConfig, stated, setState}
 use Rattle.card.specs.Edits.{wired, setSlots, setConnectorType, setSource}
-use Rattle.card.specs.Presets.{Setting, Entry, table, find, has, cellsOf, sourcesOf, settingOf, presetCell, presetSource, setsFront, sourced, cellAfter}
-use Rattle.card.specs.Presets.{connectorAfter, preset}
-use Rattle.card.proofs.Settings.{every-at, every-map, every-set, every-listed, Sound, split, join}
-use Rattle.card.proofs.Views.{among-bounds}
+use Rattle.card.proofs.Settings.{every-at, every-map, every-set, every-replicate, Sound, split, join}
+use Rattle.card.proofs.Places.{among-bounds}
 
 -- ---- a cell by itself
 
@@ -158,22 +150,15 @@ module _ (n : ℕ) where
   unfolding validConnector
   kind-good connector pass = not-true _ (and-left _ (not (badAddress n (connector .source))) pass)
 
--- a turn leaves all that validity looks at
-turn-valid : (n : ℕ) (b : Bool) (cell : Cell) (now : Slots) (out : Bool)
-    → validCell n (cond b (workedTurn cell now) (sleptTurn cell out) .cell) ≡ validCell n cell
-unfolding validCell
-turn-valid n true cell now out = refl
-turn-valid n false cell now out = refl
-
 -- ---- the edits
 
 module _ (n : ℕ) (c : Card) (ok : validCard n c ≡ true) where
-  sound : Sound n (c .trigger) (c .cells) (c .connectors)
+  pub sound : Sound n (c .trigger) (c .cells) (c .connectors)
   unfolding validCard
   sound = split n (c .trigger) (c .cells) (c .connectors) ok
 
   -- with other cells
-  other-cells : (cells : List Cell) → length cells ≡ n → every (validCell n) cells ≡ true → valid n (c .trigger) cells (c .connectors) ≡ true
+  pub other-cells : (cells : List Cell) → length cells ≡ n → every (validCell n) cells ≡ true → valid n (c .trigger) cells (c .connectors) ≡ true
   other-cells cells count pass =
       join n (c .trigger) cells (c .connectors)
       (record {
@@ -201,12 +186,12 @@ module _ (n : ℕ) (c : Card) (ok : validCard n c ≡ true) where
       })
 
   -- at each place
-  cell-at : (i : ℕ) → i < n → validCell n (getD (c .cells) i noCell) ≡ true
+  pub cell-at : (i : ℕ) → i < n → validCell n (getD (c .cells) i noCell) ≡ true
   cell-at i h =
       let count = sound .cell-count in
       every-at (validCell n) (c .cells) i noCell (sound .cells-pass) (omega arith)
 
-  connector-at : (k : ℕ) → k < connectorCount → validConnector n (getD (c .connectors) k noConnector) ≡ true
+  pub connector-at : (k : ℕ) → k < connectorCount → validConnector n (getD (c .connectors) k noConnector) ≡ true
   connector-at k h =
       let count = sound .connector-count in
       every-at (validConnector n) (c .connectors) k noConnector (sound .connectors-pass) (omega arith)
@@ -339,111 +324,17 @@ module _ (n : ℕ) (c : Card) (ok : validCard n c ≡ true) where
   valid-source v good =
       put-connector-valid _ (connector-valid n _ v (kind-good n (currentConnector c) current-connector) good) current-free
 
-  -- ---- a tick
+-- ---- a fresh card
 
-  ran-valid : (full : Bool) (input : Input) → validCard n (ticked n full c input .card) ≡ true
-  unfolding validCard turned turnAt
-  ran-valid full input =
-      let w = wiresOf (c .memory) (lines n c input .levels) in
-      let next = Tick.cellAfter n full (c .cells) (c .edited) w in
-      other-cells (listed next n) (length-listed next n)
-      (every-listed (validCell n) next n
-      (λ i h. let old = getD (c .cells) i noCell in
-      turn-valid n (full || named n old i (c .edited) w (outputsBelow n full (c .cells) (c .edited) w i)) old _ _ ∙ cell-at i h))
-
-  pub valid-tick : (full : Bool) (input : Input) → validCard n (tick n full c input .card) ≡ true
-  unfolding tick
-  valid-tick full input = go (eqb (input .code) (c .trigger))
-    where
-      go : (b : Bool) → validCard n (cond b (ticked n full c input) (idle c) .card) ≡ true
-      go true = ran-valid full input
-      go false = ok
-
--- ---- a preset
-
--- a test of what stands at a number, if anything does
-passes : {A : Type 0} → (A → Bool) → Option A → Bool
-passes f none = true
-passes f (some a) = f a
-
--- what every entry passes, what is found passes
-found-passes : {A : Type 0} (f : A → Bool) (l : List (ℕ × A)) → every (λ (e : ℕ × A). f (e .1)) l ≡ true → (k : ℕ) → passes f (find k l) ≡ true
-unfolding every passes
-found-passes f [] t k = refl
-found-passes f (e ∷ es) t k = go (eqb k (e .0)) (found-passes f es (and-right (f (e .1)) _ t) k)
-  where
-    go : (b : Bool) → passes f (find k es) ≡ true → passes f (cond b (some (e .1)) (find k es)) ≡ true
-    go true later = and-left (f (e .1)) _ t
-    go false later = later
-
--- the cells that a preset sets are valid, and its sources permitted
-abbrev goodSource : ℕ → Bool
-goodSource a = not (badAddress cellCount a)
-
-goodSetting : Setting → Bool
-goodSetting s = every (λ (e : ℕ × Cell). validCell cellCount (e .1)) (s .cells) && every (λ (e : ℕ × ℕ). goodSource (e .1)) (s .sources)
-
--- a test over the whole table
-all-good : every (λ (e : Entry). goodSetting (e .1)) table ≡ true
-unfolding every goodSetting table listed validCell validSlots validSlot badCellType badAddress permittedBase rowOf
-all-good = refl
-
-good-cells : (o : Option Setting) → passes goodSetting o ≡ true → every (λ (e : ℕ × Cell). validCell cellCount (e .1)) (cellsOf o) ≡ true
-unfolding every passes goodSetting
-good-cells none t = refl
-good-cells (some s) t = and-left _ (every (λ (e : ℕ × ℕ). goodSource (e .1)) (s .sources)) t
-
-good-sources : (o : Option Setting) → passes goodSetting o ≡ true → every (λ (e : ℕ × ℕ). goodSource (e .1)) (sourcesOf o) ≡ true
-unfolding every passes goodSetting
-good-sources none t = refl
-good-sources (some s) t = and-right (every (λ (e : ℕ × Cell). validCell cellCount (e .1)) (s .cells)) _ t
-
-preset-cell : (v i : ℕ) → passes (validCell cellCount) (presetCell v i) ≡ true
-unfolding presetCell settingOf
-preset-cell v i =
-    found-passes (validCell cellCount) (cellsOf (settingOf v)) (good-cells (settingOf v) (found-passes goodSetting table all-good v)) (firstCell + i)
-
-preset-source : (v k : ℕ) → passes goodSource (presetSource v k) ≡ true
-unfolding presetSource settingOf
-preset-source v k =
-    found-passes goodSource (sourcesOf (settingOf v)) (good-sources (settingOf v) (found-passes goodSetting table all-good v)) (1 + k)
-
-either-cell : (o : Option Cell) (old : Cell) → passes (validCell cellCount) o ≡ true → validCell cellCount old ≡ true
-    → validCell cellCount (Option·getD o old) ≡ true
-unfolding passes
-either-cell none old p q = q
-either-cell (some cell) old p q = p
-
-either-connector : (o : Option ℕ) (old : Connector) → passes goodSource o ≡ true → validConnector cellCount old ≡ true
-    → validConnector cellCount (sourced o old) ≡ true
-unfolding passes validConnector badConnectorType
-either-connector none old p q = q
-either-connector (some a) old p q = p
-
-either-front : (trigger : ℕ) (o : Option ℕ) (old : Connector) → (has o && eqb trigger frontTrigger) ≡ false → frontDriven trigger (old .kind) ≡ false
-    → frontDriven trigger (sourced o old .kind) ≡ false
-unfolding frontDriven
-either-front trigger none old p q = q
-either-front trigger (some a) old p q = rw p
-
-pub valid-preset : (c : Card) → validCard cellCount c ≡ true → (v : ℕ) → (setsFront v && eqb (c .trigger) frontTrigger) ≡ false
-    → validCard cellCount (preset cellCount c v) ≡ true
-unfolding preset validCard setsFront
-valid-preset c ok v free =
-    let cells = listed (cellAfter c v) cellCount in
-    let connectors = listed (connectorAfter c v) connectorCount in
-    let first = listed-at (connectorAfter c v) connectorCount 0 noConnector (omega arith) in
-    let s = sound cellCount c ok in
-    join cellCount (c .trigger) cells connectors
+pub fresh-valid : (n : ℕ) → validCard n (freshOf n) ≡ true
+unfolding validCard badClock frontDriven every validConnector badConnectorType badAddress permittedBase
+fresh-valid n =
+    join n 0 (replicate n freshCell) freshConnectors
     (record {
-      clock = s .clock;
-      front = rw first (either-front (c .trigger) (presetSource v 0) (getD (c .connectors) 0 noConnector) free (s .front));
-      cell-count = length-listed (cellAfter c v) cellCount;
-      connector-count = length-listed (connectorAfter c v) connectorCount;
-      cells-pass =
-          every-listed (validCell cellCount) (cellAfter c v) cellCount
-          (λ i h. either-cell (presetCell v i) (getD (c .cells) i noCell) (preset-cell v i) (cell-at cellCount c ok i h));
-      connectors-pass =
-          every-listed (validConnector cellCount) (connectorAfter c v) connectorCount
-          (λ k h. either-connector (presetSource v k) (getD (c .connectors) k noConnector) (preset-source v k) (connector-at cellCount c ok k h));
+      clock = refl;
+      front = refl;
+      cell-count = length-replicate n freshCell;
+      connector-count = refl;
+      cells-pass = every-replicate (validCell n) n freshCell (fresh-cell n);
+      connectors-pass = refl;
     })

@@ -20,19 +20,17 @@ use Rattle.card.specs.declared.card.Card.{Card}
 use Rattle.card.specs.declared.card.Connector.{Connector}
 use Rattle.card.specs.Address.{firstCell, firstConnector, connectorCount, among, edgeAddress}
 use Rattle.card.specs.Connectors.{openDrain, pushPull, isOutput, noConnector}
-use Rattle.card.specs.Fresh.{clearState}
-use Rattle.card.specs.Tick.{noCell}
+use Rattle.card.specs.Fresh.{clearState, noCell}
 use Rattle.card.specs.Valid.{largestAddress, frontTrigger, frontDriven, badPlace, badConnectorType, badConfig, unusedSlot, badAddress, validSlot}
 use Rattle.card.specs.Valid.{validSlots, validCell, validConnector}
 use Rattle.card.specs.Edits.{atCell, atConnector, input, blankSlot, clearedCell, stored, wiredSlot, configuredState, currentCell, currentConnector}
 use Rattle.card.specs.Edits.{putCell, putConnector, move, setTrigger, typed, setType, configured, setConfig, wired, setSlots, setConnectorType}
 use Rattle.card.specs.Edits.{setSource}
 use Rattle.card.specs.Written.{configuredAs, written}
-use Rattle.card.proofs.Fields.{four}
-use Rattle.card.proofs.Records.{cell-slots, config-most}
-use Rattle.card.proofs.Settings.{every-at, Sound}
+use Rattle.card.proofs.Slots.{four}
+use Rattle.card.proofs.Settings.{cell-slots, config-most, every-at, Sound}
 use Rattle.card.proofs.ValidLaws.{slots-pass, all-four, none-four, badGiven, kind-good}
-use Rattle.card.proofs.Views.{among-in, among-above}
+use Rattle.card.proofs.Places.{among-in, among-above}
 
 -- ---- a valid cell is what lines make of its settings
 

@@ -1,13 +1,8 @@
--- Document 01, "One tick", 1 and 2: what the output connectors are driven to, and the levels.
+-- Document 01, "Lines": the types of a connector. What connectors drive and show in a tick stands in ticks/specs/Levels.
 use Prim.Native.Nat.{ℕ}
-use mathlib.Core.Bool.{Bool, true, false, _&&_, _||_, cond}
-use mathlib.Core.List.{List}
+use mathlib.Core.Bool.{Bool, _||_}
 use lib.Dec.{eqb}
-use lib.ListN.{getD}
-use Rattle.words.specs.Bits.{bitAt, wordOf}
 use Rattle.card.specs.declared.card.Connector.{Connector}
-use Rattle.card.specs.declared.connectors.Lines.{Lines}
-use Rattle.card.specs.Address.{connectorCount, reads}
 
 -- "Y is 0 input, 1 open-drain, 2 push-pull"; any other number is an input
 abbrev pub openDrain : ℕ
@@ -19,25 +14,6 @@ pushPull = 2
 abbrev pub isOutput : ℕ → Bool
 isOutput kind = eqb kind openDrain || eqb kind pushPull
 
--- "each output connector is driven from its source address"; the driven word is "0 for inputs"
-abbrev pub drivenBit : (ℕ → Bool) → (ℕ → Bool) → Connector → Bool
-drivenBit now before c = cond (isOutput (c .kind)) (reads now before (c .source)) false
-
--- "an input shows its sample bit, push-pull its driven bit, open-drain high only if both are"
-abbrev pub levelBit : ℕ → Bool → Bool → Bool
-levelBit kind sample driven = cond (eqb kind pushPull) driven (cond (eqb kind openDrain) (sample && driven) sample)
-
 -- past the list: an input from 0
 abbrev pub noConnector : Connector
 noConnector = record { kind = 0; source = 0 }
-
--- the two words, "bits 0-7 BNC1-8, 8-15 TTL0-7"
-abbrev pub drivenAt : (ℕ → Bool) → (ℕ → Bool) → List Connector → ℕ → Bool
-drivenAt now before connectors k = drivenBit now before (getD connectors k noConnector)
-
-abbrev pub levelOf : (ℕ → Bool) → (ℕ → Bool) → List Connector → ℕ → ℕ → Bool
-levelOf now before connectors sample k = levelBit (getD connectors k noConnector .kind) (bitAt sample k) (drivenAt now before connectors k)
-
-unfoldable pub linesOf : (ℕ → Bool) → (ℕ → Bool) → List Connector → ℕ → Lines
-linesOf now before connectors sample =
-    record { driven = wordOf (drivenAt now before connectors) connectorCount; levels = wordOf (levelOf now before connectors sample) connectorCount }

@@ -18,8 +18,7 @@ use Rattle.card.specs.declared.card.Card.{Card}
 use Rattle.card.specs.declared.card.Connector.{Connector}
 use Rattle.card.specs.Address.{firstCell, firstConnector, connectorCount, among, edgeAddress}
 use Rattle.card.specs.Connectors.{noConnector}
-use Rattle.card.specs.Fresh.{clearState, freshCell}
-use Rattle.card.specs.Tick.{noCell}
+use Rattle.card.specs.Fresh.{clearState, freshCell, noCell}
 use Rattle.card.specs.Valid.{frontTrigger}
 
 -- ---- parts of the card, replaced

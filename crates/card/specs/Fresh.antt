@@ -1,7 +1,7 @@
 -- Document 01, "Lines", its last sentence: the card as it powers up, with everything low and no cell edited.
 use Prim.Native.Nat.{ℕ}
 use mathlib.Core.Bool.{false}
-use mathlib.Core.List.{List, _++_}
+use mathlib.Core.List.{List, [], _++_}
 use lib.ListN.{replicate}
 use Rattle.cells.specs.declared.cell.Cell.{Cell}
 use Rattle.cells.specs.declared.cell.State.{State}
@@ -18,6 +18,10 @@ clearState = record { bit = false; count = pulses 0; pulse = false }
 -- "cells constant 0"
 abbrev pub freshCell : Cell
 freshCell = record { kind = 0; config = 0; slots = replicate 4 0; state = clearState }
+
+-- past the list: a constant 0 with no slots
+abbrev pub noCell : Cell
+noCell = record { kind = 0; config = 0; slots = []; state = clearState }
 
 -- "BNCs push-pull from 0, backplane inputs from 0"
 abbrev pub freshConnectors : List Connector

@@ -13,8 +13,7 @@ use Rattle.card.specs.declared.card.Connector.{Connector}
 use Rattle.card.specs.Address.{cellCount, connectorCount, firstCell}
 use Rattle.card.specs.Connectors.{pushPull, noConnector}
 use Rattle.card.specs.Edits.{withSettings}
-use Rattle.card.specs.Fresh.{clearState}
-use Rattle.card.specs.Tick.{noCell}
+use Rattle.card.specs.Fresh.{clearState, noCell}
 
 -- ---- the cells that presets set
 

@@ -5,7 +5,7 @@ use mathlib.Core.Bool.{false}
 use lib.ListN.{getD}
 use Rattle.words.specs.Bits.{bitAt}
 use Rattle.card.specs.declared.card.Card.{Card}
-use Rattle.card.specs.Tick.{noCell}
+use Rattle.card.specs.Fresh.{noCell}
 
 -- the card d comes from c by an edit: the same memory, which has the outputs, the levels and the driven word; a cell that is not edited in d was
 -- not edited in c, and is as it was

@@ -1,5 +1,5 @@
 -- Document 01, rows 5 to 13 of "When the card says no", as tests of single values; and the settings that lines can set, which a record may hold.
-use Prim.Native.Nat.{ℕ, _+_, _%_}
+use Prim.Native.Nat.{ℕ}
 use mathlib.Core.Bool.{Bool, true, false, not, _&&_, _||_, cond}
 use mathlib.Core.List.{List, [], _∷_}
 use lib.Dec.{leb, ltb, eqb}
@@ -14,7 +14,6 @@ use Rattle.card.specs.declared.card.Card.{Card}
 use Rattle.card.specs.declared.card.Connector.{Connector}
 use Rattle.card.specs.Address.{firstCell, firstConnector, connectorCount, among, baseOf, edgeAddress}
 use Rattle.card.specs.Connectors.{pushPull, isOutput, noConnector}
-use Rattle.card.specs.Tick.{noCell}
 
 -- ---- single values
 

@@ -11,7 +11,7 @@ ghost use Rattle.card.specs.Connectors.{noConnector};
 ghost use Rattle.card.specs.PresetRows;
 ghost use Rattle.card.specs.PresetRows.{byteAt, sourceIn, wiredCell, cellIn, SourceRows, CellRows};
 ghost use Rattle.card.specs.Presets.{offered, presetCell, presetSource, setsFront, sourced, preset};
-ghost use Rattle.card.specs.Tick.{noCell};
+ghost use Rattle.card.specs.Fresh.{noCell};
 use crate::card::Card;
 use crate::card::Connector;
 use crate::limits::CELLS;

@@ -8,17 +8,17 @@ use lib.Dec.{eqb, lit≤}
 use lib.ListN.{length, length-append, length-take}
 use lib.Seq.{sets}
 use Rattle.text.specs.Decimal.{decimal, maxDigits}
-use Rattle.card.specs.declared.card.Card.{Card}
-use Rattle.card.specs.declared.tick.Input.{Input}
-use Rattle.card.specs.declared.tick.Answer.{Answer}
-use Rattle.card.specs.Address.{cellCount}
-use Rattle.card.specs.Tick.{tick}
-use Rattle.card.proofs.Counts.{tick-count}
-use Rattle.cells.proofs.Rows.{and-left, and-right}
 use Rattle.text.specs.Hex.{hex4}
 use Rattle.text.proofs.DecimalLaws.{decimal-length}
 use Rattle.text.proofs.HexLaws.{hex-length}
 use Rattle.text.proofs.Stores.{Stored, behind}
+use Rattle.cells.proofs.Rows.{and-left, and-right}
+use Rattle.card.specs.declared.card.Card.{Card}
+use Rattle.card.specs.Address.{cellCount}
+use Rattle.ticks.specs.declared.tick.Input.{Input}
+use Rattle.ticks.specs.declared.tick.Answer.{Answer}
+use Rattle.ticks.specs.Tick.{tick}
+use Rattle.ticks.proofs.Counts.{tick-count}
 use Rattle.lines.specs.Line.{shortestReply}
 use Rattle.console.specs.Console.{word, ranText, idleText, tickText, loadText, plainReply, longestPrint}
 

@@ -7,11 +7,11 @@ use lib.ListN.{length, getD, take}
 use Rattle.text.specs.Decimal.{isDigit, decimal}
 use Rattle.text.specs.Hex.{hex4, hexAt}
 use Rattle.card.specs.declared.card.Card.{Card}
-use Rattle.card.specs.declared.tick.Answer.{Answer}
-use Rattle.card.specs.declared.tick.Ticked.{Ticked}
 use Rattle.card.specs.Address.{cellCount}
-use Rattle.card.specs.Record.{configWidth, loadNumber, loaded}
-use Rattle.card.specs.Tick.{tick}
+use Rattle.ticks.specs.declared.tick.Answer.{Answer}
+use Rattle.ticks.specs.declared.tick.Ticked.{Ticked}
+use Rattle.ticks.specs.Tick.{tick}
+use Rattle.saved.specs.Record.{configWidth, loadNumber, loaded}
 use Rattle.lines.specs.Line.{shortestReply, lineOutcome, lineReply, storeAfter}
 use Rattle.console.specs.declared.TickLine.{TickLine}
 

@@ -6,17 +6,17 @@ ghost use lib.ListN.{length};
 ghost use lib.Seq.{sets};
 ghost use Rattle.text.specs.Decimal.{maxDigits};
 ghost use Rattle.text.specs.Hex.{hex4};
-ghost use Rattle.console.specs.Console.{tickLine, tickText, isLoadLine, loadText, plainReply, longestPrint, byLine, entered};
 ghost use Rattle.card.specs.Address.{cellCount};
-ghost use Rattle.card.specs.Tick.{tick};
+ghost use Rattle.ticks.specs.Tick.{tick};
 ghost use Rattle.lines.specs.Line.{shortestReply};
+ghost use Rattle.console.specs.Console.{tickLine, tickText, isLoadLine, loadText, plainReply, longestPrint, byLine, entered};
 use card::card::Card;
-use card::tick::Answer;
-use card::tick::Input;
-use card::tick::Ticked;
-use card::tick::full_tick;
-use card::tick::quick_tick;
 use lines::line::SHORTEST_REPLY;
+use ticks::tick::Answer;
+use ticks::tick::Input;
+use ticks::tick::Ticked;
+use ticks::tick::full_tick;
+use ticks::tick::quick_tick;
 
 // A line that asks for a tick: its kind, and what comes in with it.
 pub struct TickLine {
@@ -195,7 +195,7 @@ pub fn enter(card: Card, text: &[u8], store: &mut [u8], out: &mut [u8]) -> Enter
         };
     }
     if is_load(text) {
-        let loaded = card::record::load(card, store);
+        let loaded = saved::record::load(card, store);
         let next = loaded.card;
         let len = put_load(out, loaded.k);
         return Entered {

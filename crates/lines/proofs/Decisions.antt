@@ -12,7 +12,7 @@ use Rattle.card.specs.declared.change.Change.{Change}
 use Rattle.card.specs.declared.change.Wires.{Wires}
 use Rattle.card.specs.Address.{cellCount, firstConnector, connectorCount, among}
 use Rattle.card.specs.Valid.{badPlace, badCellType, badConnectorType, badClock, badAddress}
-use Rattle.card.proofs.Views.{among-bounds}
+use Rattle.card.proofs.Places.{among-bounds}
 use Rattle.lines.specs.declared.grammar.Pairs.{Pairs}
 use Rattle.lines.specs.declared.grammar.Slot.{Slot}
 use Rattle.lines.specs.declared.grammar.Slot.the-variants.{X, Y, Z, F, NoSlot}

@@ -14,12 +14,12 @@ use Rattle.cells.specs.declared.table.Slots.{Slots}
 use Rattle.cells.specs.Wake.{wakes}
 use Rattle.card.specs.declared.card.Card.{Card}
 use Rattle.card.specs.Address.{cellCount}
-use Rattle.card.specs.Fresh.{noMemory, freshOf}
-use Rattle.card.specs.Record.{configWidth, loadNumber, loaded}
-use Rattle.card.specs.Settled.{remembered}
-use Rattle.card.specs.Tick
+use Rattle.card.specs.Fresh.{noCell, noMemory, freshOf}
 use Rattle.card.proofs.ChangeLaws.{changed-bit}
-use Rattle.card.proofs.Sleep.{quick-set, remembers, recalls, started-low}
+use Rattle.ticks.specs.Settled.{remembered}
+use Rattle.ticks.specs.Tick
+use Rattle.ticks.proofs.Sleep.{quick-set, remembers, recalls, started-low}
+use Rattle.saved.specs.Record.{configWidth, loadNumber, loaded}
 use Rattle.lines.specs.Line.{lineChange, lineOutcome}
 use Rattle.lines.specs.Calls.{Call, after, end}
 use Rattle.lines.specs.Calls.Call.{line, load, tick}
@@ -124,7 +124,7 @@ module _ (n : ℕ) where
   who-wakes calls input i h own =
       let c = end n (freshOf n) calls in
       let levels = Tick.lines n c input .levels in
-      let cell = getD (c .cells) i Tick.noCell in
+      let cell = getD (c .cells) i noCell in
       let now = Tick.readIn n false c input i (cell .slots) in
       let read = read-from-fresh calls i (le-of-lt h) in
       let last = recalls n i (c .memory) levels (cell .slots) ∙ ap (λ (r : Readings). r (cell .slots)) read in

@@ -7,19 +7,18 @@ use mathlib.Core.List.{List, [], _∷_}
 use lib.Dec.{eqb, ltb}
 use lib.ListN.{length}
 use Rattle.card.specs.declared.card.Card.{Card}
-use Rattle.card.specs.declared.tick.Input.{Input}
 use Rattle.card.specs.declared.change.Change.the-variants.{Nothing}
 use Rattle.card.specs.declared.context.Context.{Context}
 use Rattle.card.specs.Change.{changed}
 use Rattle.card.specs.Context.{contextOf}
 use Rattle.card.specs.Fresh.{freshOf}
-use Rattle.card.specs.Record.{configWidth, loaded, loadNumber}
-use Rattle.card.specs.Tick
-use Rattle.card.specs.Settled.{Settled, AlikeTicks}
 use Rattle.card.specs.Untouched.{Edit}
-use Rattle.card.proofs.Sleep.{fresh-settled, tick-settled, same-ticks}
 use Rattle.card.proofs.ChangeLaws.{changed-edit}
-use Rattle.card.proofs.EditLaws.{edit-settled, powered-settled}
+use Rattle.ticks.specs.declared.tick.Input.{Input}
+use Rattle.ticks.specs.Tick
+use Rattle.ticks.specs.Settled.{Settled, AlikeTicks}
+use Rattle.ticks.proofs.Sleep.{fresh-settled, tick-settled, same-ticks, edit-settled, powered-settled}
+use Rattle.saved.specs.Record.{configWidth, loaded, loadNumber}
 use Rattle.lines.specs.declared.grammar.Parsed.{Parsed}
 use Rattle.lines.specs.declared.grammar.Parsed.the-variants.{Malformed, Elsewhere, Here}
 use Rattle.lines.specs.Grammar.{parse}

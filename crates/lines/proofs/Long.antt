@@ -8,7 +8,7 @@ use lib.ListN.{length}
 use borrow.Author.Tests.{lt-leb}
 use Rattle.card.specs.declared.card.Card.{Card}
 use Rattle.card.specs.Context.{contextOf}
-use Rattle.card.specs.Record.{configWidth, savedTo}
+use Rattle.saved.specs.Record.{configWidth, savedTo}
 use Rattle.lines.specs.declared.grammar.Parsed.{Parsed}
 use Rattle.lines.specs.declared.grammar.Parsed.the-variants.{Malformed}
 use Rattle.lines.specs.Grammar.{longestLine, parse}

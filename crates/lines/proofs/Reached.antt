@@ -17,11 +17,13 @@ use Rattle.card.specs.Context.{contextOf, drivesFront, presetDrives}
 use Rattle.card.specs.Edits.{atCell, currentCell}
 use Rattle.card.specs.Fresh.{fresh}
 use Rattle.card.specs.Presets.{offered}
-use Rattle.card.specs.Record.{configWidth, loadNumber, loaded}
 use Rattle.card.specs.Valid.{badCellType, badConnectorType, badClock, badConfig, unusedSlot, badAddress, validCard}
-use Rattle.card.proofs.Records.{load-refused, loaded-valid, fresh-valid}
+use Rattle.card.proofs.ValidLaws.{fresh-valid, valid-source}
 use Rattle.card.proofs.ValidLaws.{valid-move, valid-trigger, valid-home, valid-type, valid-config, valid-state, valid-slots, valid-connector-type}
-use Rattle.card.proofs.ValidLaws.{valid-source, valid-preset, valid-tick}
+use Rattle.card.proofs.PresetValid.{valid-preset}
+use Rattle.ticks.proofs.ValidTicks.{valid-tick}
+use Rattle.saved.specs.Record.{configWidth, loadNumber, loaded}
+use Rattle.saved.proofs.Records.{load-refused, loaded-valid}
 use Rattle.lines.specs.declared.grammar.Pairs.{Pairs}
 use Rattle.lines.specs.declared.grammar.Command.{Command}
 use Rattle.lines.specs.declared.grammar.Command.the-variants.{Move, Where, Trigger, Home, Preset, SetKind, SetConfig, SetState, GetKind, GetConfig}
@@ -145,4 +147,5 @@ reached-valid c [] ok = ok
 reached-valid c (call ∷ calls) ok = reached-valid (after cellCount c call) calls (call-valid c call ok)
 
 pub fresh-reached-valid : (calls : List Call) → validCard cellCount (end cellCount fresh calls) ≡ true
-fresh-reached-valid calls = reached-valid fresh calls fresh-valid
+unfolding fresh
+fresh-reached-valid calls = reached-valid fresh calls (fresh-valid cellCount)

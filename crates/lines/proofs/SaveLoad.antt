@@ -13,10 +13,10 @@ use Rattle.card.specs.declared.context.Context.{Context}
 use Rattle.card.specs.Context.{contextOf}
 use Rattle.card.specs.Address.{cellCount}
 use Rattle.card.specs.Fresh.{fresh}
-use Rattle.card.specs.Record.{configWidth, recordLength, recordOf, loaded}
 use Rattle.card.specs.Valid.{validCard}
-use Rattle.card.proofs.Records.{config-fits, valid-length, saved-front, load-accepts}
-use Rattle.card.proofs.Records
+use Rattle.saved.specs.Record.{configWidth, recordLength, recordOf, loaded}
+use Rattle.saved.proofs.Records.{config-fits, valid-length, saved-front, load-accepts}
+use Rattle.saved.proofs.Records
 use Rattle.lines.specs.declared.grammar.Command.{Command}
 use Rattle.lines.specs.declared.grammar.Command.the-variants.{Move, Where, Trigger, Home, Preset, SetKind, SetConfig, SetState, GetKind, GetConfig}
 use Rattle.lines.specs.declared.grammar.Command.the-variants.{GetState, SetSlots, GetSlot, Front, Back, Cells, Save}

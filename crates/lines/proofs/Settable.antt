@@ -9,9 +9,10 @@ use Rattle.card.specs.declared.card.Card.{Card}
 use Rattle.card.specs.declared.card.Connector.{Connector}
 use Rattle.card.specs.Address.{cellCount}
 use Rattle.card.specs.Fresh.{freshOf, fresh}
-use Rattle.card.specs.Record.{configWidth, loadNumber, loaded}
 use Rattle.card.specs.Valid.{valid, validCard}
-use Rattle.card.proofs.Records.{valid-cleared, loaded-valid}
+use Rattle.card.proofs.Settings.{valid-cleared}
+use Rattle.saved.specs.Record.{configWidth, loadNumber, loaded}
+use Rattle.saved.proofs.Records.{loaded-valid}
 use Rattle.lines.specs.Line.{shortestReply, lineOutcome}
 use Rattle.lines.specs.Calls.{after, end}
 use Rattle.lines.specs.Wiring.{wiringLines}

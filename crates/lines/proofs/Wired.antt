@@ -9,6 +9,7 @@ use lib.ListN.{length, getD, set, replicate, length-map, length-set, length-repl
 use lib.Seq.{sets}
 use borrow.Author.Tests.{le-ltb, lt-ltb, eq-eqb}
 use Rattle.text.specs.Decimal.{maxDigits}
+use Rattle.text.proofs.Stores.{sets-all}
 use Rattle.cells.specs.declared.cell.Cell.{Cell}
 use Rattle.cells.specs.declared.table.Slots.{Slots}
 use Rattle.cells.specs.Table.{rowOf, anySlot, largestConfig}
@@ -23,9 +24,7 @@ use Rattle.card.specs.Edits.{currentCell, clearedCell, typed, configured, wired
 use Rattle.card.specs.Fresh.{freshCell, freshOf}
 use Rattle.card.specs.Valid.{frontDriven, badCellType, badConnectorType, badAddress, badConfig, validCell, validConnector, every, valid, validSlot}
 use Rattle.card.specs.Written.{configuredAs, written}
-use Rattle.text.proofs.Stores.{sets-all}
-use Rattle.card.proofs.Records.{cell-config}
-use Rattle.card.proofs.Settings.{Sound, split}
+use Rattle.card.proofs.Settings.{cell-config, Sound, split}
 use Rattle.card.proofs.ValidLaws.{kind-known, kind-good, source-good}
 use Rattle.card.proofs.WriteLaws.{CellWritten, ConnectorWritten, written-is, unslotted, configured-is, config-permitted, slots-each, slots-permitted}
 use Rattle.card.proofs.WriteLaws.{slot-unused, slot-most, address-most, used-given, cell-place, connector-place, at-cell, current-written, move-written}

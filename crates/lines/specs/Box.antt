@@ -16,15 +16,16 @@ use Rattle.cells.specs.declared.cell.Worked.{Worked}
 use Rattle.cells.specs.Table.{slots, rowOf}
 use Rattle.cells.specs.Work.{slotsOf, taken, workAs, workOut}
 use Rattle.cells.specs.Wake.{stirredAs, stirred, disagree, wakes}
-use Rattle.card.specs.Address.{cellCount, levelAt, readsLevels, reads, slotsRead, mixed, view}
-use Rattle.card.specs.Connectors.{linesOf}
+use Rattle.card.specs.Address.{cellCount}
 use Rattle.card.specs.Edits.{bitState, move, currentCell, currentConnector, putCell, putConnector, typed, setType, configuredState, configured, setConfig}
 use Rattle.card.specs.Edits.{wired, setSlots, setSource}
 use Rattle.card.specs.Change.{changed}
 use Rattle.card.specs.Fresh.{clearState, fresh}
 use Rattle.card.specs.Presets.{numbers, table, settingOf, offered}
-use Rattle.card.specs.Tick.{readNow, readLast, named, turnAt, outputsBelow, turned, tick}
 use Rattle.card.specs.Valid.{permittedBase, badPlace, badCellType, badConfig, unusedSlot, badAddress}
+use Rattle.ticks.specs.Reading.{levelAt, readsLevels, reads, slotsRead, mixed, view}
+use Rattle.ticks.specs.Levels.{linesOf}
+use Rattle.ticks.specs.Tick.{readNow, readLast, named, turnAt, outputsBelow, turned, tick}
 use Rattle.lines.specs.Grammar.{isWord, isWhole, toEnd, slotOf, gave, give, stepped, pairsOf, writeOf, ccaWrite, ccaRead, ccaForm, slotForm, ccbForm}
 use Rattle.lines.specs.Grammar.{readOf, readForm, cardForm, plainForm, addressed, parse}
 use Rattle.lines.specs.Refusal.{alone, refusal}

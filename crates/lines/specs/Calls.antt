@@ -6,10 +6,10 @@ use mathlib.Core.List.{List, [], _∷_}
 use lib.Dec.{eqb}
 use lib.ListN.{length}
 use Rattle.card.specs.declared.card.Card.{Card}
-use Rattle.card.specs.declared.tick.Input.{Input}
-use Rattle.card.specs.declared.tick.Answer.{Answer}
-use Rattle.card.specs.Record.{configWidth, recordOf, loadNumber, loaded}
-use Rattle.card.specs.Tick
+use Rattle.ticks.specs.declared.tick.Input.{Input}
+use Rattle.ticks.specs.declared.tick.Answer.{Answer}
+use Rattle.ticks.specs.Tick
+use Rattle.saved.specs.Record.{configWidth, recordOf, loadNumber, loaded}
 use Rattle.lines.specs.Line
 use Rattle.lines.specs.Line.{lineOutcome}
 

@@ -5,9 +5,9 @@ use mathlib.Core.Path.{_≡_}
 use mathlib.Core.Bool.{Bool}
 use mathlib.Core.List.{List, [], _∷_}
 use lib.ListN.{length}
-use Rattle.card.specs.declared.tick.Answer.{Answer}
-use Rattle.card.specs.declared.tick.Input.{Input}
 use Rattle.card.specs.Fresh.{freshOf}
+use Rattle.ticks.specs.declared.tick.Answer.{Answer}
+use Rattle.ticks.specs.declared.tick.Input.{Input}
 use Rattle.lines.specs.Calls.{Call, Reply, end, answers}
 use Rattle.lines.specs.Calls.Call.{line, load, tick}
 use Rattle.lines.specs.Calls.Reply.{lineReply, loadReply, tickReply}

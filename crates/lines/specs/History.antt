@@ -12,13 +12,13 @@ use Rattle.cells.specs.declared.table.Slots.{Slots}
 use Rattle.cells.specs.Wake.{wakes}
 use Rattle.card.specs.declared.card.Card.{Card}
 use Rattle.card.specs.declared.card.Memory.{Memory}
-use Rattle.card.specs.declared.tick.Input.{Input}
-use Rattle.card.specs.Address.{slotsRead}
 use Rattle.card.specs.Change.{editsCell}
-use Rattle.card.specs.Fresh.{noMemory, freshOf}
-use Rattle.card.specs.Record.{configWidth, loadNumber}
-use Rattle.card.specs.Tick
-use Rattle.card.specs.Tick.{moved, readIn}
+use Rattle.card.specs.Fresh.{noCell, noMemory, freshOf}
+use Rattle.ticks.specs.declared.tick.Input.{Input}
+use Rattle.ticks.specs.Reading.{slotsRead}
+use Rattle.ticks.specs.Tick
+use Rattle.ticks.specs.Tick.{moved, readIn}
+use Rattle.saved.specs.Record.{configWidth, loadNumber}
 use Rattle.lines.specs.Line.{lineChange}
 use Rattle.lines.specs.Calls.{Call, after, end}
 use Rattle.lines.specs.Calls.Call.{line, load, tick}
@@ -67,7 +67,7 @@ module _ (n : ℕ) where
   unfoldable pub WhoWakes : Type 0
   WhoWakes = (calls : List Call) (input : Input) (i : ℕ) → i < n
       → let c = end n (freshOf n) calls in
-      let cell = getD (c .cells) i Tick.noCell in
+      let cell = getD (c .cells) i noCell in
       input .code ≡ c .trigger
       → bitAt (Tick.tick n false c input .answer .woken) i
       ≡ wakes (cell .kind) (cell .state) (editedSince (freshOf n) calls i false) (readIn n false c input i (cell .slots))

@@ -13,7 +13,7 @@ use Rattle.card.specs.declared.change.Wires.{Wires}
 use Rattle.card.specs.declared.context.Context.{Context}
 use Rattle.card.specs.Change.{changed}
 use Rattle.card.specs.Context.{contextOf, typeRead, configRead, stateRead, slotRead, frontRead, backRead}
-use Rattle.card.specs.Record.{configWidth, savedTo}
+use Rattle.saved.specs.Record.{configWidth, savedTo}
 use Rattle.lines.specs.declared.grammar.Pairs.{Pairs}
 use Rattle.lines.specs.declared.grammar.Slot.{Slot}
 use Rattle.lines.specs.declared.grammar.Slot.the-variants.{X, Y, Z, F, NoSlot}

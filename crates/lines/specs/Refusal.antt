@@ -7,8 +7,8 @@ use Rattle.cells.specs.Table.{slots}
 use Rattle.card.specs.declared.context.Context.{Context}
 use Rattle.card.specs.Context.{drivesFront, presetDrives}
 use Rattle.card.specs.Presets.{offered}
-use Rattle.card.specs.Record.{configWidth, recordLength}
 use Rattle.card.specs.Valid.{badPlace, badCellType, badConnectorType, badClock, badConfig, noConfig, unusedSlot, badAddress, badState, noState}
+use Rattle.saved.specs.Record.{configWidth, recordLength}
 use Rattle.lines.specs.declared.grammar.Pairs.{Pairs}
 use Rattle.lines.specs.declared.grammar.Slot.{Slot}
 use Rattle.lines.specs.declared.grammar.Slot.the-variants.{X, Y, Z, F, NoSlot}

@@ -9,7 +9,7 @@ use Rattle.card.specs.declared.card.Card.{Card}
 use Rattle.card.specs.Address.{cellCount}
 use Rattle.card.specs.Edits.{clearedCell}
 use Rattle.card.specs.Fresh.{fresh}
-use Rattle.card.specs.Record.{configWidth, recordLength, loadNumber, loaded}
+use Rattle.saved.specs.Record.{configWidth, recordLength, loadNumber, loaded}
 use Rattle.lines.specs.Line.{shortestReply, lineOutcome, storeAfter}
 use Rattle.lines.specs.Calls.{Call, savedBytes, end}
 

@@ -7,7 +7,7 @@ ghost use lib.ListN.{length};
 ghost use lib.Seq.{sets};
 ghost use Rattle.text.specs.Decimal.{decimal, maxDigits};
 ghost use Rattle.card.specs.Address.{cellCount};
-ghost use Rattle.card.specs.Record.{configWidth, savedTo};
+ghost use Rattle.saved.specs.Record.{configWidth, savedTo};
 ghost use Rattle.lines.specs.Line.{ending, replyOf, shortestReply, lineResult, resultOf};
 use crate::decision::Response;
 use crate::decision::decide_for;
@@ -61,7 +61,7 @@ fn save_if(asked: bool, card: Card, store: &mut [u8])
     ensures { λ _. ⌜ now (store .exit) ≡ cond asked (savedTo cellCount configWidth card (now (store .entry))) (now (store .entry)) ⌝ }
 {
     if asked {
-        card::record::save(card, store);
+        saved::record::save(card, store);
     }
 }
 

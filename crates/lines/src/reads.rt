@@ -2,7 +2,7 @@
 ghost use mathlib.Core.Path.{_≡_};
 ghost use lib.Dec.{ltb};
 ghost use Rattle.card.specs.Address.{cellCount};
-ghost use Rattle.card.specs.Record.{configWidth, recordLength};
+ghost use Rattle.saved.specs.Record.{configWidth, recordLength};
 ghost use Rattle.lines.specs.Refusal;
 ghost use Rattle.lines.specs.Line.{slotIndex, saving, decision};
 use crate::decision::Decision;
@@ -14,9 +14,9 @@ use crate::grammar::Command;
 use crate::grammar::Slot;
 use card::change::Change;
 use card::context::Context;
-use card::record::RECORD_LENGTH;
 use card::valid;
 use cells::table::Slots;
+use saved::record::RECORD_LENGTH;
 
 // `36CCA Z?`: the configuration of the current cell, or a connector's source; 9 where the type has none.
 pub fn config(x: Context) -> Decision

@@ -11,15 +11,15 @@ use lib.Dec.{eqb, leb}
 use lib.ListN.{length, getD, set, take, length-append, length-take}
 use lib.Seq.{sets, take-all, take-at, take-suc, take-suc-set}
 use borrow.Author.Tests.{eqb-true, leb-true, lt-leb, ne-eqb}
-use Rattle.cells.proofs.Rows.{and-left, and-right}
 use Rattle.text.specs.Digits.{every}
 use Rattle.text.specs.Hex.{isHex}
 use Rattle.text.proofs.DigitLaws.{every-at}
 use Rattle.text.proofs.Stores.{Stored, behind}
+use Rattle.cells.proofs.Rows.{and-left, and-right}
 use Rattle.card.specs.declared.card.Card.{Card}
 use Rattle.card.specs.Address.{cellCount}
 use Rattle.card.specs.Fresh.{fresh}
-use Rattle.card.specs.Record.{configWidth, recordOf, loadNumber, loaded}
+use Rattle.saved.specs.Record.{configWidth, recordOf, loadNumber, loaded}
 use Rattle.loads.specs.Rows.{longestRow, isDash, isRow, hexOf, acceptedText, refusedText, answerTo, printed, kept, rowAfter, rowAfterAll}
 
 -- ---- a row

@@ -10,7 +10,7 @@ use Rattle.text.specs.Decimal.{decimal}
 use Rattle.text.specs.Hex.{isHex, hexValue, hexDigits}
 use Rattle.card.specs.Address.{cellCount}
 use Rattle.card.specs.Fresh.{fresh}
-use Rattle.card.specs.Record.{fieldsFrom, configWidth, recordOf, loadNumber, loaded}
+use Rattle.saved.specs.Record.{fieldsFrom, configWidth, recordOf, loadNumber, loaded}
 
 -- ---- a row
 

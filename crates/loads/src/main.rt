@@ -12,11 +12,11 @@ ghost use lib.ListN.{length, take};
 ghost use lib.Seq.{sets};
 ghost use Rattle.text.specs.Digits.{every};
 ghost use Rattle.text.specs.Hex.{isHex, hexValue};
-ghost use Rattle.loads.specs.Rows.{isDash, isRow, mostBytes, bytesIn, digitPair, hexOf};
-ghost use Rattle.loads.specs.Rows.{acceptedText, refusedText, answerTo, printed, longestPrint, kept, rowAfter, rowAfterAll};
 ghost use Rattle.card.specs.Address.{cellCount};
 ghost use Rattle.card.specs.Valid.{validCard};
-ghost use Rattle.card.specs.Record.{configWidth, recordOf};
+ghost use Rattle.saved.specs.Record.{configWidth, recordOf};
+ghost use Rattle.loads.specs.Rows.{isDash, isRow, mostBytes, bytesIn, digitPair, hexOf};
+ghost use Rattle.loads.specs.Rows.{acceptedText, refusedText, answerTo, printed, longestPrint, kept, rowAfter, rowAfterAll};
 use card::card::Card;
 use libc::STDIN_FILENO;
 use libc::STDOUT_FILENO;
@@ -119,7 +119,7 @@ fn put_accepted(out: &mut [u8], card: Card) -> usize
     ensures { λ r. ⌜ r ≤ longestPrint ⌝ }
 {
     let mut store = [0u8; 276];
-    card::record::save(card, &mut store);
+    saved::record::save(card, &mut store);
     let at = text::copy(out, 0, b"0 ");
     let end = put_hex(out, at, &store);
     text::copy(out, end, b"\n")
@@ -132,7 +132,7 @@ fn answer(bytes: &[u8], out: &mut [u8]) -> usize
     ensures { λ r. ⌜ r ≡ length (answerTo (now (bytes .entry))) ⌝ }
     ensures { λ r. ⌜ r ≤ longestPrint ⌝ }
 {
-    let loaded = card::record::load(card::card::fresh(), bytes);
+    let loaded = saved::record::load(card::card::fresh(), bytes);
     let k = loaded.k;
     let card = loaded.card;
     if k != 0 {

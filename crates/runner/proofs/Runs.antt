@@ -11,8 +11,8 @@ use lib.Dec.{eqb}
 use lib.ListN.{length, getD, take, drop, length-take, length-drop}
 use lib.Seq.{sets, length-sets, take-all, take-at, take-add, take-append-add, take-take, take-append-le, getD-take, getD-drop, drop-cons, drop-drop}
 use borrow.Author.Tests.{ne-eqb}
-use Rattle.card.specs.declared.card.Card.{Card}
 use Rattle.text.proofs.Stores.{front}
+use Rattle.card.specs.declared.card.Card.{Card}
 use Rattle.console.specs.Console.{longestPrint, entered}
 use Rattle.console.proofs.Long.{entered-long}
 use Rattle.runner.specs.declared.State.{State}

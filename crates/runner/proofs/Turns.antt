@@ -10,7 +10,7 @@ use lib.ListN.{length, take, replicate, length-append}
 use lib.Seq.{length-take-le}
 use Rattle.card.specs.Address.{cellCount}
 use Rattle.card.specs.Fresh.{fresh}
-use Rattle.card.specs.Record.{configWidth, recordLength}
+use Rattle.saved.specs.Record.{configWidth, recordLength}
 use Rattle.console.specs.Console.{longestPrint, Entry, entered}
 use Rattle.runner.specs.Run.{RunState, startState, ended, longer, takes, takesAll, kept, keptOf, flushed}
 use Rattle.runner.specs.Run.{blockLength, mostReads, runStateOf, Counted, Ran}

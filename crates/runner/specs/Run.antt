@@ -8,7 +8,7 @@ use lib.ListN.{length, take, drop, replicate}
 use Rattle.card.specs.declared.card.Card.{Card}
 use Rattle.card.specs.Address.{cellCount}
 use Rattle.card.specs.Fresh.{fresh}
-use Rattle.card.specs.Record.{configWidth, recordLength}
+use Rattle.saved.specs.Record.{configWidth, recordLength}
 use Rattle.console.specs.Console.{longestPrint, Entry, entered}
 use Rattle.runner.specs.declared.State.{State}
 use Rattle.runner.specs.declared.Run.{Run}

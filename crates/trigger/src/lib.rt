@@ -4,14 +4,14 @@ ghost use mathlib.Core.Path.{_≡_};
 ghost use Prim.Native.Nat.{_≤_};
 ghost use Rattle.card.specs.Address.{cellCount};
 ghost use Rattle.card.specs.Fresh;
-ghost use Rattle.card.specs.Record.{configWidth, loadNumber, loaded};
-ghost use Rattle.card.specs.Tick.{tick};
+ghost use Rattle.ticks.specs.Tick.{tick};
+ghost use Rattle.saved.specs.Record.{configWidth, loadNumber, loaded};
 ghost use Rattle.lines.specs.Line.{shortestReply, lineResult, resultOf};
 use card::card::Card;
-use card::record::Loaded;
-use card::tick::Input;
-use card::tick::Ticked;
 use lines::line::Answered;
+use saved::record::Loaded;
+use ticks::tick::Input;
+use ticks::tick::Ticked;
 
 // A card as it powers up.
 #[no_mangle]
@@ -26,7 +26,7 @@ pub extern "C" fn trigger_fresh() -> Card
 pub extern "C" fn trigger_full_tick(card: Card, input: Input) -> Ticked
     ensures { λ t. ⌜ t ≡ tick cellCount true card input ⌝ }
 {
-    card::tick::full_tick(card, input)
+    ticks::tick::full_tick(card, input)
 }
 
 // The cells that the waking rules name are worked out.
@@ -34,7 +34,7 @@ pub extern "C" fn trigger_full_tick(card: Card, input: Input) -> Ticked
 pub extern "C" fn trigger_quick_tick(card: Card, input: Input) -> Ticked
     ensures { λ t. ⌜ t ≡ tick cellCount false card input ⌝ }
 {
-    card::tick::quick_tick(card, input)
+    ticks::tick::quick_tick(card, input)
 }
 
 // A load of any bytes: the card powers up with them, and a refused load leaves it as it was.
@@ -43,7 +43,7 @@ pub extern "C" fn trigger_load(card: Card, bytes: &[u8]) -> Loaded
     ensures { λ r. ⌜ r .card ≡ loaded cellCount configWidth card (now (bytes .entry)) ⌝ }
     ensures { λ r. ⌜ r .k ≡ loadNumber cellCount configWidth (now (bytes .entry)) ⌝ }
 {
-    card::record::load(card, bytes)
+    saved::record::load(card, bytes)
 }
 
 // A line obeyed or refused, its reply written, the record saved.

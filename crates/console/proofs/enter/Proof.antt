@@ -3,7 +3,7 @@ use Prim.Native.Nat.{ℕ}
 use mathlib.Core.Path.{refl, ap, _∙_}
 use lib.ListN.{length}
 use lib.Seq.{sets}
-use Rattle.card.specs.declared.tick.Ticked.{Ticked}
+use Rattle.ticks.specs.declared.tick.Ticked.{Ticked}
 use Rattle.console.specs.Console.{tickText, loadText, entered}
 use borrow.Author.Needs.{needs}
 use Rattle.console.proofs.enter.Statement.{statement}

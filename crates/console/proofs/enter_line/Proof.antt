@@ -5,9 +5,9 @@ use mathlib.Core.List.{List}
 use native.Mathlib.Omega.{arith}
 use lib.ListN.{length, take, replicate}
 use lib.Seq.{sets}
+use Rattle.text.proofs.Stores.{front}
 use Rattle.card.specs.Address.{cellCount}
 use Rattle.lines.specs.Line.{LineResult, shortestReply, lineReply, replyAfter}
-use Rattle.text.proofs.Stores.{front}
 use Rattle.console.specs.Console.{plainReply}
 use borrow.Author.Needs.{needs}
 use Rattle.console.proofs.enter_line.Statement.{statement}

@@ -5,8 +5,8 @@ use mathlib.Core.List.{[], _∷_}
 use native.Mathlib.Omega.{arith}
 use lib.ListN.{length, take}
 use lib.Seq.{sets}
-use Rattle.console.specs.Console.{plainReply}
 use Rattle.text.proofs.Stores.{stored, behind}
+use Rattle.console.specs.Console.{plainReply}
 use Rattle.console.proofs.Chains.{within, plain-short}
 use borrow.Author.Needs.{needs}
 use Rattle.console.proofs.put_plain.Statement.{statement}

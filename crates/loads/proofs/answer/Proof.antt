@@ -5,8 +5,8 @@ use lib.Seq.{sets}
 use Rattle.card.specs.declared.card.Card.{Card}
 use Rattle.card.specs.Address.{cellCount}
 use Rattle.card.specs.Valid.{validCard}
-use Rattle.card.specs.Record.{configWidth, loadNumber, loaded}
-use Rattle.card.proofs.Records.{loaded-valid}
+use Rattle.saved.specs.Record.{configWidth, loadNumber, loaded}
+use Rattle.saved.proofs.Records.{loaded-valid}
 use Rattle.loads.proofs.Rows.{answer-refused, answer-accepted}
 use borrow.Author.Needs.{needs}
 use Rattle.loads.proofs.answer.Statement.{statement}

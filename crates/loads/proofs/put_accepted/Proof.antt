@@ -2,8 +2,8 @@
 use mathlib.Core.Path.{refl, _∙_}
 use lib.ListN.{replicate}
 use Rattle.card.specs.Address.{cellCount}
-use Rattle.card.specs.Record.{configWidth}
-use Rattle.card.proofs.Records.{saved-whole}
+use Rattle.saved.specs.Record.{configWidth}
+use Rattle.saved.proofs.Records.{saved-whole}
 use Rattle.loads.proofs.Rows.{accepted-stored}
 use borrow.Author.Needs.{needs}
 use Rattle.loads.proofs.put_accepted.Statement.{statement}

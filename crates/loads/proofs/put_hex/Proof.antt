@@ -4,8 +4,8 @@ use mathlib.Core.Path.{_≡_, refl, ap, _∙_}
 use native.Mathlib.Omega.{arith}
 use lib.ListN.{length, take}
 use lib.Seq.{sets, length-sets, take-all}
-use Rattle.card.specs.Record.{fieldsFrom}
-use Rattle.card.proofs.Fields.{field-next, field-longer}
+use Rattle.saved.specs.Record.{fieldsFrom}
+use Rattle.saved.proofs.Fields.{field-next, field-longer}
 use Rattle.loads.specs.Rows.{digitPair, hexOf}
 use borrow.Author.Needs.{needs}
 use Rattle.loads.proofs.put_hex.Statement.{statement}

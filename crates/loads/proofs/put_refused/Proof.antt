@@ -6,8 +6,8 @@ use native.Mathlib.Omega.{arith}
 use lib.Dec.{lit≤}
 use Rattle.text.specs.Decimal.{decimal, maxDigits}
 use Rattle.text.proofs.DecimalLaws.{decimal-length}
-use Rattle.loads.specs.Rows.{refusedText}
 use Rattle.text.proofs.Stores.{stored, behind}
+use Rattle.loads.specs.Rows.{refusedText}
 use borrow.Author.Needs.{needs}
 use Rattle.loads.proofs.put_refused.Statement.{statement}
 use Rattle.loads.proofs.put_refused.Tie as tie

@@ -8,8 +8,7 @@ use borrow.Author.Needs.{needs}
 use Rattle.words.specs.Listed.{listed}
 use Rattle.words.proofs.Listed.{listed-next, listed-done, listed-map}
 use Rattle.card.specs.Address.{cellCount}
-use Rattle.card.specs.Fresh.{clearState}
-use Rattle.card.specs.Tick.{noCell}
+use Rattle.card.specs.Fresh.{clearState, noCell}
 use Rattle.card.specs.Edits.{clearedCell}
 use Rattle.card.proofs.edits.cleared.Statement.{statement}
 use Rattle.card.proofs.edits.cleared.Tie as tie

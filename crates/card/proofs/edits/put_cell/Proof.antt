@@ -1,5 +1,5 @@
 -- `card::edits::put_cell` meets its contract: one element is replaced, and its bit of the edits set, where the pointer stands at a cell.
-use Rattle.card.proofs.Views.{among-bounds}
+use Rattle.card.proofs.Places.{among-bounds}
 use native.Mathlib.Omega.{arith}
 use Rattle.card.specs.Edits.{putCell}
 use borrow.Author.Needs.{needs}

@@ -1,5 +1,5 @@
 -- `card::edits::put_connector` meets its contract: one element is replaced where the pointer stands at a connector.
-use Rattle.card.proofs.Views.{among-bounds}
+use Rattle.card.proofs.Places.{among-bounds}
 use native.Mathlib.Omega.{arith}
 use Rattle.card.specs.Edits.{putConnector}
 use borrow.Author.Needs.{needs}

@@ -2,7 +2,6 @@
 use native.Mathlib.Omega.{arith}
 use borrow.Author.Tests.{ltb-true}
 use Rattle.cells.proofs.Rows.{and-right}
-use borrow.Author.Needs.{needs}
 use Rattle.card.proofs.edits.wired_slot.Statement.{statement}
 use Rattle.card.proofs.edits.wired_slot.Tie as tie
 

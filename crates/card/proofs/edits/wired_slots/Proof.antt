@@ -1,7 +1,7 @@
 -- `card::edits::wired_slots` meets its contract: four elements, each replaced by its `wired_slot`.
 use mathlib.Core.Path.{_≡_}
 use lib.ListN.{length}
-use Rattle.card.proofs.Fields.{replaced}
+use Rattle.card.proofs.Slots.{replaced}
 use borrow.Author.Needs.{needs}
 use Rattle.card.proofs.edits.wired_slots.Statement.{statement}
 use Rattle.card.proofs.edits.wired_slots.Tie as tie

@@ -12,7 +12,7 @@ use Rattle.cells.specs.declared.cell.Cell.{Cell}
 use Rattle.card.specs.Address.{cellCount, connectorCount}
 use Rattle.card.specs.Connectors.{noConnector}
 use Rattle.card.specs.Edits.{withSettings}
-use Rattle.card.specs.Tick.{noCell}
+use Rattle.card.specs.Fresh.{noCell}
 use Rattle.card.specs.Presets.{has, sourced, cellAfter, connectorAfter, editedAfter, preset}
 use Rattle.card.specs.PresetRows.{sourceIn, covers, cellIn}
 use Rattle.card.proofs.PresetRows.{has-cell}

@@ -10,7 +10,7 @@ use Rattle.words.specs.Listed.{listed}
 use Rattle.words.proofs.Listed.{listed-next, listed-done}
 use Rattle.cells.specs.declared.cell.Cell.{Cell}
 use Rattle.card.specs.Address.{cellCount}
-use Rattle.card.specs.Tick.{noCell}
+use Rattle.card.specs.Fresh.{noCell}
 use Rattle.card.specs.PresetRows.{cellIn}
 use Rattle.card.proofs.presets.cells_under.Statement.{statement}
 use Rattle.card.proofs.presets.cells_under.Tie as tie

@@ -8,7 +8,7 @@ use lib.Seq.{take-all}
 use borrow.Author.Needs.{needs}
 use Rattle.card.specs.Address.{cellCount}
 use Rattle.card.specs.Valid.{validCell, every}
-use Rattle.card.specs.Tick.{noCell}
+use Rattle.card.specs.Fresh.{noCell}
 use Rattle.card.proofs.Settings.{every-next}
 use Rattle.card.proofs.valid.valid_cells.Statement.{statement}
 use Rattle.card.proofs.valid.valid_cells.Tie as tie

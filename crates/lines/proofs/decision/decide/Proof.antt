@@ -1,11 +1,10 @@
 -- `lines::decision::decide` meets its contract: each arm is the command that it names.
-use Rattle.lines.specs.Refusal.{refusal}
+use Rattle.lines.specs.Refusal.{refusal, when}
 use Rattle.lines.specs.Line.{changeFor, responseTo, decision}
 use lib.Dec.{eqb, ltb}
 use Rattle.card.specs.Address.{cellCount}
-use Rattle.card.specs.Record.{configWidth, recordLength}
-use Rattle.lines.specs.Refusal.{when}
 use Rattle.card.specs.declared.change.Change.the-variants.{Nothing}
+use Rattle.saved.specs.Record.{configWidth, recordLength}
 use Rattle.lines.proofs.Decisions.{either-same}
 use borrow.Author.Needs.{needs}
 use Rattle.lines.proofs.decision.decide.Statement.{statement}

@@ -9,8 +9,8 @@ use borrow.Author.Tests.{lt-ltb, le-ltb}
 use Rattle.card.specs.Address.{cellCount}
 use Rattle.card.specs.Change.{changed}
 use Rattle.card.specs.Context.{contextOf}
-use Rattle.card.specs.Record.{configWidth, savedTo}
 use Rattle.card.specs.declared.context.Context.{Context}
+use Rattle.saved.specs.Record.{configWidth, savedTo}
 use Rattle.lines.specs.declared.grammar.Parsed.{Parsed}
 use Rattle.lines.specs.declared.decision.Decision.{Decision}
 use Rattle.lines.specs.Line.{shortestReply, decisionFor, lineDecision, lineOutcome, lineReply, replyAfter, storeAfter}

@@ -2,13 +2,11 @@
 use mathlib.Core.Path.{_≡_, ap, _∙_}
 use native.Mathlib.Nat.{mod-eq-of-lt}
 use Rattle.card.specs.declared.change.Change.the-variants.{Config, Source}
-use Rattle.lines.specs.Refusal.{refusal}
-use Rattle.lines.specs.Line.{changeFor, responseTo, decision}
-use Rattle.lines.specs.Line.{silent}
+use Rattle.lines.specs.Refusal.{refusal, judged}
+use Rattle.lines.specs.Line.{changeFor, responseTo, decision, silent}
 use Rattle.lines.proofs.Decisions.{judged-none, same-decided, number-fits, address-fits}
 use Prim.Native.Nat.{_%_}
 use Rattle.card.specs.Valid.{badConfig}
-use Rattle.lines.specs.Refusal.{judged}
 use borrow.Author.Needs.{needs}
 use Rattle.lines.proofs.writes.to_config.Statement.{statement}
 use Rattle.lines.proofs.writes.to_config.Tie as tie

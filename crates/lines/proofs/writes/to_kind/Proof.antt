@@ -2,15 +2,12 @@
 use mathlib.Core.Path.{_≡_, ap, _∙_}
 use native.Mathlib.Nat.{mod-eq-of-lt}
 use Rattle.card.specs.declared.change.Change.the-variants.{Kind, ConnectorKind}
-use Rattle.lines.specs.Refusal.{refusal}
-use Rattle.lines.specs.Line.{changeFor, responseTo, decision}
-use Rattle.lines.specs.Refusal.{judged}
-use Rattle.lines.specs.Line.{silent}
+use Rattle.lines.specs.Refusal.{refusal, judged, when, orElse}
+use Rattle.lines.specs.Line.{changeFor, responseTo, decision, silent}
 use Rattle.lines.proofs.Decisions.{none-of, judged-none, same-decided, kind-fits, connector-fits}
 use Prim.Native.Nat.{_%_}
 use Rattle.card.specs.Context.{drivesFront}
 use Rattle.card.specs.Valid.{badConnectorType}
-use Rattle.lines.specs.Refusal.{when, orElse}
 use borrow.Author.Needs.{needs}
 use Rattle.lines.proofs.writes.to_kind.Statement.{statement}
 use Rattle.lines.proofs.writes.to_kind.Tie as tie

@@ -2,16 +2,13 @@
 use mathlib.Core.Path.{_≡_, ap, _∙_}
 use native.Mathlib.Nat.{mod-eq-of-lt}
 use Rattle.card.specs.declared.change.Change.the-variants.{Slots}
-use Rattle.lines.specs.Refusal.{refusal}
-use Rattle.lines.specs.Line.{changeFor, responseTo, decision}
-use Rattle.lines.proofs.Decisions.{last-none, none-of, same-decided, wires-fit}
+use Rattle.lines.specs.Refusal.{refusal, when, orElse, anyTooLarge, anyBadAddress}
+use Rattle.lines.specs.Line.{changeFor, responseTo, decision, silent, wiresOf}
+use Rattle.lines.proofs.Decisions.{last-none, none-of, same-decided, wires-fit, cutWires}
 use mathlib.Core.Bool.{not}
 use Rattle.card.specs.Address.{cellCount}
 use Rattle.card.specs.Valid.{unusedSlot}
 use Rattle.lines.specs.declared.grammar.Command.the-variants.{SetSlots}
-use Rattle.lines.specs.Refusal.{when, orElse, anyTooLarge, anyBadAddress}
-use Rattle.lines.specs.Line.{silent, wiresOf}
-use Rattle.lines.proofs.Decisions.{cutWires}
 use borrow.Author.Needs.{needs}
 use Rattle.lines.proofs.writes.to_slots.Statement.{statement}
 use Rattle.lines.proofs.writes.to_slots.Tie as tie

@@ -2,15 +2,12 @@
 use mathlib.Core.Path.{_≡_, ap, _∙_}
 use native.Mathlib.Nat.{mod-eq-of-lt}
 use Rattle.card.specs.declared.change.Change.the-variants.{State}
-use Rattle.lines.specs.Refusal.{refusal}
-use Rattle.lines.specs.Line.{changeFor, responseTo, decision}
-use Rattle.lines.specs.Refusal.{judged}
-use Rattle.lines.specs.Line.{silent}
+use Rattle.lines.specs.Refusal.{refusal, judged, when, orElse}
+use Rattle.lines.specs.Line.{changeFor, responseTo, decision, silent}
 use Rattle.lines.proofs.Decisions.{none-of, judged-none, same-decided, number-fits}
 use Prim.Native.Nat.{_%_}
 use mathlib.Core.Bool.{not}
 use Rattle.card.specs.Valid.{badState}
-use Rattle.lines.specs.Refusal.{when, orElse}
 use borrow.Author.Needs.{needs}
 use Rattle.lines.proofs.writes.to_state.Statement.{statement}
 use Rattle.lines.proofs.writes.to_state.Tie as tie

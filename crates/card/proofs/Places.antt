@@ -1,0 +1,23 @@
+-- Laws of places: a base is one of some bases in a row, or lies below or above them.
+use Prim.Native.Nat.{ℕ, _+_, _≤_, _<_}
+use mathlib.Core.Path.{_≡_}
+use mathlib.Core.Bool.{true, false, and-false}
+use lib.Dec.{leb, ltb}
+use borrow.Author.Tests.{lt-ltb, le-ltb, le-leb, lt-leb, ltb-true, leb-true}
+use Rattle.cells.proofs.Rows.{and-left, and-right}
+use Rattle.card.specs.Address.{among}
+
+pub among-in : (first count b : ℕ) → first ≤ b → b < first + count → among first count b ≡ true
+among-in first count b h k = rw (le-leb first b h, lt-ltb b (first + count) k)
+
+pub among-below : (first count b : ℕ) → b < first → among first count b ≡ false
+among-below first count b h = rw (lt-leb first b h)
+
+pub among-above : (first count b : ℕ) → first + count ≤ b → among first count b ≡ false
+among-above first count b h = rw (le-ltb b (first + count) h) (and-false (leb first b))
+
+pub among-bounds : (first count b : ℕ) → among first count b ≡ true → (first ≤ b) × (b < first + count)
+among-bounds first count b e = (
+  leb-true first b (and-left (leb first b) (ltb b (first + count)) e),
+  ltb-true b (first + count) (and-right (leb first b) (ltb b (first + count)) e),
+)

@@ -1,0 +1,211 @@
+-- Laws of bytes: in fields of one length, as numbers, and compared.
+use Prim.Native.Nat.{ℕ, zero, suc, _+_, _*_, _/_, _%_, _^_, _<_}
+use mathlib.Core.Path.{_≡_, refl, sym, ap, ap₂, _∙_}
+use mathlib.Core.Bool.{Bool, true, false, _&&_, false≢true, and-assoc}
+use mathlib.Core.List.{List, [], _∷_, _++_, map, append-nil, append-assoc}
+use native.Mathlib.Nat.{add-zero, add-assoc, zero-mul, suc-mul, add-mul, mul-assoc, not-suc-le-zero, pow-suc, pow-succ'}
+use native.Mathlib.Nat.{mod-eq-of-lt, mod-one, div-one, div-div-eq-div-mul}
+use native.Mathlib.Numerals.{add-one}
+use native.Mathlib.Omega.{arith}
+use lib.Arith.{mod-mul, digits-div, digits-mod}
+use lib.Dec.{eqb, lit<}
+use lib.ListN.{length, getD, take, drop, length-append}
+use lib.Seq.{sets, take-suc, drop-cons, length-take-le, drop-append-add}
+use borrow.Author.Tests.{eqb-true, eq-eqb}
+use Rattle.text.proofs.Stores.{sets-append}
+use Rattle.cells.proofs.Rows.{and-left, and-right}
+use Rattle.cells.specs.declared.cell.Cell.{Cell}
+use Rattle.card.proofs.Slots.{four}
+use Rattle.saved.specs.Headers.{Bytes}
+use Rattle.saved.specs.Record.{cellField, fieldsFrom, bigEndian, bigValue, sameBytes}
+
+-- ---- fields
+
+module _ {A : Type 0} (f : ℕ → A → List ℕ) where
+  pub fields-snoc : (s : ℕ) (l : List A) (x : A) → fieldsFrom f s (l ++ (x ∷ [])) ≡ fieldsFrom f s l ++ f (s + length l) x
+  unfolding fieldsFrom
+  fields-snoc s [] x = append-nil (f s x) ∙ ap (λ (k : ℕ). f k x) (sym (add-zero s))
+  fields-snoc s (y ∷ ys) x =
+      let e : suc s + length ys ≡ s + suc (length ys) = omega arith in
+      ap (λ (r : List ℕ). f s y ++ r) (fields-snoc (suc s) ys x ∙ ap (λ (k : ℕ). fieldsFrom f (suc s) ys ++ f k x) e)
+      ∙ sym (append-assoc (f s y) (fieldsFrom f (suc s) ys) (f (s + suc (length ys)) x))
+
+  -- the fields of the first i entries, and that of the next one
+  fields-next : (l : List A) (i : ℕ) (d : A) → i < length l
+      → fieldsFrom f 0 (take (i + 1) l) ≡ fieldsFrom f 0 (take i l) ++ f i (getD l i d)
+  fields-next l i d h =
+      let n : 0 + length (take i l) ≡ i = omega (arith, length-take-le i l (omega arith)) in
+      rw (add-one i, take-suc l i d h)
+      (fields-snoc 0 (take i l) (getD l i d) ∙ ap (λ (k : ℕ). fieldsFrom f 0 (take i l) ++ f k (getD l i d)) n)
+
+  -- the fields of the first i entries were stored from `at` on, and now that of the next one
+  module _ (w at i : ℕ) (l : List A) (d : A) (bytes : List ℕ)
+      (h : i < length l) (e : bytes ≡ f i (getD l i d)) (n : length (fieldsFrom f 0 (take i l)) ≡ i * w) where
+    pub field-next : (out next : List ℕ) (place : ℕ) → next ≡ sets out at (fieldsFrom f 0 (take i l)) → place ≡ at + i * w
+        → sets next place bytes ≡ sets out at (fieldsFrom f 0 (take (i + 1) l))
+    field-next out next place stored p =
+        let there : place ≡ at + length (fieldsFrom f 0 (take i l)) = omega arith in
+        ap₂ (λ (r : List ℕ) (k : ℕ). sets r k bytes) stored there
+        ∙ ap (sets (sets out at (fieldsFrom f 0 (take i l))) (at + length (fieldsFrom f 0 (take i l)))) e
+        ∙ sets-append out at (fieldsFrom f 0 (take i l)) (f i (getD l i d))
+        ∙ ap (sets out at) (sym (fields-next l i d h))
+
+    pub field-longer : length bytes ≡ w → length (fieldsFrom f 0 (take (i + 1) l)) ≡ (i + 1) * w
+    field-longer long =
+        let one : length (f i (getD l i d)) ≡ w = sym (ap length e) ∙ long in
+        ap length (fields-next l i d h) ∙ length-append (fieldsFrom f 0 (take i l)) (f i (getD l i d)) ∙ omega (arith, add-mul i 1 w)
+
+  -- fields that do not see the difference
+  pub fields-map : (g : A → A) → ((k : ℕ) (x : A) → f k (g x) ≡ f k x) → (s : ℕ) (l : List A) → fieldsFrom f s (map g l) ≡ fieldsFrom f s l
+  unfolding fieldsFrom
+  fields-map g same s [] = refl
+  fields-map g same s (x ∷ xs) = ap₂ (λ (a b : List ℕ). a ++ b) (same s x) (fields-map g same (suc s) xs)
+
+  -- fields of one length w
+  module _ (w : ℕ) (d : A) where
+    pub fields-length : (s : ℕ) (l : List A) → ((k i : ℕ) → i < length l → length (f k (getD l i d)) ≡ w)
+        → length (fieldsFrom f s l) ≡ length l * w
+    unfolding fieldsFrom
+    fields-length s [] all = sym (zero-mul w)
+    fields-length s (x ∷ xs) all =
+        length-append (f s x) (fieldsFrom f (suc s) xs)
+        ∙ ap₂ (λ (a b : ℕ). a + b) (all s 0 (omega arith)) (fields-length (suc s) xs (λ k i h. all k (suc i) (omega arith)))
+        ∙ omega (arith, suc-mul (length xs) w)
+
+    -- the field at its place
+    pub field-at : (s : ℕ) (l : List A) (i : ℕ) → ((k i : ℕ) → i < length l → length (f k (getD l i d)) ≡ w) → i < length l
+        → drop (i * w) (fieldsFrom f s l) ≡ f (s + i) (getD l i d) ++ fieldsFrom f (suc (s + i)) (drop (suc i) l)
+    unfolding fieldsFrom
+    field-at s [] i all h = absurd (not-suc-le-zero h)
+    field-at s (x ∷ xs) zero all h =
+        ap (λ (k : ℕ). drop k (f s x ++ fieldsFrom f (suc s) xs)) (zero-mul w)
+        ∙ ap (λ (k : ℕ). f k x ++ fieldsFrom f (suc k) xs) (sym (add-zero s))
+    field-at s (x ∷ xs) (suc i) all h =
+        let e : suc i * w ≡ length (f s x) + i * w = omega (arith, suc-mul i w, all s 0 (omega arith)) in
+        let n : suc s + i ≡ s + suc i = omega arith in
+        ap (λ (k : ℕ). drop k (f s x ++ fieldsFrom f (suc s) xs)) e
+        ∙ drop-append-add (f s x) (fieldsFrom f (suc s) xs) (i * w)
+        ∙ field-at (suc s) xs i (λ k j g. all k (suc j) (omega arith)) (omega arith)
+        ∙ ap (λ (k : ℕ). f k (getD xs i d) ++ fieldsFrom f (suc k) (drop (suc i) xs)) n
+
+-- ---- numbers
+
+-- a number takes the bytes that it is given
+pub length-big : (w v : ℕ) → length (bigEndian w v) ≡ w
+unfolding bigEndian
+length-big zero v = refl
+length-big (suc w) v = ap suc (length-big w v)
+
+byte-pos : (w : ℕ) → 0 < 256 ^ w
+byte-pos zero = omega arith
+byte-pos (suc w) = omega (arith, byte-pos w, pow-suc 256 w)
+
+-- and their value is the number, as far as it fits
+big-value : (w acc v : ℕ) → bigValue acc (bigEndian w v) ≡ acc * 256 ^ w + v % 256 ^ w
+unfolding bigEndian bigValue
+big-value zero acc v = omega (arith, mod-one v)
+big-value (suc w) acc v =
+    let p : ℕ = 256 ^ w in
+    let top : ℕ = v / p % 256 in
+    let parts : v % (256 * p) ≡ top * p + v % p = mod-mul v (lit< tt) (byte-pos w) in
+    big-value w (acc * 256 + top) v
+    ∙ rw (pow-succ' 256 w, parts, add-mul (acc * 256) top p, mul-assoc acc 256 p) (add-assoc (acc * (256 * p)) (top * p) (v % p))
+
+-- a number that fits is read back
+pub big-read : (w v : ℕ) → v < 256 ^ w → bigValue 0 (bigEndian w v) ≡ v
+big-read w v h = big-value w 0 v ∙ ap (λ (k : ℕ). 0 * 256 ^ w + k) (mod-eq-of-lt h) ∙ omega (arith, zero-mul (256 ^ w))
+
+-- bytes are written back from their value, whatever stood before them
+big-top : (acc : ℕ) (l : List ℕ) → Bytes l → bigValue acc l / 256 ^ length l ≡ acc
+unfolding bigValue
+big-top acc [] all = div-one acc
+big-top acc (b ∷ bs) all =
+    let m : ℕ = 256 ^ length bs in
+    let v : ℕ = bigValue (acc * 256 + b) bs in
+    let first : b < 256 = all 0 in
+    ap (λ (k : ℕ). v / k) (pow-suc 256 (length bs))
+    ∙ sym (div-div-eq-div-mul v m 256)
+    ∙ ap (λ (k : ℕ). k / 256) (big-top (acc * 256 + b) bs (λ i. all (suc i)))
+    ∙ digits-div acc first
+
+pub big-back : (acc : ℕ) (l : List ℕ) → Bytes l → bigEndian (length l) (bigValue acc l) ≡ l
+unfolding bigEndian bigValue
+big-back acc [] all = refl
+big-back acc (b ∷ bs) all =
+    let first : b < 256 = all 0 in
+    let rest : Bytes bs = λ i. all (suc i) in
+    ap₂ (λ (k : ℕ) (t : List ℕ). k ∷ t)
+    (ap (λ (k : ℕ). k % 256) (big-top (acc * 256 + b) bs rest) ∙ digits-mod acc first)
+    (big-back (acc * 256 + b) bs rest)
+
+-- two bytes in a row
+two : (l : List ℕ) (k : ℕ) → k + 1 < length l → take 2 (drop k l) ≡ getD l k 0 ∷ getD l (k + 1) 0 ∷ []
+two l k h =
+    rw (drop-cons l k 0 (omega arith), drop-cons l (suc k) 0 (omega arith), add-one k)
+
+-- ---- a cell's field
+
+-- the eleven bytes of a cell with a configuration of two
+pub cell-bytes : (i : ℕ) (cell : Cell) → length (cell .slots) ≡ 4 → cell .config < 65536
+    → 2
+    ∷ 0
+    ∷ 8
+    ∷ (i + 1)
+    ∷ cell .kind
+    ∷ cell .config / 256
+    ∷ cell .config % 256
+    ∷ getD (cell .slots) 0 0
+    ∷ getD (cell .slots) 1 0
+    ∷ getD (cell .slots) 2 0
+    ∷ getD (cell .slots) 3 0
+    ∷ []
+    ≡ cellField 2 i cell
+unfolding cellField bigEndian
+cell-bytes i cell n h =
+    let size : ℕ = suc (suc (suc (suc (length (cell .slots))))) in
+    let top : 0 ≡ size / 256 = omega arith in
+    let low : 8 ≡ size % 256 = omega arith in
+    let high : cell .config / 256 ≡ cell .config / 256 ^ 1 % 256 = omega arith in
+    let rest : cell .config % 256 ≡ cell .config / 256 ^ 0 % 256 = ap (λ (v : ℕ). v % 256) (sym (div-one (cell .config))) in
+    λ k. 2 ∷ top k ∷ low k ∷ (i + 1) ∷ cell .kind ∷ high k ∷ rest k ∷ four (cell .slots) n k
+
+-- the two bytes of its configuration
+pub config-read : (l : List ℕ) (k : ℕ) → k + 1 < length l → bigValue 0 (take 2 (drop k l)) ≡ getD l k 0 * 256 + getD l (k + 1) 0
+unfolding bigValue
+config-read l k h = ap (bigValue 0) (two l k h) ∙ omega arith
+
+-- ---- equal bytes
+
+-- the test holds of equal bytes, and of no others
+pub same-refl : (a : List ℕ) → sameBytes a a ≡ true
+unfolding sameBytes
+same-refl [] = refl
+same-refl (x ∷ xs) = rw (eq-eqb x x refl) (same-refl xs)
+
+pub same-sound : (a b : List ℕ) → sameBytes a b ≡ true → a ≡ b
+unfolding sameBytes
+same-sound [] [] e = refl
+same-sound [] (y ∷ ys) e = absurd (false≢true e)
+same-sound (x ∷ xs) [] e = absurd (false≢true e)
+same-sound (x ∷ xs) (y ∷ ys) e =
+    ap₂ (λ (k : ℕ) (l : List ℕ). k ∷ l) (eqb-true x y (and-left (eqb x y) (sameBytes xs ys) e))
+    (same-sound xs ys (and-right (eqb x y) (sameBytes xs ys) e))
+
+pub same-eq : (a b : List ℕ) → a ≡ b → sameBytes a b ≡ true
+same-eq a b e = ap (λ (l : List ℕ). sameBytes l b) e ∙ same-refl b
+
+-- two lists in two parts, the first ones of one length
+pub same-append : (a b c d : List ℕ) → length a ≡ length c → sameBytes (a ++ b) (c ++ d) ≡ (sameBytes a c && sameBytes b d)
+unfolding sameBytes
+same-append [] b [] d e = refl
+same-append [] b (y ∷ ys) d e = absurd (omega arith)
+same-append (x ∷ xs) b [] d e = absurd (omega arith)
+same-append (x ∷ xs) b (y ∷ ys) d e =
+    ap (λ (t : Bool). eqb x y && t) (same-append xs b ys d (omega arith)) ∙ sym (and-assoc (eqb x y) (sameBytes xs ys) (sameBytes b d))
+
+pub same-not : (a b : List ℕ) → (a ≡ b → ⊥) → sameBytes a b ≡ false
+same-not a b ne = go (sameBytes a b) refl
+  where
+    go : (t : Bool) → sameBytes a b ≡ t → t ≡ false
+    go true e = absurd (ne (same-sound a b e))
+    go false e = refl

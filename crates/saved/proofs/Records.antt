@@ -1,0 +1,346 @@
+-- The theorems of the saved record, over the number n of cells and the width of a configuration: its length, that a load undoes a save and a save
+-- a load, that a record holds one card's settings, and that a load gives a valid card.
+use Prim.Native.Nat.{ℕ, suc, _+_, _*_, _^_, _≤_, _<_}
+use mathlib.Core.Path.{_≡_, refl, sym, ap, _∙_}
+use mathlib.Core.Bool.{Bool, true, false, cond}
+use mathlib.Core.List.{List, [], _∷_, _++_, map, append-assoc, append-nil}
+use native.Mathlib.Nat.{zero-add, le-of-lt, lt-of-le-of-lt, mul-le-mul-right}
+use native.Mathlib.Omega.{arith}
+use lib.Dec.{eqb, lit<}
+use lib.ListN.{length, getD, take, drop, length-append, length-map, drop-of-length-le, List·getD-append, List·getD-map}
+use lib.Seq.{take-at, drop-at, drop-drop, drop-append-le, getD-drop, getD-append-add, ext-getD, sets-eq}
+use borrow.Author.Tests.{le-ltb}
+use Rattle.words.proofs.Listed.{length-listed, listed-at}
+use Rattle.cells.specs.declared.cell.Cell.{Cell}
+use Rattle.cells.specs.Table.{largestConfig}
+use Rattle.card.specs.declared.card.Card.{Card}
+use Rattle.card.specs.declared.card.Connector.{Connector}
+use Rattle.card.specs.Address.{connectorCount}
+use Rattle.card.specs.Connectors.{noConnector}
+use Rattle.card.specs.Fresh.{clearState, noCell}
+use Rattle.card.specs.Valid.{validCell, valid, validCard}
+use Rattle.card.specs.Edits.{clearedCell}
+use Rattle.card.proofs.Settings.{every-at, Sound, split, cell-slots, cell-config, valid-cleared}
+use Rattle.card.proofs.Slots.{four}
+use Rattle.saved.specs.Record.{bigEndian, bigValue, triggerField, cellField, connectorField, fieldsFrom, encode, configWidth, triggerLength, cellLength}
+use Rattle.saved.specs.Record.{connectorLength, recordLength, triggerIn, cellIn, connectorIn, cellsIn, connectorsIn, recordOf, sameBytes, loadNumber}
+use Rattle.saved.specs.Record.{poweredUp, loaded, savedTo}
+use Rattle.saved.proofs.Fields.{fields-length, field-at, fields-map, length-big, big-read, same-refl, same-sound, same-not}
+
+-- ---- the fields of a record
+
+-- each cell of a list has four slots
+abbrev pub FourSlots : List Cell → Type 0
+FourSlots cells = (i : ℕ) → i < length cells → length (getD cells i noCell .slots) ≡ 4
+
+-- the lengths of the two kinds of field
+pub cell-length : (width k : ℕ) (cell : Cell) → length (cell .slots) ≡ 4 → length (cellField width k cell) ≡ cellLength width
+unfolding cellField
+cell-length width k cell n =
+    omega (arith, length-append (bigEndian width (cell .config)) (cell .slots), length-big width (cell .config))
+
+pub connector-length : (k : ℕ) (c : Connector) → length (connectorField k c) ≡ connectorLength
+unfolding connectorField
+connector-length k c = refl
+
+-- the fields of all cells, and of all connectors
+abbrev front : ℕ → List Cell → List ℕ
+front width cells = fieldsFrom (cellField width) 0 cells
+
+abbrev back : List Connector → List ℕ
+back connectors = fieldsFrom connectorField 0 connectors
+
+connector-lengths : (connectors : List Connector) (k i : ℕ) → i < length connectors
+    → length (connectorField k (getD connectors i noConnector)) ≡ connectorLength
+connector-lengths connectors k i h = connector-length k (getD connectors i noConnector)
+
+back-length : (connectors : List Connector) → length (back connectors) ≡ length connectors * connectorLength
+back-length connectors = fields-length connectorField connectorLength noConnector 0 connectors (connector-lengths connectors)
+
+module _ (width trigger : ℕ) (cells : List Cell) (connectors : List Connector) (slots : FourSlots cells) where
+  cell-lengths : (k i : ℕ) → i < length cells → length (cellField width k (getD cells i noCell)) ≡ cellLength width
+  cell-lengths k i h = cell-length width k (getD cells i noCell) (slots i h)
+
+  front-length : length (front width cells) ≡ length cells * cellLength width
+  front-length = fields-length (cellField width) (cellLength width) noCell 0 cells cell-lengths
+
+  pub encode-length : length (encode width trigger cells connectors)
+      ≡ triggerLength + length cells * cellLength width + length connectors * connectorLength
+  unfolding encode
+  encode-length = omega (arith, length-append (front width cells) (back connectors), front-length, back-length connectors)
+
+  -- what stands at the place of a cell, and at that of a connector
+  cell-place : (i : ℕ) → i < length cells
+      → drop (triggerLength + i * cellLength width) (encode width trigger cells connectors)
+      ≡ cellField width i (getD cells i noCell) ++ (fieldsFrom (cellField width) (suc i) (drop (suc i) cells) ++ back connectors)
+  unfolding encode
+  cell-place i h =
+      let w = cellLength width in
+      let inside : i * w ≤ length (front width cells) = omega (arith, mul-le-mul-right w (le-of-lt h), front-length) in
+      let rest = fieldsFrom (cellField width) (suc i) (drop (suc i) cells) in
+      sym (drop-drop (i * w) triggerLength (encode width trigger cells connectors))
+      ∙ drop-append-le (i * w) (front width cells) (back connectors) inside
+      ∙ ap (λ (l : List ℕ). l ++ back connectors)
+      (field-at (cellField width) w noCell 0 cells i cell-lengths h
+      ∙ ap (λ (k : ℕ). cellField width k (getD cells i noCell) ++ fieldsFrom (cellField width) (suc k) (drop (suc i) cells)) (zero-add i))
+      ∙ append-assoc (cellField width i (getD cells i noCell)) rest (back connectors)
+
+  connector-place : (k : ℕ) → k < length connectors
+      → drop (triggerLength + length cells * cellLength width + k * connectorLength) (encode width trigger cells connectors)
+      ≡ connectorField k (getD connectors k noConnector) ++ fieldsFrom connectorField (suc k) (drop (suc k) connectors)
+  unfolding encode
+  connector-place k h =
+      let head = triggerField trigger ++ front width cells in
+      let long : length head ≡ triggerLength + length cells * cellLength width = omega (arith, front-length) in
+      sym (drop-drop (k * connectorLength) (triggerLength + length cells * cellLength width) (encode width trigger cells connectors))
+      ∙ ap (drop (k * connectorLength)) (drop-at head (back connectors) (triggerLength + length cells * cellLength width) long)
+      ∙ field-at connectorField connectorLength noConnector 0 connectors k (connector-lengths connectors) h
+      ∙ ap (λ (j : ℕ). connectorField j (getD connectors k noConnector) ++ fieldsFrom connectorField (suc j) (drop (suc k) connectors)) (zero-add k)
+
+-- ---- reading them back
+
+module _ (width i : ℕ) (cell : Cell) (bytes rest : List ℕ) (at : ℕ) (there : drop at bytes ≡ cellField width i cell ++ rest) where
+  tail-there : drop (at + 5) bytes ≡ bigEndian width (cell .config) ++ (cell .slots ++ rest)
+  unfolding cellField
+  tail-there =
+      sym (drop-drop 5 at bytes) ∙ ap (drop 5) there ∙ append-assoc (bigEndian width (cell .config)) (cell .slots) rest
+
+  slot-there : (j k : ℕ) → k ≡ 5 + j + width → j < length (cell .slots) → getD bytes (at + k) 0 ≡ getD (cell .slots) j 0
+  slot-there j k e h =
+      let place : at + k ≡ at + 5 + (length (bigEndian width (cell .config)) + j) = omega (arith, length-big width (cell .config)) in
+      ap (λ (x : ℕ). getD bytes x 0) place
+      ∙ sym (getD-drop (at + 5) bytes (length (bigEndian width (cell .config)) + j) 0)
+      ∙ ap (λ (l : List ℕ). getD l (length (bigEndian width (cell .config)) + j) 0) tail-there
+      ∙ getD-append-add (bigEndian width (cell .config)) (cell .slots ++ rest) j 0
+      ∙ List·getD-append (cell .slots) rest 0 j h
+
+  kind-there : getD bytes (at + 4) 0 ≡ cell .kind
+  unfolding cellField
+  kind-there = sym (getD-drop at bytes 4 0) ∙ ap (λ (l : List ℕ). getD l 4 0) there
+
+  config-there : cell .config < 256 ^ width → bigValue 0 (take width (drop (at + 5) bytes)) ≡ cell .config
+  config-there h =
+      ap (λ (l : List ℕ). bigValue 0 (take width l)) tail-there
+      ∙ ap (bigValue 0) (take-at (bigEndian width (cell .config)) (cell .slots ++ rest) width (length-big width (cell .config)))
+      ∙ big-read width (cell .config) h
+
+  slots-there : length (cell .slots) ≡ 4
+      → getD bytes (at + (5 + width)) 0 ∷ getD bytes (at + (6 + width)) 0 ∷ getD bytes (at + (7 + width)) 0 ∷ getD bytes (at + (8 + width)) 0 ∷ []
+      ≡ cell .slots
+  slots-there n =
+      (λ k. slot-there 0 (5 + width) (omega arith) (omega arith) k
+      ∷ slot-there 1 (6 + width) (omega arith) (omega arith) k
+      ∷ slot-there 2 (7 + width) (omega arith) (omega arith) k
+      ∷ slot-there 3 (8 + width) (omega arith) (omega arith) k
+      ∷ [])
+      ∙ four (cell .slots) n
+
+  cell-there : length (cell .slots) ≡ 4 → cell .config < 256 ^ width → at ≡ triggerLength + i * cellLength width → cellIn width bytes i ≡ clearedCell cell
+  unfolding cellIn
+  cell-there n h e =
+      rw (sym e) (λ k. record { kind = kind-there k; config = config-there h k; slots = slots-there n k; state = clearState })
+
+connector-there : (n width k : ℕ) (c : Connector) (bytes rest : List ℕ)
+    → drop (triggerLength + n * cellLength width + k * connectorLength) bytes ≡ connectorField k c ++ rest → connectorIn n width bytes k ≡ c
+unfolding connectorField connectorIn
+connector-there n width k c bytes rest there =
+    let at = triggerLength + n * cellLength width + k * connectorLength in
+    let kind = sym (getD-drop at bytes 4 0) ∙ ap (λ (l : List ℕ). getD l 4 0) there in
+    let source = sym (getD-drop at bytes 5 0) ∙ ap (λ (l : List ℕ). getD l 5 0) there in
+    λ j. record { kind = kind j; source = source j }
+
+-- two bytes are enough
+pub config-fits : largestConfig < 256 ^ configWidth
+config-fits = lit< tt
+
+-- the cells and the connectors that stand in the bytes of a record
+module _ (width : ℕ) (trigger : ℕ) (cells : List Cell) (connectors : List Connector) (slots : FourSlots cells)
+    (fit : (i : ℕ) → i < length cells → getD cells i noCell .config < 256 ^ width) where
+  pub cells-read : cellsIn (length cells) width (encode width trigger cells connectors) ≡ map clearedCell cells
+  cells-read =
+      let bytes = encode width trigger cells connectors in
+      let n : length (cellsIn (length cells) width bytes) ≡ length cells = length-listed (cellIn width bytes) (length cells) in
+      ext-getD noCell (cellsIn (length cells) width bytes) (map clearedCell cells) (n ∙ sym (length-map cells clearedCell))
+      (λ i h. let g : i < length cells = omega arith in
+      listed-at (cellIn width bytes) (length cells) i noCell g
+      ∙ cell-there width i (getD cells i noCell) bytes _ (triggerLength + i * cellLength width)
+      (cell-place width trigger cells connectors slots i g) (slots i g) (fit i g) refl
+      ∙ sym (List·getD-map clearedCell cells i noCell))
+
+  pub connectors-read : length connectors ≡ connectorCount → connectorsIn (length cells) width (encode width trigger cells connectors) ≡ connectors
+  connectors-read e =
+      let bytes = encode width trigger cells connectors in
+      let n : length (connectorsIn (length cells) width bytes) ≡ connectorCount = length-listed (connectorIn (length cells) width bytes) connectorCount in
+      ext-getD noConnector (connectorsIn (length cells) width bytes) connectors (n ∙ sym e)
+      (λ k h. let g : k < connectorCount = omega arith in
+      listed-at (connectorIn (length cells) width bytes) connectorCount k noConnector g
+      ∙ connector-there (length cells) width k (getD connectors k noConnector) bytes _ (connector-place width trigger cells connectors slots k (omega arith)))
+
+-- ---- what valid settings have
+
+module _ (n trigger : ℕ) (cells : List Cell) (connectors : List Connector) (ok : valid n trigger cells connectors ≡ true) where
+  parts : Sound n trigger cells connectors
+  parts = split n trigger cells connectors ok
+
+  pub cell-count : length cells ≡ n
+  cell-count = parts .cell-count
+
+  pub connector-count : length connectors ≡ connectorCount
+  connector-count = parts .connector-count
+
+  pub four-slots : FourSlots cells
+  four-slots i h = cell-slots n (getD cells i noCell) (every-at (validCell n) cells i noCell (parts .cells-pass) h)
+
+  configs-fit : (width : ℕ) → largestConfig < 256 ^ width → (i : ℕ) → i < length cells → getD cells i noCell .config < 256 ^ width
+  configs-fit width wide i h = lt-of-le-of-lt (cell-config n (getD cells i noCell) (every-at (validCell n) cells i noCell (parts .cells-pass) h)) wide
+
+-- a record says nothing of states
+encode-cleared : (width trigger : ℕ) (cells : List Cell) (connectors : List Connector)
+    → encode width trigger (map clearedCell cells) connectors ≡ encode width trigger cells connectors
+unfolding encode cellField
+encode-cleared width trigger cells connectors =
+    ap (λ (l : List ℕ). triggerField trigger ++ l ++ back connectors) (fields-map (cellField width) clearedCell (λ k x. refl) 0 cells)
+
+-- ---- loads
+
+-- a load by the settings that stand in its bytes
+module _ (n width : ℕ) (bytes : List ℕ) (trigger : ℕ) (cells : List Cell) (connectors : List Connector) (et : triggerIn bytes ≡ trigger)
+    (ec : cellsIn n width bytes ≡ cells) (ek : connectorsIn n width bytes ≡ connectors) where
+  pub number-from : loadNumber n width bytes ≡ cond (sameBytes (encode width trigger cells connectors) bytes) (cond (valid n trigger cells connectors) 0 15) 14
+  unfolding loadNumber
+  number-from = rw (et, ec, ek)
+
+  pub loaded-from : (d : Card) → loadNumber n width bytes ≡ 0 → loaded n width d bytes ≡ poweredUp n trigger cells connectors
+  unfolding loaded
+  loaded-from d e = rw (e, et, ec, ek)
+
+-- a refused load changes nothing
+pub load-refused : (n width : ℕ) (d : Card) (bytes : List ℕ) → eqb (loadNumber n width bytes) 0 ≡ false → loaded n width d bytes ≡ d
+unfolding loaded
+load-refused n width d bytes e = rw e
+
+-- bytes of another length are not those of the settings in them, and are refused with 14
+pub other-length : (n width : ℕ) (bytes : List ℕ) → (length bytes ≡ recordLength n width → ⊥)
+    → sameBytes (encode width (triggerIn bytes) (cellsIn n width bytes) (connectorsIn n width bytes)) bytes ≡ false
+unfolding cellIn
+other-length n width bytes ne =
+    let cells = cellsIn n width bytes in
+    let connectors = connectorsIn n width bytes in
+    let count = length-listed (cellIn width bytes) n in
+    let slots : FourSlots cells = λ i h. ap (λ (c : Cell). length (c .slots)) (listed-at (cellIn width bytes) n i noCell (omega (arith, count))) in
+    let long = encode-length width (triggerIn bytes) cells connectors slots in
+    let sized : length (encode width (triggerIn bytes) cells connectors) ≡ recordLength n width =
+    rw (count, length-listed (connectorIn n width bytes) connectorCount) at long in
+    same-not (encode width (triggerIn bytes) cells connectors) bytes (λ e. ne (sym (ap length e) ∙ sized))
+
+pub wrong-length : (n width : ℕ) (bytes : List ℕ) → (length bytes ≡ recordLength n width → ⊥) → loadNumber n width bytes ≡ 14
+unfolding loadNumber
+wrong-length n width bytes ne = rw (other-length n width bytes ne)
+
+-- both tests of an accepted load hold
+accepted : (s v : Bool) → _≡_ {A = ℕ} (cond s (cond v 0 15) 14) 0 → (s ≡ true) × (v ≡ true)
+accepted true true e = (refl, refl)
+accepted true false e = absurd (omega arith)
+accepted false v e = absurd (omega arith)
+
+module _ (n width : ℕ) (d : Card) (bytes : List ℕ) (ok : loadNumber n width bytes ≡ 0) where
+  tests : (sameBytes (encode width (triggerIn bytes) (cellsIn n width bytes) (connectorsIn n width bytes)) bytes ≡ true)
+      × (valid n (triggerIn bytes) (cellsIn n width bytes) (connectorsIn n width bytes) ≡ true)
+  unfolding loadNumber
+  tests = accepted _ _ ok
+
+  taken : loaded n width d bytes ≡ poweredUp n (triggerIn bytes) (cellsIn n width bytes) (connectorsIn n width bytes)
+  taken = loaded-from n width bytes (triggerIn bytes) (cellsIn n width bytes) (connectorsIn n width bytes) refl refl refl d ok
+
+  -- a card that was loaded saves as the bytes that it was loaded from
+  pub save-load : recordOf width (loaded n width d bytes) ≡ bytes
+  unfolding recordOf
+  save-load = ap (recordOf width) taken ∙ same-sound _ bytes (tests .0)
+
+  -- and its settings are valid
+  pub loaded-valid : validCard n (loaded n width d bytes) ≡ true
+  unfolding validCard
+  loaded-valid = ap (validCard n) taken ∙ tests .1
+
+-- ---- saves
+
+-- the length of a record, of a card with cells of four slots and of a valid one
+pub record-length : (n width : ℕ) (c : Card) → length (c .cells) ≡ n → FourSlots (c .cells) → length (c .connectors) ≡ connectorCount
+    → length (recordOf width c) ≡ recordLength n width
+unfolding recordOf
+record-length n width c count slots others =
+    rw (count, others) at (encode-length width (c .trigger) (c .cells) (c .connectors) slots)
+
+pub valid-length : (n width : ℕ) (c : Card) → validCard n c ≡ true → length (recordOf width c) ≡ recordLength n width
+unfolding validCard
+valid-length n width c ok =
+    record-length n width c (cell-count n (c .trigger) (c .cells) (c .connectors) ok) (four-slots n (c .trigger) (c .cells) (c .connectors) ok)
+    (connector-count n (c .trigger) (c .cells) (c .connectors) ok)
+
+-- a store that has room holds the record at its front after a save, and beyond it what it held
+pub saved-front : (n width : ℕ) (c : Card) (store : List ℕ) → validCard n c ≡ true → recordLength n width ≤ length store
+    → savedTo n width c store ≡ recordOf width c ++ drop (recordLength n width) store
+unfolding savedTo
+saved-front n width c store ok room =
+    let sized = valid-length n width c ok in
+    rw (le-ltb (length store) (recordLength n width) room)
+    (sets-eq (recordOf width c) store 0 (omega arith) ∙ ap (λ (k : ℕ). recordOf width c ++ drop k store) (zero-add (length (recordOf width c)) ∙ sized))
+
+-- a store of just that length holds the record and no more
+pub saved-whole : (n width : ℕ) (c : Card) (store : List ℕ) → validCard n c ≡ true → length store ≡ recordLength n width
+    → savedTo n width c store ≡ recordOf width c
+saved-whole n width c store ok e =
+    saved-front n width c store ok (omega arith)
+    ∙ ap (λ (l : List ℕ). recordOf width c ++ l) (drop-of-length-le store {i = recordLength n width} (omega arith))
+    ∙ append-nil (recordOf width c)
+
+-- the record of a valid card is accepted, and gives its settings
+module _ (n width : ℕ) (wide : largestConfig < 256 ^ width) (c : Card) (ok : validCard n c ≡ true) where
+  settings : valid n (c .trigger) (c .cells) (c .connectors) ≡ true
+  unfolding validCard
+  settings = ok
+
+  count : length (c .cells) ≡ n
+  count = cell-count n (c .trigger) (c .cells) (c .connectors) settings
+
+  slots : FourSlots (c .cells)
+  slots = four-slots n (c .trigger) (c .cells) (c .connectors) settings
+
+  fit : (i : ℕ) → i < length (c .cells) → getD (c .cells) i noCell .config < 256 ^ width
+  fit = configs-fit n (c .trigger) (c .cells) (c .connectors) settings width wide
+
+  cells-back : cellsIn n width (recordOf width c) ≡ map clearedCell (c .cells)
+  unfolding recordOf
+  cells-back = rw count at (cells-read width (c .trigger) (c .cells) (c .connectors) slots fit)
+
+  connectors-back : connectorsIn n width (recordOf width c) ≡ c .connectors
+  unfolding recordOf
+  connectors-back =
+      rw count at (connectors-read width (c .trigger) (c .cells) (c .connectors) slots fit (connector-count n (c .trigger) (c .cells) (c .connectors) settings))
+
+  trigger-back : triggerIn (recordOf width c) ≡ c .trigger
+  unfolding recordOf encode
+  trigger-back = refl
+
+  pub load-accepts : loadNumber n width (recordOf width c) ≡ 0
+  unfolding recordOf
+  load-accepts =
+      number-from n width (recordOf width c) (c .trigger) (map clearedCell (c .cells)) (c .connectors) trigger-back cells-back connectors-back
+      ∙ rw (
+        encode-cleared width (c .trigger) (c .cells) (c .connectors),
+        same-refl (recordOf width c),
+        valid-cleared n (c .trigger) (c .cells) (c .connectors),
+        settings,
+      )
+
+  pub load-save : (d : Card) → loaded n width d (recordOf width c) ≡ poweredUp n (c .trigger) (map clearedCell (c .cells)) (c .connectors)
+  load-save d =
+      loaded-from n width (recordOf width c) (c .trigger) (map clearedCell (c .cells)) (c .connectors) trigger-back cells-back connectors-back d load-accepts
+
+-- valid cards with one record have the same settings
+pub one-record : (n width : ℕ) → largestConfig < 256 ^ width → (c d : Card) → validCard n c ≡ true → validCard n d ≡ true
+    → recordOf width c ≡ recordOf width d
+    → (c .trigger ≡ d .trigger) × (map clearedCell (c .cells) ≡ map clearedCell (d .cells)) × (c .connectors ≡ d .connectors)
+one-record n width wide c d okc okd e =
+    let same = sym (load-save n width wide c okc c) ∙ ap (loaded n width c) e ∙ load-save n width wide d okd c in
+    (ap (λ (x : Card). x .trigger) same, ap (λ (x : Card). x .cells) same, ap (λ (x : Card). x .connectors) same)

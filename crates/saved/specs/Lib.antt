@@ -1,0 +1,5 @@
+-- What a reader must believe, in the order of document 01.
+pub mod Record
+pub mod RecordExamples
+-- Another view of a rule above: a law says that they agree.
+pub mod Headers

@@ -1,0 +1,129 @@
+-- Document 01, "Saved record": the settings as bytes, and a load. Stated over the list of cells and the width of the configuration.
+use Prim.Native.Nat.{ℕ, zero, suc, _+_, _-_, _*_, _/_, _%_, _^_}
+use mathlib.Core.Bool.{Bool, true, false, _&&_, cond}
+use mathlib.Core.List.{List, [], _∷_, _++_}
+use lib.Dec.{eqb, ltb}
+use lib.ListN.{length, getD, take, drop}
+use lib.Seq.{sets}
+use Rattle.words.specs.Listed.{listed}
+use Rattle.cells.specs.declared.cell.Cell.{Cell}
+use Rattle.card.specs.declared.card.Card.{Card}
+use Rattle.card.specs.declared.card.Connector.{Connector}
+use Rattle.card.specs.Address.{firstCell, firstConnector, connectorCount}
+use Rattle.card.specs.Fresh.{clearState, started}
+use Rattle.card.specs.Valid.{valid}
+
+-- ---- the bytes
+
+-- "Fields of tag (1 byte), length (2 bytes, high first)"
+abbrev pub field : ℕ → List ℕ → List ℕ
+field tag bytes = tag ∷ length bytes / 256 ∷ length bytes % 256 ∷ bytes
+
+-- a number in `width` bytes, "high first"
+unfoldable pub bigEndian : ℕ → ℕ → List ℕ
+bigEndian zero v = []
+bigEndian (suc w) v = v / 256 ^ w % 256 ∷ bigEndian w v
+
+-- "tag 1 trigger (1)"
+abbrev pub triggerField : ℕ → List ℕ
+triggerField trigger = field 1 (trigger ∷ [])
+
+-- "tag 2 cell number, type, configuration (2, high first), slots (8 in all), sixteen in order"
+unfoldable pub cellField : ℕ → ℕ → Cell → List ℕ
+cellField width i cell = field 2 ((i + firstCell) ∷ cell .kind ∷ bigEndian width (cell .config) ++ cell .slots)
+
+-- "tag 3 connector address, type, source (3), sixteen in order"
+unfoldable pub connectorField : ℕ → Connector → List ℕ
+connectorField k connector = field 3 ((k + firstConnector) ∷ connector .kind ∷ connector .source ∷ [])
+
+-- the fields of a list, counted from i
+unfoldable pub fieldsFrom : {A : Type 0} → (ℕ → A → List ℕ) → ℕ → List A → List ℕ
+fieldsFrom f i [] = []
+fieldsFrom f i (x ∷ xs) = f i x ++ fieldsFrom f (suc i) xs
+
+unfoldable pub encode : ℕ → ℕ → List Cell → List Connector → List ℕ
+encode width trigger cells connectors = triggerField trigger ++ fieldsFrom (cellField width) 0 cells ++ fieldsFrom connectorField 0 connectors
+
+-- the width of a configuration; the lengths of the fields, and of the record of n cells: "276 bytes"
+abbrev pub configWidth : ℕ
+configWidth = 2
+
+abbrev pub triggerLength : ℕ
+triggerLength = 4
+
+abbrev pub cellLength : ℕ → ℕ
+cellLength width = 9 + width
+
+abbrev pub connectorLength : ℕ
+connectorLength = 6
+
+abbrev pub recordLength : ℕ → ℕ → ℕ
+recordLength n width = triggerLength + n * cellLength width + connectorCount * connectorLength
+
+-- ---- the settings that stand in some bytes, read at their places
+
+unfoldable pub bigValue : ℕ → List ℕ → ℕ
+bigValue acc [] = acc
+bigValue acc (b ∷ bs) = bigValue (acc * 256 + b) bs
+
+abbrev pub triggerIn : List ℕ → ℕ
+triggerIn bytes = getD bytes 3 0
+
+-- a load is a power-up, so a loaded cell has no state
+unfoldable pub cellIn : ℕ → List ℕ → ℕ → Cell
+cellIn width bytes i =
+    let at = triggerLength + i * cellLength width in
+    record {
+      kind = getD bytes (at + 4) 0;
+      config = bigValue 0 (take width (drop (at + 5) bytes));
+      slots =
+          getD bytes (at + (5 + width)) 0
+          ∷ getD bytes (at + (6 + width)) 0
+          ∷ getD bytes (at + (7 + width)) 0
+          ∷ getD bytes (at + (8 + width)) 0
+          ∷ [];
+      state = clearState;
+    }
+
+unfoldable pub connectorIn : ℕ → ℕ → List ℕ → ℕ → Connector
+connectorIn n width bytes k =
+    let at = triggerLength + n * cellLength width + k * connectorLength in
+    record { kind = getD bytes (at + 4) 0; source = getD bytes (at + 5) 0 }
+
+abbrev pub cellsIn : ℕ → ℕ → List ℕ → List Cell
+cellsIn n width bytes = listed (cellIn width bytes) n
+
+abbrev pub connectorsIn : ℕ → ℕ → List ℕ → List Connector
+connectorsIn n width bytes = listed (connectorIn n width bytes) connectorCount
+
+-- ---- save and load
+
+-- the record of a card
+unfoldable pub recordOf : ℕ → Card → List ℕ
+recordOf width c = encode width (c .trigger) (c .cells) (c .connectors)
+
+unfoldable pub sameBytes : List ℕ → List ℕ → Bool
+sameBytes [] [] = true
+sameBytes [] (b ∷ bs) = false
+sameBytes (a ∷ s) [] = false
+sameBytes (a ∷ s) (b ∷ bs) = eqb a b && sameBytes s bs
+
+-- 14: "record not 276 bytes; a field's length, tag, or a cell number or connector address out of order": the settings read out of the bytes,
+-- written again, are not these bytes; byte by byte in specs/Headers. 15: "record value no line could set" and what else `valid` says
+unfoldable pub loadNumber : ℕ → ℕ → List ℕ → ℕ
+loadNumber n width bytes =
+    cond (sameBytes (encode width (triggerIn bytes) (cellsIn n width bytes) (connectorsIn n width bytes)) bytes)
+    (cond (valid n (triggerIn bytes) (cellsIn n width bytes) (connectorsIn n width bytes)) 0 15) 14
+
+-- "A load is a power-up: fresh, with these settings"; "by HOME and by a load, all are" edited
+abbrev pub poweredUp : ℕ → ℕ → List Cell → List Connector → Card
+poweredUp n trigger cells connectors = started trigger cells connectors (2 ^ n - 1)
+
+-- the card after a load: a refused one changes nothing
+unfoldable pub loaded : ℕ → ℕ → Card → List ℕ → Card
+loaded n width c bytes =
+    cond (eqb (loadNumber n width bytes) 0) (poweredUp n (triggerIn bytes) (cellsIn n width bytes) (connectorsIn n width bytes)) c
+
+-- the store after a save: the record at its front and beyond it as it was; a store too short is untouched
+unfoldable pub savedTo : ℕ → ℕ → Card → List ℕ → List ℕ
+savedTo n width c store = cond (ltb (length store) (recordLength n width)) store (sets store 0 (recordOf width c))

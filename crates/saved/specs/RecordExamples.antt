@@ -1,0 +1,169 @@
+-- Document 01, "Saved record" and rows 14 and 15, as one table by computation: a whole record written out from the document, what it loads as, and
+-- what a load gives where bytes of it are others.
+use Prim.Native.Nat.{ℕ}
+use mathlib.Core.Path.{_≡_, refl}
+use mathlib.Core.List.{List, [], _∷_, _++_, map}
+use lib.ListN.{set, take, drop}
+use Rattle.words.specs.Listed.{listed}
+use Rattle.cells.specs.Table.{rowOf}
+use Rattle.card.specs.Address.{cellCount}
+use Rattle.card.specs.Fresh.{fresh}
+use Rattle.card.specs.Valid.{permittedBase, badClock, frontDriven, badCellType, badConnectorType, badAddress, validSlot, validSlots, validCell}
+use Rattle.card.specs.Valid.{validConnector, every, valid}
+use Rattle.saved.specs.Record.{bigEndian, cellField, connectorField, fieldsFrom, encode, configWidth, bigValue, triggerIn, cellIn, connectorIn, recordOf}
+use Rattle.saved.specs.Record.{sameBytes, loadNumber, loaded}
+
+-- ---- a record
+
+-- a field: tag, length high and low; of a cell then number, type, configuration high and low, X, Y, Z, F; of a connector address, type, source
+whole : List ℕ
+whole =
+    -- trigger 3
+    (1 ∷ 0 ∷ 1 ∷ 3 ∷ [])
+    -- cell 1: constant, 258
+    ++ (2 ∷ 0 ∷ 8 ∷ 1 ∷ 0 ∷ 1 ∷ 2 ∷ 0 ∷ 0 ∷ 0 ∷ 0 ∷ [])
+    -- cell 2: D-flop of BNC1, clock 192, reset 0, preset by the inverse of BNC2
+    ++ (2 ∷ 0 ∷ 8 ∷ 2 ∷ 1 ∷ 0 ∷ 0 ∷ 33 ∷ 192 ∷ 0 ∷ 98 ∷ [])
+    -- cell 3: lookup of X and Y, code 6
+    ++ (2 ∷ 0 ∷ 8 ∷ 3 ∷ 2 ∷ 0 ∷ 6 ∷ 41 ∷ 42 ∷ 0 ∷ 0 ∷ [])
+    -- cell 4: lookup of X, Y and Z, code 168
+    ++ (2 ∷ 0 ∷ 8 ∷ 4 ∷ 3 ∷ 0 ∷ 168 ∷ 44 ∷ 10 ∷ 1 ∷ 0 ∷ [])
+    -- cell 5: lookup of all four, code 65520
+    ++ (2 ∷ 0 ∷ 8 ∷ 5 ∷ 4 ∷ 255 ∷ 240 ∷ 1 ∷ 2 ∷ 3 ∷ 4 ∷ [])
+    -- cell 6: AND2 of cell 5 and the inverse of BNC1
+    ++ (2 ∷ 0 ∷ 8 ∷ 6 ∷ 5 ∷ 0 ∷ 0 ∷ 5 ∷ 97 ∷ 0 ∷ 0 ∷ [])
+    -- cell 7: OR2 of the fall of cell 1 and BNC2
+    ++ (2 ∷ 0 ∷ 8 ∷ 7 ∷ 6 ∷ 0 ∷ 0 ∷ 193 ∷ 34 ∷ 0 ∷ 0 ∷ [])
+    -- cell 8: XOR2 of itself and TTL7
+    ++ (2 ∷ 0 ∷ 8 ∷ 8 ∷ 7 ∷ 0 ∷ 0 ∷ 8 ∷ 48 ∷ 0 ∷ 0 ∷ [])
+    -- cell 9: one-shot, duration 1000, trigger at the rise of BNC1, clock 192, reset 0
+    ++ (2 ∷ 0 ∷ 8 ∷ 9 ∷ 8 ∷ 3 ∷ 232 ∷ 161 ∷ 192 ∷ 0 ∷ 0 ∷ [])
+    -- cell 10: delay, duration 300, trigger at the rise of TTL0, clock 192, reset by the inverse of TTL1
+    ++ (2 ∷ 0 ∷ 8 ∷ 10 ∷ 9 ∷ 1 ∷ 44 ∷ 169 ∷ 192 ∷ 106 ∷ 0 ∷ [])
+    -- cell 11: AND4
+    ++ (2 ∷ 0 ∷ 8 ∷ 11 ∷ 10 ∷ 0 ∷ 0 ∷ 42 ∷ 8 ∷ 108 ∷ 64 ∷ [])
+    -- cell 12: OR4
+    ++ (2 ∷ 0 ∷ 8 ∷ 12 ∷ 11 ∷ 0 ∷ 0 ∷ 1 ∷ 2 ∷ 3 ∷ 12 ∷ [])
+    -- cell 13: synchronous D-flop of cell 3, clock at the rise of cell 3
+    ++ (2 ∷ 0 ∷ 8 ∷ 13 ∷ 12 ∷ 0 ∷ 0 ∷ 3 ∷ 131 ∷ 0 ∷ 0 ∷ [])
+    -- cell 14: JK of cell 7 and its inverse, clock at the fall of cell 8
+    ++ (2 ∷ 0 ∷ 8 ∷ 14 ∷ 13 ∷ 0 ∷ 0 ∷ 7 ∷ 71 ∷ 200 ∷ 0 ∷ [])
+    -- cell 15: one-shot of type 16, duration 515, triggers at the rises of cells 2 and 3
+    ++ (2 ∷ 0 ∷ 8 ∷ 15 ∷ 16 ∷ 2 ∷ 3 ∷ 130 ∷ 192 ∷ 0 ∷ 131 ∷ [])
+    -- cell 16: D-flop of type 18 of itself, clock at its own fall, reset by its inverse, reset at clock by BNC4
+    ++ (2 ∷ 0 ∷ 8 ∷ 16 ∷ 18 ∷ 0 ∷ 0 ∷ 16 ∷ 208 ∷ 80 ∷ 36 ∷ [])
+    -- BNC1 to BNC8: push-pull from cell 1, open-drain from cell 2, input, push-pull from 192, from 0, from 64, from cell 16, open-drain from TTL7
+    ++ (3 ∷ 0 ∷ 3 ∷ 33 ∷ 2 ∷ 1 ∷ [])
+    ++ (3 ∷ 0 ∷ 3 ∷ 34 ∷ 1 ∷ 2 ∷ [])
+    ++ (3 ∷ 0 ∷ 3 ∷ 35 ∷ 0 ∷ 0 ∷ [])
+    ++ (3 ∷ 0 ∷ 3 ∷ 36 ∷ 2 ∷ 192 ∷ [])
+    ++ (3 ∷ 0 ∷ 3 ∷ 37 ∷ 2 ∷ 0 ∷ [])
+    ++ (3 ∷ 0 ∷ 3 ∷ 38 ∷ 2 ∷ 64 ∷ [])
+    ++ (3 ∷ 0 ∷ 3 ∷ 39 ∷ 2 ∷ 16 ∷ [])
+    ++ (3 ∷ 0 ∷ 3 ∷ 40 ∷ 1 ∷ 48 ∷ [])
+    -- TTL0 to TTL7: inputs, but TTL3 push-pull from the rise of cell 4 and TTL7 open-drain from the inverse of cell 10; TTL1 has a source all the same
+    ++ (3 ∷ 0 ∷ 3 ∷ 41 ∷ 0 ∷ 0 ∷ [])
+    ++ (3 ∷ 0 ∷ 3 ∷ 42 ∷ 0 ∷ 5 ∷ [])
+    ++ (3 ∷ 0 ∷ 3 ∷ 43 ∷ 0 ∷ 0 ∷ [])
+    ++ (3 ∷ 0 ∷ 3 ∷ 44 ∷ 2 ∷ 132 ∷ [])
+    ++ (3 ∷ 0 ∷ 3 ∷ 45 ∷ 0 ∷ 0 ∷ [])
+    ++ (3 ∷ 0 ∷ 3 ∷ 46 ∷ 0 ∷ 0 ∷ [])
+    ++ (3 ∷ 0 ∷ 3 ∷ 47 ∷ 0 ∷ 0 ∷ [])
+    ++ (3 ∷ 0 ∷ 3 ∷ 48 ∷ 1 ∷ 74 ∷ [])
+
+-- some of its bytes, from a place on
+part : ℕ → ℕ → List ℕ
+part from count = take count (drop from whole)
+
+-- it with other bytes at some places
+changed : List (ℕ × ℕ) → List ℕ → List ℕ
+changed [] bytes = bytes
+changed ((i, v) ∷ more) bytes = changed more (set bytes i v)
+
+-- ---- what is read, and what a load gives
+
+cellRead : ℕ → List ℕ
+cellRead i = cellIn configWidth whole i .kind ∷ cellIn configWidth whole i .config ∷ cellIn configWidth whole i .slots
+
+connectorRead : ℕ → List ℕ
+connectorRead k = connectorIn cellCount configWidth whole k .kind ∷ connectorIn cellCount configWidth whole k .source ∷ []
+
+load : List ℕ → List ℕ
+load bytes = loadNumber cellCount configWidth bytes ∷ []
+
+with : List (ℕ × ℕ) → List ℕ
+with changes = load (changed changes whole)
+
+-- given, expected
+abbrev table : List (List ℕ × List ℕ)
+table =
+    -- it loads, and saved again it is the same
+    (load whole, 0 ∷ [])
+    ∷ (recordOf configWidth (loaded cellCount configWidth fresh whole), whole)
+    -- the values in it
+    ∷ (triggerIn whole ∷ [], 3 ∷ [])
+    ∷ (cellRead 0, 0 ∷ 258 ∷ 0 ∷ 0 ∷ 0 ∷ 0 ∷ [])
+    ∷ (cellRead 8, 8 ∷ 1000 ∷ 161 ∷ 192 ∷ 0 ∷ 0 ∷ [])
+    ∷ (cellRead 14, 16 ∷ 515 ∷ 130 ∷ 192 ∷ 0 ∷ 131 ∷ [])
+    ∷ (cellRead 15, 18 ∷ 0 ∷ 16 ∷ 208 ∷ 80 ∷ 36 ∷ [])
+    ∷ (connectorRead 0, 2 ∷ 1 ∷ [])
+    ∷ (connectorRead 7, 1 ∷ 48 ∷ [])
+    ∷ (connectorRead 11, 2 ∷ 132 ∷ [])
+    ∷ (connectorRead 15, 1 ∷ 74 ∷ [])
+    -- 14: "record not 276 bytes"
+    ∷ (load (take 275 whole), 14 ∷ [])
+    ∷ (load (whole ++ (0 ∷ [])), 14 ∷ [])
+    ∷ (load [], 14 ∷ [])
+    -- 14: tag and both bytes of the length, of the trigger, of cell 5 and of TTL7
+    ∷ (with ((0, 2) ∷ []), 14 ∷ [])
+    ∷ (with ((1, 1) ∷ []), 14 ∷ [])
+    ∷ (with ((2, 2) ∷ []), 14 ∷ [])
+    ∷ (with ((48, 3) ∷ []), 14 ∷ [])
+    ∷ (with ((49, 1) ∷ []), 14 ∷ [])
+    ∷ (with ((50, 9) ∷ []), 14 ∷ [])
+    ∷ (with ((270, 2) ∷ []), 14 ∷ [])
+    ∷ (with ((271, 1) ∷ []), 14 ∷ [])
+    ∷ (with ((272, 4) ∷ []), 14 ∷ [])
+    -- 14: the number of cell 5, the address of TTL7
+    ∷ (with ((51, 6) ∷ []), 14 ∷ [])
+    ∷ (with ((273, 47) ∷ []), 14 ∷ [])
+    -- 14: cells 1 and 2 exchanged, BNC1 and BNC2 exchanged, the connectors before the cells
+    ∷ (load (part 0 4 ++ part 15 11 ++ part 4 11 ++ part 26 250), 14 ∷ [])
+    ∷ (load (part 0 180 ++ part 186 6 ++ part 180 6 ++ part 192 84), 14 ∷ [])
+    ∷ (load (part 0 4 ++ part 180 96 ++ part 4 176), 14 ∷ [])
+    -- 15: "cell type over 18, connector type over 2, clock over 4"
+    ∷ (with ((8, 19) ∷ (9, 0) ∷ (10, 0) ∷ []), 15 ∷ [])
+    ∷ (with ((184, 3) ∷ []), 15 ∷ [])
+    ∷ (with ((3, 5) ∷ []), 15 ∷ [])
+    -- 15: a configuration over its range, 16 in type 2 and 256 in type 3, and one of types that have none
+    ∷ (with ((32, 16) ∷ []), 15 ∷ [])
+    ∷ (with ((42, 1) ∷ (43, 0) ∷ []), 15 ∷ [])
+    ∷ (with ((65, 1) ∷ []), 15 ∷ [])
+    ∷ (with ((20, 1) ∷ []), 15 ∷ [])
+    -- 15: "unused slot ... not 0", Z of AND2 and X of a constant
+    ∷ (with ((68, 1) ∷ []), 15 ∷ [])
+    ∷ (with ((11, 64) ∷ []), 15 ∷ [])
+    -- 15: "edge slot under 128", the clock of a D-flop and of JK, the triggers of types 8 and 16; 128 itself is allowed
+    ∷ (with ((23, 5) ∷ []), 15 ∷ [])
+    ∷ (with ((23, 65) ∷ []), 15 ∷ [])
+    ∷ (with ((23, 128) ∷ []), 0 ∷ [])
+    ∷ (with ((156, 127) ∷ []), 15 ∷ [])
+    ∷ (with ((99, 97) ∷ []), 15 ∷ [])
+    ∷ (with ((168, 3) ∷ []), 15 ∷ [])
+    -- 15: a reserved source, of an output and of an input; a reserved address in a slot, as a level and as an edge
+    ∷ (with ((185, 17) ∷ []), 15 ∷ [])
+    ∷ (with ((197, 49) ∷ []), 15 ∷ [])
+    ∷ (with ((66, 20) ∷ []), 15 ∷ [])
+    ∷ (with ((23, 255) ∷ []), 15 ∷ [])
+    -- 15: "BNC1 an output with trigger 4", push-pull and open-drain; an input is allowed
+    ∷ (with ((3, 4) ∷ []), 15 ∷ [])
+    ∷ (with ((3, 4) ∷ (184, 1) ∷ []), 15 ∷ [])
+    ∷ (with ((3, 4) ∷ (184, 0) ∷ []), 0 ∷ [])
+    -- 14 anywhere comes before 15 anywhere
+    ∷ (with ((3, 5) ∷ (270, 2) ∷ []), 14 ∷ [])
+    ∷ (load (changed ((8, 19) ∷ []) whole ++ (0 ∷ [])), 14 ∷ [])
+    ∷ []
+
+examples : map (λ (e : List ℕ × List ℕ). e .0) table ≡ map (λ (e : List ℕ × List ℕ). e .1) table
+unfolding whole part changed cellRead connectorRead load with listed rowOf fresh permittedBase badClock frontDriven badCellType badConnectorType badAddress validSlot validSlots validCell validConnector every valid bigEndian cellField connectorField fieldsFrom encode bigValue cellIn connectorIn recordOf sameBytes loadNumber loaded
+examples = refl

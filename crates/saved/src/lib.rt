@@ -1,0 +1,2 @@
+// The saved record of a card's settings.
+pub mod record;

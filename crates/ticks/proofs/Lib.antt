@@ -1,0 +1,7 @@
+-- Laws of ticks that several functions or the crates above cite.
+pub mod Counts
+pub mod FastPath
+pub mod Sleep
+pub mod Ticks
+pub mod ValidTicks
+pub mod Views

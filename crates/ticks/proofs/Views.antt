@@ -1,0 +1,256 @@
+-- Laws of addresses and views: the word that holds a view has the view's bits, and the formula that reads an address reads it.
+use Prim.Native.Nat.{ℕ, zero, suc, _+_, _-_, _*_, _/_, _%_, _^_, _≤_, _<_}
+use mathlib.Core.Path.{_≡_, refl, sym, ap, ap₂, _∙_}
+use mathlib.Core.Bool.{Bool, true, false, not, _&&_, _||_, Bool·beq, cond}
+use mathlib.Core.List.{List, [], _∷_}
+use native.Mathlib.Nat.{add-zero, mod-lt, lt-of-le-of-lt, lt-of-lt-of-le}
+use native.Mathlib.Numerals.{one-add}
+use native.Mathlib.Decide.{decLt}
+use native.Mathlib.Omega.{arith}
+use lib.Dec.{ltb, lit<}
+use lib.Bits.{bitAnd, bitOr, bitXor, xor-lt, and-le-l}
+use lib.ListN.{getD}
+use lib.Pow.{ones-lt, pow-mono}
+use borrow.Author.Tests.{eq-eqb, ne-eqb, lt-ltb, le-ltb}
+use Rattle.words.specs.Bits.{bitAt, wordOf}
+use Rattle.words.proofs.Laws.{bit-zero, bit-above, bit-ones, bit-low, bit-high, bit-and, bit-or, bit-xor, bit-built, built-same, built-of-bits}
+use Rattle.cells.specs.Work.{placeOf, slotsOf}
+use Rattle.cells.proofs.Packed.{slots-place}
+use Rattle.card.specs.Address.{connectorCount, firstCell, firstConnector, among, baseOf}
+use Rattle.card.proofs.Places.{among-in, among-below, among-above}
+use Rattle.ticks.specs.Reading.{levelAt, readsLevels, reads, slotsRead, mixed, view}
+
+-- ---- the word of a view
+
+-- below under the mask of i ones, the others above it
+unfoldable pub mix : ℕ → ℕ → ℕ → ℕ
+mix i below others = bitXor others (bitAnd (bitXor below others) (2 ^ i - 1))
+
+masked-in : (o b : Bool) → not (Bool·beq o (not (Bool·beq b o) && true)) ≡ b
+masked-in true true = refl
+masked-in true false = refl
+masked-in false true = refl
+masked-in false false = refl
+
+masked-out : (o x : Bool) → not (Bool·beq o (x && false)) ≡ o
+masked-out true true = refl
+masked-out true false = refl
+masked-out false true = refl
+masked-out false false = refl
+
+mix-bit : (i below others j : ℕ) → bitAt (mix i below others) j ≡ mixed i below others j
+unfolding mix mixed
+mix-bit i below others j =
+    bit-xor others (bitAnd (bitXor below others) (2 ^ i - 1)) j
+    ∙ ap (λ (x : Bool). not (Bool·beq (bitAt others j) x)) (bit-and (bitXor below others) (2 ^ i - 1) j)
+    ∙ ap (λ (x : Bool). not (Bool·beq (bitAt others j) (x && bitAt (2 ^ i - 1) j))) (bit-xor below others j)
+    ∙ go (decLt j i)
+  where
+    go : Dec (j < i) → not (Bool·beq (bitAt others j) (not (Bool·beq (bitAt below j) (bitAt others j)) && bitAt (2 ^ i - 1) j))
+        ≡ cond (ltb j i) (bitAt below j) (bitAt others j)
+    go (yes h) = rw (bit-ones i j h, lt-ltb j i h) (masked-in (bitAt others j) (bitAt below j))
+    go (no h) =
+        let g : i ≤ j = omega arith in
+        rw (bit-above (2 ^ i - 1) i j (ones-lt i) g, le-ltb j i g) (masked-out (bitAt others j) (not (Bool·beq (bitAt below j) (bitAt others j))))
+
+pub mix-lt : (n i below others : ℕ) → below < 2 ^ n → others < 2 ^ n → mix i below others < 2 ^ n
+unfolding mix
+mix-lt n i below others b o =
+    xor-lt n others (bitAnd (bitXor below others) (2 ^ i - 1)) o
+    (lt-of-le-of-lt (and-le-l (bitXor below others) (2 ^ i - 1)) (xor-lt n below others b o))
+
+-- a base is low, or a cell's, or a connector's
+pub level-cell : (n : ℕ) (cells connectors : ℕ → Bool) (j : ℕ) → j < n → levelAt n cells connectors (1 + j) ≡ cells j
+unfolding levelAt
+level-cell n cells connectors j h = rw (among-in 1 n (1 + j) (omega arith) (omega arith)) (ap cells (omega arith))
+
+pub level-connector : (n : ℕ) (cells connectors : ℕ → Bool) (k : ℕ) → n ≤ 32 → k < connectorCount
+    → levelAt n cells connectors (firstConnector + k) ≡ connectors k
+unfolding levelAt
+level-connector n cells connectors k hn h =
+    rw (among-above 1 n (firstConnector + k) (omega arith), among-in firstConnector connectorCount (firstConnector + k) (omega arith) (omega arith))
+    (ap connectors (omega arith))
+
+pub level-zero : (n : ℕ) (cells connectors : ℕ → Bool) → levelAt n cells connectors 0 ≡ false
+unfolding levelAt
+level-zero n cells connectors = refl
+
+level-gap : (n : ℕ) (cells connectors : ℕ → Bool) (b : ℕ) → n < b → b < firstConnector → levelAt n cells connectors b ≡ false
+unfolding levelAt
+level-gap n cells connectors b h k = rw (among-above 1 n b (omega arith), among-below firstConnector connectorCount b k)
+
+level-past : (n : ℕ) (cells connectors : ℕ → Bool) (b : ℕ) → n ≤ 32 → firstConnector + connectorCount ≤ b → levelAt n cells connectors b ≡ false
+unfolding levelAt
+level-past n cells connectors b hn h = rw (among-above 1 n b (omega arith), among-above firstConnector connectorCount b h)
+
+-- the levels above the cells, the cells above base 0: the bit at each base
+module _ (n m l : ℕ) (hn : n ≤ 32) (hm : m < 2 ^ n) (hl : l < 2 ^ connectorCount) (hw : m * 2 < 2 ^ firstConnector) where
+  low-bit : (b : ℕ) → b < firstConnector → bitAt (m * 2 ^ 1 + 0) b ≡ levelAt n (bitAt m) (bitAt l) b
+  low-bit zero h = bit-low m 1 0 0 (omega arith) ∙ bit-zero 0 ∙ sym (level-zero n (bitAt m) (bitAt l))
+  low-bit (suc j) h = ap (bitAt (m * 2 ^ 1 + 0)) (sym (one-add j)) ∙ bit-high m 1 0 j (omega arith) ∙ go (decLt j n)
+    where
+      go : Dec (j < n) → bitAt m j ≡ levelAt n (bitAt m) (bitAt l) (suc j)
+      go (yes k) = sym (level-cell n (bitAt m) (bitAt l) j k) ∙ ap (levelAt n (bitAt m) (bitAt l)) (one-add j)
+      go (no k) =
+          let g : n ≤ j = omega arith in
+          bit-above m n j hm g ∙ sym (level-gap n (bitAt m) (bitAt l) (suc j) (omega arith) h)
+
+  level-bit : (b : ℕ) → bitAt (l * 2 ^ firstConnector + m * 2) b ≡ levelAt n (bitAt m) (bitAt l) b
+  level-bit b = go (decLt b firstConnector)
+    where
+      far : (k : ℕ) → Dec (k < connectorCount) → bitAt l k ≡ levelAt n (bitAt m) (bitAt l) (firstConnector + k)
+      far k (yes h) = sym (level-connector n (bitAt m) (bitAt l) k hn h)
+      far k (no h) =
+          let g : connectorCount ≤ k = omega arith in
+          bit-above l connectorCount k hl g ∙ sym (level-past n (bitAt m) (bitAt l) (firstConnector + k) hn (omega arith))
+
+      go : Dec (b < firstConnector) → bitAt (l * 2 ^ firstConnector + m * 2) b ≡ levelAt n (bitAt m) (bitAt l) b
+      go (yes h) = bit-low l firstConnector (m * 2) b h ∙ ap (λ (x : ℕ). bitAt x b) (sym (add-zero (m * 2))) ∙ low-bit b h
+      go (no h) =
+          let k : ℕ = b - firstConnector in
+          let e : b ≡ firstConnector + k = omega arith in
+          rw e (bit-high l firstConnector (m * 2) k hw ∙ far k (decLt k connectorCount))
+
+-- so the word that the code makes is the word of the view
+pub view-word : (n i below others levels w : ℕ) → n ≤ 32 → below < 2 ^ n → others < 2 ^ n → levels < 2 ^ connectorCount
+    → w ≡ levels * 2 ^ firstConnector + mix i below others * 2 → w ≡ wordOf (view n i below others levels) 64
+unfolding view
+view-word n i below others levels w hn hb ho hl e =
+    let m = mix i below others in
+    let hm : m < 2 ^ n = mix-lt n i below others hb ho in
+    let fits : m < 2 ^ 32 = lt-of-lt-of-le hm (pow-mono hn) in
+    let word = levels * 2 ^ firstConnector + m * 2 in
+    let bits : (b : ℕ) → b < 64 → bitAt word b ≡ view n i below others levels b = λ b h.
+    level-bit n m levels hn hm hl (omega arith) b ∙ (λ k. levelAt n (λ j. mix-bit i below others j k) (bitAt levels) b) in
+    e ∙ sym (built-of-bits word 64 (omega arith)) ∙ built-same (bitAt word) (view n i below others levels) 64 bits
+
+-- ---- views of one word
+
+cond-same : (b x : Bool) → cond b x x ≡ x
+cond-same true x = refl
+cond-same false x = refl
+
+-- where two ticks had the same cell word, a reader in any position sees that word
+pub mixed-one : (i o j : ℕ) → mixed i o o j ≡ bitAt o j
+unfolding mixed
+mixed-one i o j = cond-same (ltb j i) (bitAt o j)
+
+-- where all words are low, so is every base
+level-low : (n b : ℕ) → levelAt n (λ j. false) (λ k. false) b ≡ false
+unfolding levelAt
+level-low n b =
+    ap (λ (x : Bool). cond (among firstCell n b) false x) (cond-same (among firstConnector connectorCount b) false) ∙ cond-same (among firstCell n b) false
+
+pub view-low : (n i : ℕ) → view n i 0 0 0 ≡ (λ b. false)
+unfolding view
+view-low n i =
+    let cells : mixed i 0 0 ≡ (λ j. false) = λ k j. (mixed-one i 0 j ∙ bit-zero j) k in
+    let levels : bitAt 0 ≡ (λ j. false) = λ k j. bit-zero j k in
+    ap₂ (levelAt n) cells levels ∙ (λ k b. level-low n b k)
+
+-- ---- reading an address
+
+-- the four words that the code reads addresses from
+abbrev pub all : ℕ
+all = 18446744073709551615
+
+abbrev pub quarterWords : ℕ → ℕ → List ℕ
+quarterWords n b = n ∷ bitXor n all ∷ bitAnd n (bitXor b all) ∷ bitOr (bitAnd (bitXor n all) b) 1 ∷ []
+
+flip-true : (b : Bool) → not (Bool·beq b true) ≡ not b
+flip-true true = refl
+flip-true false = refl
+
+or-false : (b : Bool) → (b || false) ≡ b
+or-false true = refl
+or-false false = refl
+
+or-true : (b : Bool) → (b || true) ≡ true
+or-true true = refl
+or-true false = refl
+
+flipped : (w i : ℕ) → i < 64 → bitAt (bitXor w all) i ≡ not (bitAt w i)
+flipped w i h = bit-xor w all i ∙ ap (λ (x : Bool). not (Bool·beq (bitAt w i) x)) (bit-ones 64 i h) ∙ flip-true (bitAt w i)
+
+rose : (n b i : ℕ) → i < 64 → bitAt (bitAnd n (bitXor b all)) i ≡ (bitAt n i && not (bitAt b i))
+rose n b i h = bit-and n (bitXor b all) i ∙ ap (λ (x : Bool). bitAt n i && x) (flipped b i h)
+
+fell : (n b i : ℕ) → i < 64 → bitAt (bitAnd (bitXor n all) b) i ≡ (not (bitAt n i) && bitAt b i)
+fell n b i h = bit-and (bitXor n all) b i ∙ ap (λ (x : Bool). x && bitAt b i) (flipped n i h)
+
+-- an address reads its base in the word of its quarter
+pub quarter-reads : (n b a : ℕ) → a < 256 → bitAt (getD (quarterWords n b) (a / 64) 0) (a % 64) ≡ reads (bitAt n) (bitAt b) a
+unfolding reads readsLevels bitAt
+quarter-reads n b a h = level (decLt a 64)
+  where
+    i : ℕ
+    i = a % 64
+
+    below : i < 64
+    below = mod-lt a (lit< tt)
+
+    last : Dec (192 < a) → 192 ≤ a → bitAt (bitOr (bitAnd (bitXor n all) b) 1) i ≡ reads (bitAt n) (bitAt b) a
+    last (yes k) g =
+        let z : 1 ≤ i = omega arith in
+        let e : a ≡ 192 → ⊥ = omega arith in
+        rw (ne-eqb a 192 e, le-ltb a 64 (omega arith), le-ltb a 128 (omega arith), le-ltb a 192 g)
+        (bit-or (bitAnd (bitXor n all) b) 1 i
+        ∙ ap (λ (x : Bool). bitAt (bitAnd (bitXor n all) b) i || x) (bit-above 1 1 i (omega arith) z)
+        ∙ or-false (bitAt (bitAnd (bitXor n all) b) i)
+        ∙ fell n b i below)
+    last (no k) g =
+        let e : a ≡ 192 = omega arith in
+        let z : i ≡ 0 = omega arith in
+        rw (eq-eqb a 192 e)
+        (bit-or (bitAnd (bitXor n all) b) 1 i
+        ∙ ap (λ (k : ℕ). bitAt (bitAnd (bitXor n all) b) i || bitAt 1 k) z
+        ∙ or-true (bitAt (bitAnd (bitXor n all) b) i))
+
+    fall : Dec (a < 192) → 128 ≤ a → bitAt (getD (quarterWords n b) (a / 64) 0) i ≡ reads (bitAt n) (bitAt b) a
+    fall (yes k) g =
+        let q : a / 64 ≡ 2 = omega arith in
+        let e : a ≡ 192 → ⊥ = omega arith in
+        rw (q, ne-eqb a 192 e, le-ltb a 64 (omega arith), le-ltb a 128 g, lt-ltb a 192 k) (rose n b i below)
+    fall (no k) g =
+        let q : a / 64 ≡ 3 = omega arith in
+        rw q (last (decLt 192 a) (omega arith))
+
+    inverse : Dec (a < 128) → 64 ≤ a → bitAt (getD (quarterWords n b) (a / 64) 0) i ≡ reads (bitAt n) (bitAt b) a
+    inverse (yes k) g =
+        let q : a / 64 ≡ 1 = omega arith in
+        let e : a ≡ 192 → ⊥ = omega arith in
+        rw (q, ne-eqb a 192 e, le-ltb a 64 g, lt-ltb a 128 k) (flipped n i below)
+    inverse (no k) g = fall (decLt a 192) (omega arith)
+
+    level : Dec (a < 64) → bitAt (getD (quarterWords n b) (a / 64) 0) i ≡ reads (bitAt n) (bitAt b) a
+    level (yes k) =
+        let q : a / 64 ≡ 0 = omega arith in
+        let e : a ≡ 192 → ⊥ = omega arith in
+        rw (q, ne-eqb a 192 e, lt-ltb a 64 k)
+    level (no k) = inverse (decLt a 128) (omega arith)
+
+-- so the bit that the code picks is what the address reads
+pub picked : (f g : ℕ → Bool) (q : List ℕ) (a k i : ℕ) (r : Bool) → ((a : ℕ) → a < 256 → bitAt (getD q (a / 64) 0) (a % 64) ≡ reads f g a)
+    → (k ≡ a / 64) × (k < 4) → i ≡ a % 64 → r ≡ bitAt (getD q k 0) i → r ≡ reads f g a
+picked f g q a k i r law hk hi hr =
+    let quarter = hk .0 in
+    let four = hk .1 in
+    let h : a < 256 = omega (arith, quarter, four) in
+    hr ∙ ap₂ (λ (x y : ℕ). bitAt (getD q x 0) y) quarter hi ∙ law a h
+
+-- an address looks at one base below 64, so the word of a view reads as the view
+pub reads-built : (f g : ℕ → Bool) (a : ℕ) → reads (bitAt (wordOf f 64)) (bitAt (wordOf g 64)) a ≡ reads f g a
+unfolding reads
+reads-built f g a =
+    let h : baseOf a < 64 = mod-lt a (lit< tt) in
+    rw (bit-built f 64 (baseOf a) h, bit-built g 64 (baseOf a) h)
+
+pub slots-built : (f g : ℕ → Bool) (s : List ℕ) → slotsRead (bitAt (wordOf f 64)) (bitAt (wordOf g 64)) s ≡ slotsRead f g s
+unfolding slotsRead
+slots-built f g s = rw (reads-built f g (getD s 0 0), reads-built f g (getD s 1 0), reads-built f g (getD s 2 0), reads-built f g (getD s 3 0))
+
+-- what the code reads by two words of views, packed, is what the views read
+pub read-as : (f g : ℕ → Bool) (a b : ℕ) (s : List ℕ) (p : ℕ) → a ≡ wordOf f 64 → b ≡ wordOf g 64 → p ≡ placeOf (slotsRead (bitAt a) (bitAt b) s)
+    → slotsOf p ≡ slotsRead f g s
+read-as f g a b s p ea eb ep =
+    ap slotsOf ep ∙ slots-place (slotsRead (bitAt a) (bitAt b) s) ∙ ap₂ (λ (x y : ℕ). slotsRead (bitAt x) (bitAt y) s) ea eb ∙ slots-built f g s

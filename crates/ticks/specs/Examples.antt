@@ -1,0 +1,94 @@
+-- Ticks that document 01 describes in words, as one table by computation: what the definitions give, beside what they should. And a card whose
+-- quick and full ticks differ.
+use Prim.Native.Nat.{ℕ}
+use mathlib.Core.Path.{_≡_, refl}
+use mathlib.Core.Bool.{true, false}
+use mathlib.Core.List.{List, [], _∷_, _++_, map}
+use lib.Count.{ones, onesIn}
+use lib.ListN.{set}
+use Rattle.words.specs.Bits.{bitAt, wordOf}
+use Rattle.words.specs.Listed.{listed}
+use Rattle.cells.specs.declared.cell.Cell.{Cell}
+use Rattle.cells.specs.Table.{rowOf}
+use Rattle.cells.specs.Work.{taken, workAs, workOut}
+use Rattle.cells.specs.Wake.{stirredAs, stirred, disagree, wakes}
+use Rattle.card.specs.declared.card.Card.{Card}
+use Rattle.card.specs.Address.{cellCount}
+use Rattle.card.specs.Fresh.{clearState, fresh}
+use Rattle.ticks.specs.declared.tick.Answer.{Answer}
+use Rattle.ticks.specs.declared.tick.Input.{Input}
+use Rattle.ticks.specs.Reading.{levelAt, readsLevels, reads, slotsRead, mixed, view}
+use Rattle.ticks.specs.Levels.{linesOf}
+use Rattle.ticks.specs.Tick.{readNow, readLast, named, turnAt, outputsBelow, turned, tick}
+
+-- ---- the cards
+
+abbrev pub cellOf : ℕ → ℕ → List ℕ → Cell
+cellOf kind config slots = record { kind = kind; config = config; slots = slots; state = clearState }
+
+-- a fresh card with these cells, this cell word in every tick so far, and these edits
+abbrev pub card : List Cell → ℕ → ℕ → Card
+card cells outputs edited =
+    record {
+      pointer = 1;
+      trigger = 0;
+      cells = cells;
+      connectors = fresh .connectors;
+      edited = edited;
+      memory = record { driven = 0; outputs = outputs; outputs2 = outputs; outputs3 = outputs; levels = 0; levels2 = 0 };
+    }
+
+twoCells : Cell → Cell → List Cell
+twoCells a b = set (set (fresh .cells) 0 a) 1 b
+
+-- cell 1 follows TTL0 (address 41), and cell 2 is an AND2 on the rise of cell 1 (129) and an input that is always high (64)
+edgeCard : Card
+edgeCard = card (twoCells (cellOf 6 0 (41 ∷ 0 ∷ 0 ∷ 0 ∷ [])) (cellOf 5 0 (129 ∷ 64 ∷ 0 ∷ 0 ∷ []))) 0 3
+
+-- cell 2 follows cell 1, which follows TTL0; and the other way round
+upward : Card
+upward = card (twoCells (cellOf 6 0 (41 ∷ 0 ∷ 0 ∷ 0 ∷ [])) (cellOf 6 0 (1 ∷ 0 ∷ 0 ∷ 0 ∷ []))) 0 3
+
+downward : Card
+downward = card (twoCells (cellOf 6 0 (2 ∷ 0 ∷ 0 ∷ 0 ∷ [])) (cellOf 6 0 (41 ∷ 0 ∷ 0 ∷ 0 ∷ []))) 0 3
+
+-- a card that is not settled: nobody edited cell 1, an AND2 of two low inputs, and its output is high
+unfoldable pub unsettled : Card
+unsettled = card (set (fresh .cells) 0 (cellOf 5 0 (0 ∷ 0 ∷ 0 ∷ 0 ∷ []))) 1 0
+
+-- ---- their ticks
+
+answered : Answer → List ℕ
+answered a = a .driven ∷ a .cells ∷ a .woken ∷ a .count ∷ []
+
+-- clock 0, with this sample
+abbrev pub clock0 : ℕ → Input
+clock0 sample = record { code = 0; sample = sample }
+
+-- quick ticks of clock 0 with these samples: driven word, cell word, woken set and count of each
+quick : Card → List ℕ → List ℕ
+quick c [] = []
+quick c (s ∷ ss) = answered (tick cellCount false c (clock0 s) .answer) ++ quick (tick cellCount false c (clock0 s) .card) ss
+
+-- given, expected
+abbrev table : List (List ℕ × List ℕ)
+table =
+    -- the AND2 goes up with the edge and down after it, in quick ticks
+    (quick edgeCard (0 ∷ 256 ∷ 256 ∷ []), 0 ∷ 0 ∷ 3 ∷ 2 ∷ 0 ∷ 3 ∷ 3 ∷ 2 ∷ 0 ∷ 1 ∷ 2 ∷ 1 ∷ [])
+    -- cell 2 sees cell 1 of this tick, and cell 1 sees cell 2 of the last
+    ∷ (quick upward (256 ∷ 256 ∷ []), 0 ∷ 3 ∷ 3 ∷ 2 ∷ 0 ∷ 3 ∷ 0 ∷ 0 ∷ [])
+    ∷ (quick downward (256 ∷ 256 ∷ []), 0 ∷ 2 ∷ 3 ∷ 2 ∷ 0 ∷ 3 ∷ 1 ∷ 1 ∷ [])
+    ∷ []
+
+examples : map (λ (e : List ℕ × List ℕ). e .0) table ≡ map (λ (e : List ℕ × List ℕ). e .1) table
+unfolding twoCells edgeCard upward downward answered quick ones onesIn bitAt wordOf listed rowOf taken workAs workOut stirredAs stirred disagree wakes fresh levelAt readsLevels reads slotsRead mixed view linesOf readNow readLast named turnAt outputsBelow turned tick
+examples = refl
+
+-- a wrong output of a sleeping gate stays in a quick tick and goes in a full one
+pub wrong-stays : tick cellCount false unsettled (clock0 0) .answer .cells ≡ 1
+unfolding unsettled bitAt wordOf listed rowOf taken workAs workOut stirredAs stirred disagree wakes fresh levelAt readsLevels reads slotsRead mixed view linesOf readNow readLast named turnAt outputsBelow turned tick
+wrong-stays = refl
+
+pub wrong-goes : tick cellCount true unsettled (clock0 0) .answer .cells ≡ 0
+unfolding unsettled bitAt wordOf listed rowOf taken workAs workOut stirredAs stirred disagree wakes fresh levelAt readsLevels reads slotsRead mixed view linesOf readNow readLast named turnAt outputsBelow turned tick
+wrong-goes = refl

@@ -1,0 +1,8 @@
+-- What a reader must believe, in the order of document 01.
+pub mod Reading
+pub mod Levels
+pub mod Tick
+pub mod Examples
+-- Another view of a rule above, or what only proofs use: laws say that they agree.
+pub mod FastPath
+pub mod Settled

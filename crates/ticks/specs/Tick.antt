@@ -1,0 +1,159 @@
+-- Document 01, "One tick" and "Who wakes": a tick of either kind, over the number n of cells.
+use Prim.Native.Nat.{ℕ, zero, suc, _+_, _*_, _^_}
+use mathlib.Core.Bool.{Bool, true, false, _||_, cond}
+use mathlib.Core.List.{List}
+use lib.Count.{ones}
+use lib.Dec.{eqb}
+use lib.ListN.{getD}
+use Rattle.words.specs.Bits.{bitAt, bitNumber, wordOf}
+use Rattle.words.specs.Listed.{listed}
+use Rattle.cells.specs.declared.table.Slots.{Slots}
+use Rattle.cells.specs.declared.cell.Cell.{Cell}
+use Rattle.cells.specs.declared.cell.Worked.{Worked}
+use Rattle.cells.specs.Work.{workOut}
+use Rattle.cells.specs.Wake.{wakes}
+use Rattle.card.specs.declared.card.Card.{Card}
+use Rattle.card.specs.declared.card.Memory.{Memory}
+use Rattle.card.specs.Fresh.{noCell}
+use Rattle.ticks.specs.declared.connectors.Lines.{Lines}
+use Rattle.ticks.specs.declared.tick.Input.{Input}
+use Rattle.ticks.specs.declared.tick.Wires.{Wires}
+use Rattle.ticks.specs.declared.tick.Turn.{Turn}
+use Rattle.ticks.specs.declared.tick.Turned.{Turned}
+use Rattle.ticks.specs.declared.tick.Answer.{Answer}
+use Rattle.ticks.specs.declared.tick.Ticked.{Ticked}
+use Rattle.ticks.specs.Reading.{slotsRead, view}
+use Rattle.ticks.specs.Levels.{linesOf}
+
+-- ---- what a cell reads
+
+-- what a reader in position i sees in this tick, saw in the last tick that ran, and saw in the one before; `below` is the word of this tick's
+-- outputs, of which only those of cells below i are seen
+abbrev pub seesNow : (n i : ℕ) → Wires → ℕ → ℕ → Bool
+seesNow n i w below = view n i below (w .outputs) (w .levels)
+
+abbrev pub sawLast : (n i : ℕ) → Wires → ℕ → Bool
+sawLast n i w = view n i (w .outputs) (w .outputs2) (w .levels2)
+
+abbrev pub sawEarlier : (n i : ℕ) → Wires → ℕ → Bool
+sawEarlier n i w = view n i (w .outputs2) (w .outputs3) (w .levels3)
+
+-- the readings of four slots in this tick, and what they were in the last tick that ran
+unfoldable pub readNow : (n i : ℕ) → Wires → ℕ → List ℕ → Slots
+readNow n i w below s = slotsRead (seesNow n i w below) (sawLast n i w) s
+
+unfoldable pub readLast : (n i : ℕ) → Wires → List ℕ → Slots
+readLast n i w s = slotsRead (sawLast n i w) (sawEarlier n i w) s
+
+-- ---- one cell
+
+-- "a cell worked out gets the state and output that "Cells" gives for its state and its slots as read in this tick"
+abbrev pub withState : Cell → Worked → Cell
+withState cell r = record { kind = cell .kind; config = cell .config; slots = cell .slots; state = r .state }
+
+abbrev pub workedTurn : Cell → Slots → Turn
+workedTurn cell now =
+    record {
+      cell = withState cell (workOut (cell .kind) (cell .config) (cell .state) now);
+      out = workOut (cell .kind) (cell .config) (cell .state) now .out;
+      woke = true;
+    }
+
+-- "others keep state and output"
+abbrev pub sleptTurn : Cell → Bool → Turn
+sleptTurn cell out = record { cell = cell; out = out; woke = false }
+
+-- the rules name the cell
+unfoldable pub named : (n : ℕ) → Cell → (i edited : ℕ) → Wires → ℕ → Bool
+named n cell i edited w below = wakes (cell .kind) (cell .state) (bitAt edited i) (readNow n i w below (cell .slots)) (readLast n i w (cell .slots))
+
+-- a full tick works out every cell, a quick tick those that the rules name
+unfoldable pub turnAt : (n : ℕ) → Bool → Cell → (i edited : ℕ) → Wires → ℕ → Turn
+turnAt n full cell i edited w below =
+    cond (full || named n cell i edited w below) (workedTurn cell (readNow n i w below (cell .slots))) (sleptTurn cell (bitAt (w .outputs) i))
+
+-- ---- all cells
+
+-- "cells 1 to 16 are worked out in order": the word of the outputs of the cells below i, and the turn of cell i, which sees them
+module _ (n : ℕ) (full : Bool) (cells : List Cell) (edited : ℕ) (w : Wires) where
+  unfoldable pub outputsBelow : ℕ → ℕ
+  outputsBelow zero = 0
+  outputsBelow (suc i) =
+      outputsBelow i + bitNumber (turnAt n full (getD cells i noCell) i edited w (outputsBelow i) .out) * 2 ^ i
+
+  abbrev pub turnOf : ℕ → Turn
+  turnOf i = turnAt n full (getD cells i noCell) i edited w (outputsBelow i)
+
+  abbrev pub cellAfter : ℕ → Cell
+  cellAfter i = turnOf i .cell
+
+  abbrev pub wokeAt : ℕ → Bool
+  wokeAt i = turnOf i .woke
+
+  -- the new cells, the cell word and the woken set, "bit 0 cell 1"
+  unfoldable pub turned : Turned
+  turned = record { cells = listed cellAfter n; outputs = outputsBelow n; woken = wordOf wokeAt n }
+
+-- ---- a tick
+
+abbrev pub wiresOf : Memory → ℕ → Wires
+wiresOf m levels =
+    record { levels = levels; levels2 = m .levels; levels3 = m .levels2; outputs = m .outputs; outputs2 = m .outputs2; outputs3 = m .outputs3 }
+
+-- connectors are "read from the last tick's cells and levels, with edges against the tick before that": no cell is below position 0
+abbrev pub lines : (n : ℕ) → Card → Input → Lines
+lines n c input =
+    let m = c .memory in
+    linesOf (view n 0 (m .outputs) (m .outputs) (m .levels)) (view n 0 (m .outputs2) (m .outputs2) (m .levels2)) (c .connectors) (input .sample)
+
+-- the memory moved on by a tick with these words
+abbrev pub moved : Memory → (driven outputs levels : ℕ) → Memory
+moved m driven outputs levels =
+    record {
+      driven = driven;
+      outputs = outputs;
+      outputs2 = m .outputs;
+      outputs3 = m .outputs2;
+      levels = levels;
+      levels2 = m .levels;
+    }
+
+-- the card after a tick that ran: it clears the edits and moves the memory on
+abbrev pub cardAfter : Card → Lines → Turned → Card
+cardAfter c l t =
+    record {
+      pointer = c .pointer;
+      trigger = c .trigger;
+      cells = t .cells;
+      connectors = c .connectors;
+      edited = 0;
+      memory = moved (c .memory) (l .driven) (t .outputs) (l .levels);
+    }
+
+-- what a reader in position i reads in a tick
+abbrev pub readIn : (n : ℕ) → Bool → Card → Input → ℕ → List ℕ → Slots
+readIn n full c input i s =
+    let w = wiresOf (c .memory) (lines n c input .levels) in
+    readNow n i w (outputsBelow n full (c .cells) (c .edited) w i) s
+
+-- "driven word ..., cell word ..., woken set ..., and the number of ones in that set"
+abbrev pub answerOf : Lines → Turned → Answer
+answerOf l t = record { ran = true; driven = l .driven; cells = t .outputs; woken = t .woken; count = ones (t .woken) }
+
+abbrev pub turnedIn : (n : ℕ) → Bool → Card → ℕ → Turned
+turnedIn n full c levels = turned n full (c .cells) (c .edited) (wiresOf (c .memory) levels)
+
+abbrev pub ticked : (n : ℕ) → Bool → Card → Input → Ticked
+ticked n full c input =
+    record {
+      card = cardAfter c (lines n c input) (turnedIn n full c (lines n c input .levels));
+      answer = answerOf (lines n c input) (turnedIn n full c (lines n c input .levels));
+    }
+
+-- "idle" and nothing changes; the words of an idle answer are 0
+abbrev pub idle : Card → Ticked
+idle c = record { card = c; answer = record { ran = false; driven = 0; cells = 0; woken = 0; count = 0 } }
+
+-- "If the code isn't the chosen trigger source the answer is "idle" and nothing changes"
+unfoldable pub tick : (n : ℕ) → Bool → Card → Input → Ticked
+tick n full c input = cond (eqb (input .code) (c .trigger)) (ticked n full c input) (idle c)
