@@ -2,14 +2,14 @@
 use Prim.Native.Nat.{ℕ, _-_, _^_, _<_}
 use mathlib.Core.Path.{_≡_, refl, sym, ap, _∙_}
 use mathlib.Core.Bool.{Bool, true, false, cond, true≢false}
-use mathlib.Core.List.{List}
+use mathlib.Core.List.{List, _++_}
 use mathlib.Core.Option.{Option, none, some, Option·getD}
-use lib.ListN.{getD, set}
+use lib.ListN.{getD, set, drop}
 use lib.Seq.{getD-set-other}
 use Rattle.words.specs.Bits.{bitAt, withBit, wordOf}
 use Rattle.words.specs.Listed.{listed}
 use Rattle.words.proofs.Laws.{bit-ones, bit-built, bit-with-same, bit-with-other}
-use Rattle.words.proofs.Listed.{listed-at}
+use Rattle.words.proofs.Listed.{front-at}
 use Rattle.cells.specs.declared.cell.Cell.{Cell}
 use Rattle.cells.specs.declared.table.Slots.{Slots}
 use Rattle.cells.proofs.Laws.{or-left, or-right}
@@ -106,8 +106,8 @@ module _ (n : ℕ) (c : Card) where
   pub preset-edit : (v : ℕ) → Edit n c (preset n c v)
   unfolding preset
   preset-edit v =
-      settings-edit n c (c .trigger) (listed (cellAfter c v) n) _ (wordOf (editedAfter c v) n)
+      settings-edit n c (c .trigger) (listed (cellAfter c v) n ++ drop n (c .cells)) _ (wordOf (editedAfter c v) n)
       (λ i h e. or-left (bitAt (c .edited) i) _ (sym (bit-built (editedAfter c v) n i h) ∙ e))
       (λ i h e.
-      listed-at (cellAfter c v) n i noCell h
+      front-at (cellAfter c v) n (c .cells) i noCell h
       ∙ unset (presetCell v i) (getD (c .cells) i noCell) (or-right (bitAt (c .edited) i) _ (sym (bit-built (editedAfter c v) n i h) ∙ e)))

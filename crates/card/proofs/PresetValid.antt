@@ -1,28 +1,33 @@
--- An accepted preset keeps a card valid: what it sets is valid, by one test over the whole table.
-use Prim.Native.Nat.{ℕ, _+_}
+-- An accepted preset keeps a card valid: what it sets is valid, by one test over the whole table, and stays so where there are more cells.
+use Prim.Native.Nat.{ℕ, _+_, _≤_}
 use mathlib.Core.Path.{_≡_, refl}
-use mathlib.Core.Bool.{Bool, true, false, not, _&&_, cond}
-use mathlib.Core.List.{List, [], _∷_}
+use mathlib.Core.Bool.{Bool, true, false, not, _&&_, _||_, cond, or-true}
+use mathlib.Core.List.{List, [], _∷_, _++_}
 use mathlib.Core.Option.{Option, none, some, Option·getD}
 use native.Mathlib.Omega.{arith}
-use lib.Dec.{eqb}
-use lib.ListN.{getD}
+use lib.Dec.{leb, ltb, eqb}
+use lib.ListN.{length, getD, drop}
+use lib.Seq.{length-take-le}
+use borrow.Author.Tests.{not-true, not-false, le-leb, eq-eqb}
 use Rattle.words.specs.Listed.{listed}
-use Rattle.words.proofs.Listed.{length-listed, listed-at}
+use Rattle.words.proofs.Listed.{length-listed, listed-at, front-at, front-length}
 use Rattle.cells.specs.declared.cell.Cell.{Cell}
 use Rattle.cells.specs.Table.{rowOf}
+use Rattle.cells.proofs.Laws.{or-left, or-right}
 use Rattle.cells.proofs.Rows.{and-left, and-right}
 use Rattle.card.specs.declared.card.Card.{Card}
 use Rattle.card.specs.declared.card.Connector.{Connector}
-use Rattle.card.specs.Address.{cellCount, connectorCount, firstCell}
+use Rattle.card.specs.Address.{cellCount, connectorCount, firstCell, firstConnector, among, baseOf, edgeAddress}
 use Rattle.card.specs.Connectors.{noConnector}
 use Rattle.card.specs.Fresh.{noCell}
-use Rattle.card.specs.Valid.{frontTrigger, permittedBase, badCellType, badConnectorType, badAddress, frontDriven}
+use Rattle.card.specs.Valid.{largestAddress, frontTrigger, permittedBase, badCellType, badConnectorType, badAddress, frontDriven}
 use Rattle.card.specs.Valid.{validSlot, validSlots, validCell, validConnector, every, validCard}
 use Rattle.card.specs.Presets.{Setting, Entry, table, find, has, cellsOf, sourcesOf, settingOf, presetCell, presetSource, setsFront, sourced, cellAfter}
 use Rattle.card.specs.Presets.{connectorAfter, preset}
-use Rattle.card.proofs.Settings.{every-listed, join}
-use Rattle.card.proofs.ValidLaws.{sound, cell-at, connector-at}
+use Rattle.card.proofs.Places.{among-in, among-bounds}
+use Rattle.card.proofs.Settings.{every-listed, first-pass, taken-room, cell-slots, config-most, join}
+use Rattle.card.proofs.ValidLaws.{kind-known, sound, cell-at, connector-at}
+use Rattle.card.proofs.WriteLaws.{slots-each}
 
 -- a test of what stands at a number, if anything does
 passes : {A : Type 0} → (A → Bool) → Option A → Bool
@@ -71,42 +76,92 @@ unfolding presetSource settingOf
 preset-source v k =
     found-passes goodSource (sourcesOf (settingOf v)) (good-sources (settingOf v) (found-passes goodSetting table all-good v)) (1 + k)
 
-either-cell : (o : Option Cell) (old : Cell) → passes (validCell cellCount) o ≡ true → validCell cellCount old ≡ true
-    → validCell cellCount (Option·getD o old) ≡ true
-unfolding passes
-either-cell none old p q = q
-either-cell (some cell) old p q = p
+-- ---- among more cells
 
-either-connector : (o : Option ℕ) (old : Connector) → passes goodSource o ≡ true → validConnector cellCount old ≡ true
-    → validConnector cellCount (sourced o old) ≡ true
-unfolding passes validConnector badConnectorType
-either-connector none old p q = q
-either-connector (some a) old p q = p
+or-more : (z a b k : Bool) → (a ≡ true → b ≡ true) → (z || (a || k)) ≡ true → (z || (b || k)) ≡ true
+or-more true a b k more e = refl
+or-more false true b k more e = rw (more refl)
+or-more false false b k more e = rw (e, or-true b)
 
-either-front : (trigger : ℕ) (o : Option ℕ) (old : Connector) → (has o && eqb trigger frontTrigger) ≡ false → frontDriven trigger (old .kind) ≡ false
-    → frontDriven trigger (sourced o old .kind) ≡ false
-unfolding frontDriven
-either-front trigger none old p q = q
-either-front trigger (some a) old p q = rw p
+-- what is permitted among the card's cells is permitted among n, which are no fewer
+module _ (n : ℕ) (more : cellCount ≤ n) where
+  base-more : (b : ℕ) → permittedBase cellCount b ≡ true → permittedBase n b ≡ true
+  unfolding permittedBase
+  base-more b e = or-more (eqb b 0) _ (among firstCell n b) (among firstConnector connectorCount b) wider e
+    where
+      wider : among firstCell cellCount b ≡ true → among firstCell n b ≡ true
+      wider e =
+          let h = among-bounds firstCell cellCount b e in
+          among-in firstCell n b (h .0) (omega arith)
 
-pub valid-preset : (c : Card) → validCard cellCount c ≡ true → (v : ℕ) → (setsFront v && eqb (c .trigger) frontTrigger) ≡ false
-    → validCard cellCount (preset cellCount c v) ≡ true
-unfolding preset validCard setsFront
-valid-preset c ok v free =
-    let cells = listed (cellAfter c v) cellCount in
-    let connectors = listed (connectorAfter c v) connectorCount in
-    let first = listed-at (connectorAfter c v) connectorCount 0 noConnector (omega arith) in
-    let s = sound cellCount c ok in
-    join cellCount (c .trigger) cells connectors
-    (record {
-      clock = s .clock;
-      front = rw first (either-front (c .trigger) (presetSource v 0) (getD (c .connectors) 0 noConnector) free (s .front));
-      cell-count = length-listed (cellAfter c v) cellCount;
-      connector-count = length-listed (connectorAfter c v) connectorCount;
-      cells-pass =
-          every-listed (validCell cellCount) (cellAfter c v) cellCount
-          (λ i h. either-cell (presetCell v i) (getD (c .cells) i noCell) (preset-cell v i) (cell-at cellCount c ok i h));
-      connectors-pass =
-          every-listed (validConnector cellCount) (connectorAfter c v) connectorCount
-          (λ k h. either-connector (presetSource v k) (getD (c .connectors) k noConnector) (preset-source v k) (connector-at cellCount c ok k h));
-    })
+  address-more : (a : ℕ) → badAddress cellCount a ≡ false → badAddress n a ≡ false
+  unfolding badAddress
+  address-more a e =
+      let base = not-false _ (or-right (ltb largestAddress a) (not (permittedBase cellCount (baseOf a))) e) in
+      rw (or-left (ltb largestAddress a) (not (permittedBase cellCount (baseOf a))) e, base-more (baseOf a) base)
+
+  slot-more : (used edge : Bool) (a : ℕ) → validSlot cellCount used edge a ≡ true → validSlot n used edge a ≡ true
+  unfolding validSlot
+  slot-more true edge a e =
+      let good = not-true _ (and-left (not (badAddress cellCount a)) (not edge || leb edgeAddress a) e) in
+      rw (address-more a good) (and-right (not (badAddress cellCount a)) (not edge || leb edgeAddress a) e)
+  slot-more false edge a e = e
+
+  cell-more : (cell : Cell) → validCell cellCount cell ≡ true → validCell n cell ≡ true
+  unfolding validCell validSlots
+  cell-more cell ok =
+      let r = rowOf (cell .kind) in
+      let s = cell .slots in
+      let each = slots-each cellCount cell ok in
+      rw (
+        kind-known cellCount cell ok,
+        le-leb (cell .config) (r .largest) (config-most cellCount cell ok),
+        eq-eqb (length s) 4 (cell-slots cellCount cell ok),
+        slot-more (r .used .x) (r .edge .x) (getD s 0 0) (each .0),
+        slot-more (r .used .y) (r .edge .y) (getD s 1 0) (each .1),
+        slot-more (r .used .z) (r .edge .z) (getD s 2 0) (each .2),
+        slot-more (r .used .f) (r .edge .f) (getD s 3 0) (each .3),
+      )
+
+  -- ---- the card
+
+  either-cell : (o : Option Cell) (old : Cell) → passes (validCell cellCount) o ≡ true → validCell n old ≡ true → validCell n (Option·getD o old) ≡ true
+  unfolding passes
+  either-cell none old p q = q
+  either-cell (some cell) old p q = cell-more cell p
+
+  either-connector : (o : Option ℕ) (old : Connector) → passes goodSource o ≡ true → validConnector n old ≡ true → validConnector n (sourced o old) ≡ true
+  unfolding passes validConnector badConnectorType
+  either-connector none old p q = q
+  either-connector (some a) old p q = rw (address-more a (not-true _ p))
+
+  either-front : (trigger : ℕ) (o : Option ℕ) (old : Connector) → (has o && eqb trigger frontTrigger) ≡ false → frontDriven trigger (old .kind) ≡ false
+      → frontDriven trigger (sourced o old .kind) ≡ false
+  unfolding frontDriven
+  either-front trigger none old p q = q
+  either-front trigger (some a) old p q = rw p
+
+  pub valid-preset : (c : Card) → validCard n c ≡ true → (v : ℕ) → (setsFront v && eqb (c .trigger) frontTrigger) ≡ false
+      → validCard n (preset n c v) ≡ true
+  unfolding preset validCard setsFront
+  valid-preset c ok v free =
+      let cells = listed (cellAfter c v) n ++ drop n (c .cells) in
+      let connectors = listed (connectorAfter c v) connectorCount in
+      let first = listed-at (connectorAfter c v) connectorCount 0 noConnector (omega arith) in
+      let s = sound n c ok in
+      let had = taken-room n (c .cells) (s .cell-count) in
+      let long : n ≤ length cells = omega (arith, had, front-length (cellAfter c v) n (c .cells) had) in
+      join n (c .trigger) cells connectors
+      (record {
+        clock = s .clock;
+        front = rw first (either-front (c .trigger) (presetSource v 0) (getD (c .connectors) 0 noConnector) free (s .front));
+        cell-count = length-take-le n cells long;
+        connector-count = length-listed (connectorAfter c v) connectorCount;
+        cells-pass =
+            first-pass (validCell n) n cells noCell long
+            (λ i h. rw (front-at (cellAfter c v) n (c .cells) i noCell h)
+            (either-cell (presetCell v i) (getD (c .cells) i noCell) (preset-cell v i) (cell-at n c ok i h)));
+        connectors-pass =
+            every-listed (validConnector n) (connectorAfter c v) connectorCount
+            (λ k h. either-connector (presetSource v k) (getD (c .connectors) k noConnector) (preset-source v k) (connector-at n c ok k h));
+      })

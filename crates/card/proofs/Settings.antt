@@ -1,5 +1,5 @@
 -- Laws of settings: a test of every entry of a list, as a loop makes it, at one entry, and after a change; and what valid settings are.
-use Prim.Native.Nat.{ℕ, zero, suc, _+_, _≤_, _<_}
+use Prim.Native.Nat.{ℕ, zero, suc, _+_, _≤_, _<_, zero-le}
 use mathlib.Core.Path.{_≡_, refl, sym, ap, _∙_}
 use mathlib.Core.Bool.{Bool, true, false, not, _&&_, and-true, and-assoc}
 use mathlib.Core.List.{List, [], _∷_, _++_, map}
@@ -8,7 +8,7 @@ use native.Mathlib.Numerals.{add-one}
 use native.Mathlib.Omega.{arith}
 use lib.Dec.{leb, eqb}
 use lib.ListN.{length, getD, set, take, replicate, length-map}
-use lib.Seq.{take-suc}
+use lib.Seq.{take-suc, getD-take}
 use borrow.Author.Tests.{eqb-true, not-true, eq-eqb, leb-true}
 use Rattle.words.specs.Listed.{listed}
 use Rattle.cells.specs.declared.cell.Cell.{Cell}
@@ -51,6 +51,16 @@ module _ {A : Type 0} (f : A → Bool) where
   every-set (y ∷ ys) zero x e h = rw h (and-right (f y) (every f ys) e)
   every-set (y ∷ ys) (suc i) x e h = rw (and-left (f y) (every f ys) e) (every-set ys i x (and-right (f y) (every f ys) e) h)
 
+  -- the first n entries pass where each of them does
+  pub first-at : (n : ℕ) (l : List A) (i : ℕ) (d : A) → every f (take n l) ≡ true → length (take n l) ≡ n → i < n → f (getD l i d) ≡ true
+  first-at n l i d e long h = ap f (sym (getD-take n l i d h)) ∙ every-at (take n l) i d e (rw long h)
+
+  pub first-pass : (n : ℕ) (l : List A) (d : A) → n ≤ length l → ((i : ℕ) → i < n → f (getD l i d) ≡ true) → every f (take n l) ≡ true
+  unfolding every
+  first-pass zero l d room h = refl
+  first-pass (suc n) [] d room h = absurd (not-suc-le-zero room)
+  first-pass (suc n) (x ∷ xs) d room h = rw (h 0 (omega arith)) (first-pass n xs d (le-of-suc-le-suc room) (λ i k. h (suc i) (omega arith)))
+
   -- a list of one entry
   pub every-replicate : (n : ℕ) (x : A) → f x ≡ true → every f (replicate n x) ≡ true
   unfolding every
@@ -64,15 +74,23 @@ module _ {A : Type 0} (f : A → Bool) where
   every-listed g (suc n) h =
       every-snoc (listed g n) (g n) ∙ rw (every-listed g n (λ i k. h i (omega arith)), h n (lt-suc-self n))
 
+-- a list of which n entries can be taken has n
+pub taken-room : {A : Type 0} (n : ℕ) (l : List A) → length (take n l) ≡ n → n ≤ length l
+taken-room zero l e = zero-le
+taken-room (suc n) [] e = absurd (omega arith)
+taken-room (suc n) (x ∷ xs) e =
+    let rest = taken-room n xs (omega arith) in
+    omega arith
+
 -- ---- what valid settings are
 
 -- the six tests of `valid`, by name
 pub record Sound (n trigger : ℕ) (cells : List Cell) (connectors : List Connector) : Type 0 where
   pub clock : badClock trigger ≡ false
   pub front : frontDriven trigger (getD connectors 0 noConnector .kind) ≡ false
-  pub cell-count : length cells ≡ n
+  pub cell-count : length (take n cells) ≡ n
   pub connector-count : length connectors ≡ connectorCount
-  pub cells-pass : every (validCell n) cells ≡ true
+  pub cells-pass : every (validCell n) (take n cells) ≡ true
   pub connectors-pass : every (validConnector n) connectors ≡ true
 
 module _ (n trigger : ℕ) (cells : List Cell) (connectors : List Connector) where
@@ -81,9 +99,9 @@ module _ (n trigger : ℕ) (cells : List Cell) (connectors : List Connector) whe
   split ok =
       let clock = not (badClock trigger) in
       let front = not (frontDriven trigger (getD connectors 0 noConnector .kind)) in
-      let count = eqb (length cells) n in
+      let count = eqb (length (take n cells)) n in
       let others = eqb (length connectors) connectorCount in
-      let pass = every (validCell n) cells in
+      let pass = every (validCell n) (take n cells) in
       let too = every (validConnector n) connectors in
       let first = and-left ((clock && front) && (count && others)) (pass && too) ok in
       let last = and-right ((clock && front) && (count && others)) (pass && too) ok in
@@ -92,7 +110,7 @@ module _ (n trigger : ℕ) (cells : List Cell) (connectors : List Connector) whe
       record {
         clock = not-true _ (and-left clock front numbers);
         front = not-true _ (and-right clock front numbers);
-        cell-count = eqb-true (length cells) n (and-left count others counts);
+        cell-count = eqb-true (length (take n cells)) n (and-left count others counts);
         connector-count = eqb-true (length connectors) connectorCount (and-right count others counts);
         cells-pass = and-left pass too last;
         connectors-pass = and-right pass too last;
@@ -104,7 +122,7 @@ module _ (n trigger : ℕ) (cells : List Cell) (connectors : List Connector) whe
       rw (
         s .clock,
         s .front,
-        eq-eqb (length cells) n (s .cell-count),
+        eq-eqb (length (take n cells)) n (s .cell-count),
         eq-eqb (length connectors) connectorCount (s .connector-count),
         s .cells-pass,
         s .connectors-pass,
@@ -137,7 +155,14 @@ module _ (n : ℕ) (cell : Cell) (ok : validCell n cell ≡ true) where
   cell-config = le-trans config-most (largest-fits (cell .kind))
 
 -- validity says nothing of states
-pub valid-cleared : (n trigger : ℕ) (cells : List Cell) (connectors : List Connector)
-    → valid n trigger (map clearedCell cells) connectors ≡ valid n trigger cells connectors
+pub valid-cleared : (n trigger : ℕ) (cells before : List Cell) (connectors : List Connector) → take n cells ≡ map clearedCell (take n before)
+    → valid n trigger cells connectors ≡ valid n trigger before connectors
 unfolding valid validCell
-valid-cleared n trigger cells connectors = rw (length-map cells clearedCell, every-map (validCell n) clearedCell (λ x. refl) cells)
+valid-cleared n trigger cells before connectors e =
+    rw (e, length-map (take n before) clearedCell, every-map (validCell n) clearedCell (λ x. refl) (take n before))
+
+-- nor of the cells behind the first n
+pub valid-first : (n trigger : ℕ) (cells others : List Cell) (connectors : List Connector) → take n cells ≡ take n others
+    → valid n trigger cells connectors ≡ valid n trigger others connectors
+unfolding valid
+valid-first n trigger cells others connectors e = rw e

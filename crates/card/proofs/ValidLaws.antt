@@ -6,8 +6,8 @@ use mathlib.Core.List.{List, [], _∷_, map}
 use native.Mathlib.Decide.{ℕ-discrete}
 use native.Mathlib.Omega.{arith}
 use lib.Dec.{leb, ltb, eqb}
-use lib.ListN.{length, getD, set, replicate, length-map, length-set, length-replicate}
-use lib.Seq.{getD-set-same, getD-set-other}
+use lib.ListN.{length, getD, set, take, replicate, length-take, length-map, length-set, length-replicate}
+use lib.Seq.{getD-set-same, getD-set-other, take-at, take-all, length-take-le}
 use borrow.Author.Tests.{ltb-true, ltb-false, not-true, le-leb, le-ltb, eq-eqb, ne-eqb}
 use Rattle.cells.specs.declared.table.Slots.{Slots}
 use Rattle.cells.specs.declared.table.Row.{Row}
@@ -22,10 +22,10 @@ use Rattle.card.specs.Connectors.{noConnector}
 use Rattle.card.specs.Fresh.{noCell, freshCell, freshConnectors, freshOf}
 use Rattle.card.specs.Valid.{frontTrigger, permittedBase, badClock, badCellType, badConnectorType, badConfig, unusedSlot, badAddress, frontDriven}
 use Rattle.card.specs.Valid.{validSlot, validSlots, validCell, validConnector, every, valid, validCard}
-use Rattle.card.specs.Edits.{atCell, atConnector, withCell, withConnector, clearedCell, blankSlots, input, stored, wiredSlot, currentCell}
+use Rattle.card.specs.Edits.{atCell, atConnector, withCell, withConnector, clearedCell, clearedCells, blankSlots, input, stored, wiredSlot, currentCell}
 use Rattle.card.specs.Edits.{currentConnector, putCell, putConnector, move, setTrigger, home, typed, setType, configured, setConfig, stated, setState}
 use Rattle.card.specs.Edits.{wired, setSlots, setConnectorType, setSource}
-use Rattle.card.proofs.Settings.{every-at, every-map, every-set, every-replicate, Sound, split, join}
+use Rattle.card.proofs.Settings.{every-at, every-set, every-replicate, first-at, first-pass, taken-room, Sound, split, join, valid-cleared}
 use Rattle.card.proofs.Places.{among-bounds}
 
 -- ---- a cell by itself
@@ -157,18 +157,27 @@ module _ (n : ℕ) (c : Card) (ok : validCard n c ≡ true) where
   unfolding validCard
   sound = split n (c .trigger) (c .cells) (c .connectors) ok
 
-  -- with other cells
-  pub other-cells : (cells : List Cell) → length cells ≡ n → every (validCell n) cells ≡ true → valid n (c .trigger) cells (c .connectors) ≡ true
-  other-cells cells count pass =
+  -- there are n cells
+  room : n ≤ length (c .cells)
+  room = taken-room n (c .cells) (sound .cell-count)
+
+  -- with other cells, of which the first n are valid
+  pub first-cells : (cells : List Cell) → n ≤ length cells → ((i : ℕ) → i < n → validCell n (getD cells i noCell) ≡ true)
+      → valid n (c .trigger) cells (c .connectors) ≡ true
+  first-cells cells long pass =
       join n (c .trigger) cells (c .connectors)
       (record {
         clock = sound .clock;
         front = sound .front;
-        cell-count = count;
+        cell-count = length-take-le n cells long;
         connector-count = sound .connector-count;
-        cells-pass = pass;
+        cells-pass = first-pass (validCell n) n cells noCell long pass;
         connectors-pass = sound .connectors-pass;
       })
+
+  -- with other cells, n of them
+  pub other-cells : (cells : List Cell) → length cells ≡ n → every (validCell n) cells ≡ true → valid n (c .trigger) cells (c .connectors) ≡ true
+  other-cells cells count pass = first-cells cells (omega arith) (λ i h. every-at (validCell n) cells i noCell pass (omega arith))
 
   -- with another trigger, and the connector at k replaced
   other-connector : (trigger k : ℕ) (connector : Connector) → badClock trigger ≡ false → validConnector n connector ≡ true
@@ -187,9 +196,7 @@ module _ (n : ℕ) (c : Card) (ok : validCard n c ≡ true) where
 
   -- at each place
   pub cell-at : (i : ℕ) → i < n → validCell n (getD (c .cells) i noCell) ≡ true
-  cell-at i h =
-      let count = sound .cell-count in
-      every-at (validCell n) (c .cells) i noCell (sound .cells-pass) (omega arith)
+  cell-at i h = first-at (validCell n) n (c .cells) i noCell (sound .cells-pass) (sound .cell-count) h
 
   pub connector-at : (k : ℕ) → k < connectorCount → validConnector n (getD (c .connectors) k noConnector) ≡ true
   connector-at k h =
@@ -211,11 +218,17 @@ module _ (n : ℕ) (c : Card) (ok : validCard n c ≡ true) where
   unfolding putCell validCard
   put-valid cell pass = go (atCell n c)
     where
+      k : ℕ
+      k = c .pointer - firstCell
+
+      each : (i : ℕ) → i < n → Dec (i ≡ k) → validCell n (getD (set (c .cells) k cell) i noCell) ≡ true
+      each i h (yes e) =
+          let long = room in
+          rw (e, getD-set-same (c .cells) k cell noCell (omega arith)) pass
+      each i h (no e) = rw (getD-set-other (c .cells) k i cell noCell e) (cell-at i h)
+
       go : (b : Bool) → validCard n (cond b (withCell c (c .pointer - firstCell) cell) c) ≡ true
-      go true =
-          let i = c .pointer - firstCell in
-          other-cells (set (c .cells) i cell) (length-set (c .cells) i cell ∙ sound .cell-count)
-          (every-set (validCell n) (c .cells) i cell (sound .cells-pass) pass)
+      go true = first-cells (set (c .cells) k cell) (omega (arith, room, length-set (c .cells) k cell)) (λ i h. each i h (ℕ-discrete i k))
       go false = ok
 
   pub valid-move : (p : ℕ) → validCard n (move c p) ≡ true
@@ -247,10 +260,10 @@ module _ (n : ℕ) (c : Card) (ok : validCard n c ≡ true) where
           })
 
   pub valid-home : validCard n (home n c) ≡ true
-  unfolding home validCard validCell
+  unfolding home validCard
   valid-home =
-      other-cells (map clearedCell (c .cells)) (length-map (c .cells) clearedCell ∙ sound .cell-count)
-      (every-map (validCell n) clearedCell (λ x. refl) (c .cells) ∙ sound .cells-pass)
+      let long = length-map (take n (c .cells)) clearedCell ∙ sound .cell-count in
+      valid-cleared n (c .trigger) (clearedCells n (c .cells)) (c .cells) (c .connectors) (take-at (map clearedCell (take n (c .cells))) _ n long) ∙ ok
 
   pub valid-type : (v : ℕ) → badCellType v ≡ false → validCard n (setType n c v) ≡ true
   unfolding setType
@@ -329,12 +342,13 @@ module _ (n : ℕ) (c : Card) (ok : validCard n c ≡ true) where
 pub fresh-valid : (n : ℕ) → validCard n (freshOf n) ≡ true
 unfolding validCard badClock frontDriven every validConnector badConnectorType badAddress permittedBase
 fresh-valid n =
+    let all : take n (replicate n freshCell) ≡ replicate n freshCell = take-all n (replicate n freshCell) (omega (arith, length-replicate n freshCell)) in
     join n 0 (replicate n freshCell) freshConnectors
     (record {
       clock = refl;
       front = refl;
-      cell-count = length-replicate n freshCell;
+      cell-count = rw all (length-replicate n freshCell);
       connector-count = refl;
-      cells-pass = every-replicate (validCell n) n freshCell (fresh-cell n);
+      cells-pass = rw all (every-replicate (validCell n) n freshCell (fresh-cell n));
       connectors-pass = refl;
     })

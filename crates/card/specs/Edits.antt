@@ -2,9 +2,9 @@
 -- "Edited" is document 01's term for a cell that a write has touched since the last tick that ran.
 use Prim.Native.Nat.{ℕ, _+_, _-_, _^_}
 use mathlib.Core.Bool.{Bool, true, false, not, _&&_, cond}
-use mathlib.Core.List.{List, [], _∷_, map}
+use mathlib.Core.List.{List, [], _∷_, _++_, map}
 use lib.Dec.{ltb, eqb}
-use lib.ListN.{getD, set}
+use lib.ListN.{getD, set, take, drop}
 use Rattle.words.specs.Bits.{withBit}
 use Rattle.cells.specs.declared.table.Slots.{Slots}
 use Rattle.cells.specs.declared.table.Kept.{Kept}
@@ -97,8 +97,12 @@ cellWith cell s = record { kind = cell .kind; config = cell .config; slots = cel
 abbrev pub clearedCell : Cell → Cell
 clearedCell cell = cellWith cell clearState
 
+-- the first n of some cells; the others stay
+abbrev pub clearedCells : ℕ → List Cell → List Cell
+clearedCells n cells = map clearedCell (take n cells) ++ drop n cells
+
 unfoldable pub home : ℕ → Card → Card
-home n c = withSettings c (c .trigger) (map clearedCell (c .cells)) (c .connectors) (2 ^ n - 1)
+home n c = withSettings c (c .trigger) (clearedCells n (c .cells)) (c .connectors) (2 ^ n - 1)
 
 -- "edge slots become 128"
 abbrev pub blankSlot : Bool → ℕ

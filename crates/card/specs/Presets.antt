@@ -4,7 +4,7 @@ use mathlib.Core.Bool.{Bool, true, false, _||_, cond}
 use mathlib.Core.List.{List, [], _∷_, _++_, map}
 use mathlib.Core.Option.{Option, none, some, Option·getD}
 use lib.Dec.{eqb}
-use lib.ListN.{getD}
+use lib.ListN.{getD, drop}
 use Rattle.words.specs.Bits.{bitAt, wordOf}
 use Rattle.words.specs.Listed.{listed}
 use Rattle.cells.specs.declared.cell.Cell.{Cell}
@@ -231,4 +231,6 @@ editedAfter c v i = bitAt (c .edited) i || has (presetCell v i)
 
 -- what the preset does not set stays; so does all else of the card
 unfoldable pub preset : ℕ → Card → ℕ → Card
-preset n c v = withSettings c (c .trigger) (listed (cellAfter c v) n) (listed (connectorAfter c v) connectorCount) (wordOf (editedAfter c v) n)
+preset n c v =
+    withSettings c (c .trigger) (listed (cellAfter c v) n ++ drop n (c .cells)) (listed (connectorAfter c v) connectorCount)
+    (wordOf (editedAfter c v) n)

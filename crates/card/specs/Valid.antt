@@ -3,7 +3,7 @@ use Prim.Native.Nat.{ℕ}
 use mathlib.Core.Bool.{Bool, true, false, not, _&&_, _||_, cond}
 use mathlib.Core.List.{List, [], _∷_}
 use lib.Dec.{leb, ltb, eqb}
-use lib.ListN.{length, getD}
+use lib.ListN.{length, getD, take}
 use Rattle.cells.specs.declared.table.Slots.{Slots}
 use Rattle.cells.specs.declared.table.Row.{Row}
 use Rattle.cells.specs.declared.table.Kept.{Kept}
@@ -90,11 +90,12 @@ unfoldable pub every : {A : Type 0} → (A → Bool) → List A → Bool
 every f [] = true
 every f (x ∷ xs) = f x && every f xs
 
--- the settings of a card of n cells that lines can set: what a record may hold
+-- the settings of a card of n cells that lines can set: what a record may hold. A list may have cells behind the first n; nothing is asked of them
 unfoldable pub valid : ℕ → ℕ → List Cell → List Connector → Bool
 valid n trigger cells connectors =
-    ((not (badClock trigger) && not (frontDriven trigger (getD connectors 0 noConnector .kind))) && (eqb (length cells) n && eqb (length connectors) connectorCount))
-    && (every (validCell n) cells && every (validConnector n) connectors)
+    ((not (badClock trigger) && not (frontDriven trigger (getD connectors 0 noConnector .kind)))
+    && (eqb (length (take n cells)) n && eqb (length connectors) connectorCount))
+    && (every (validCell n) (take n cells) && every (validConnector n) connectors)
 
 unfoldable pub validCard : ℕ → Card → Bool
 validCard n c = valid n (c .trigger) (c .cells) (c .connectors)

@@ -1,10 +1,9 @@
 // What an accepted line does to the card: one function for each effect.
-ghost use mathlib.Core.List.{map};
 ghost use mathlib.Core.Path.{_≡_};
 ghost use Prim.Native.Nat.{_<_};
 ghost use Rattle.card.specs.Address.{cellCount};
 ghost use Rattle.card.specs.Edits;
-ghost use Rattle.card.specs.Edits.{atCell, currentCell, currentConnector, putCell, putConnector, setTrigger, configuredState, statedAs, wiredSlot, bitState, countState, clearedCell};
+ghost use Rattle.card.specs.Edits.{atCell, currentCell, currentConnector, putCell, putConnector, setTrigger, configuredState, statedAs, wiredSlot, bitState, countState, clearedCells};
 ghost use Rattle.card.specs.Edits.{setType, setConfig, setState, wiredSlots, setSlots, setConnectorType, setSource, blankSlot};
 use crate::card::Card;
 use crate::card::Connector;
@@ -129,7 +128,7 @@ pub fn set_trigger(card: Card, t: u8) -> Card
 
 // Every cell with its state cleared.
 fn cleared(cells: [Cell; CELLS]) -> [Cell; CELLS]
-    ensures { λ r. ⌜ r ≡ map clearedCell cells ⌝ }
+    ensures { λ r. ⌜ r ≡ clearedCells cellCount cells ⌝ }
 {
     let clear = CLEAR;
     let mut next = cells;

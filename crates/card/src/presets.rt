@@ -1,9 +1,10 @@
 // Presets: two constant tables by preset number, and what a preset does to the card.
 ghost use mathlib.Core.Bool.{not, _||_, cond};
+ghost use mathlib.Core.List.{_++_};
 ghost use mathlib.Core.Option.{Option·getD};
 ghost use mathlib.Core.Path.{_≡_};
 ghost use Prim.Native.Nat.{ℕ, _<_};
-ghost use lib.ListN.{getD};
+ghost use lib.ListN.{getD, drop};
 ghost use Rattle.words.specs.Bits.{bitAt, wordOf};
 ghost use Rattle.words.specs.Listed.{listed};
 ghost use Rattle.card.specs.Address.{cellCount, connectorCount};
@@ -328,7 +329,7 @@ fn connectors_under(row: u64, connectors: [Connector; CONNECTORS]) -> [Connector
 }
 
 fn cells_under(row: CellRow, cells: [Cell; CELLS]) -> [Cell; CELLS]
-    ensures { λ r. ⌜ r ≡ listed (λ i. Option·getD (cellIn (row .0) (row .1) i) (getD cells i noCell)) cellCount ⌝ }
+    ensures { λ r. ⌜ r ≡ listed (λ i. Option·getD (cellIn (row .0) (row .1) i) (getD cells i noCell)) cellCount ++ drop cellCount cells ⌝ }
 {
     let mut next = cells;
     for i in 0..16u32 {

@@ -1,5 +1,6 @@
 // Rows 5 to 13 of "When the card says no" as tests of single values, and the settings that a record may hold.
 ghost use mathlib.Core.Path.{_≡_};
+ghost use lib.ListN.{take};
 ghost use Rattle.card.specs.Address.{cellCount};
 ghost use Rattle.card.specs.Valid.{badPlace, badCellType, badConnectorType, badClock, badConfig, unusedSlot, badAddress, frontDriven};
 ghost use Rattle.card.specs.Valid.{validSlot, validSlots, validCell, validConnector, every, valid, noConfig, badStateAs, badState, noState};
@@ -115,7 +116,7 @@ fn valid_connector(c: Connector) -> bool
 
 // Every cell may have its settings.
 fn valid_cells(cells: [Cell; CELLS]) -> bool
-    ensures { λ r. ⌜ r ≡ every (validCell cellCount) cells ⌝ }
+    ensures { λ r. ⌜ r ≡ every (validCell cellCount) (take cellCount cells) ⌝ }
 {
     let mut ok = true;
     for i in 0..CELLS {

@@ -4,7 +4,7 @@ use mathlib.Core.Path.{_≡_, refl, sym, ap, _∙_}
 use mathlib.Core.Bool.{Bool, true, false, _&&_, cond, true≢false}
 use mathlib.Core.List.{List, _++_}
 use lib.Dec.{eqb, ltb}
-use lib.ListN.{length, drop}
+use lib.ListN.{length, take, drop}
 use borrow.Author.Tests.{eq-eqb, le-ltb, ltb-false}
 use Rattle.text.specs.Decimal.{isDigit}
 use Rattle.text.specs.Written.{bytesOf}
@@ -12,10 +12,10 @@ use Rattle.card.specs.declared.card.Card.{Card}
 use Rattle.card.specs.declared.context.Context.{Context}
 use Rattle.card.specs.Context.{contextOf}
 use Rattle.card.specs.Address.{cellCount}
-use Rattle.card.specs.Fresh.{fresh}
+use Rattle.card.specs.Fresh.{freshOf}
 use Rattle.card.specs.Valid.{validCard}
 use Rattle.saved.specs.Record.{configWidth, recordLength, recordOf, loaded}
-use Rattle.saved.proofs.Records.{config-fits, valid-length, saved-front, load-accepts}
+use Rattle.saved.proofs.Records.{config-fits, valid-length, saved-front, cleared-taken, load-accepts}
 use Rattle.saved.proofs.Records
 use Rattle.lines.specs.declared.grammar.Command.{Command}
 use Rattle.lines.specs.declared.grammar.Command.the-variants.{Move, Where, Trigger, Home, Preset, SetKind, SetConfig, SetState, GetKind, GetConfig}
@@ -57,33 +57,33 @@ command-room n x store Back g e = never g
 command-room n x store Cells g e = never g
 command-room n x store Save g e = ltb-false store (recordLength n configWidth) (when-none (ltb store (recordLength n configWidth)) 0 e)
 
-room : (x : Context) (b : Bool) (store : ℕ) (p : Parsed) → let d = cond b (refused 1) (decisionFor cellCount x store p) in
-    d .k ≡ 0 → d .response .saves ≡ true → wholeRecord ≤ store
+room : (n : ℕ) (x : Context) (b : Bool) (store : ℕ) (p : Parsed) → let d = cond b (refused 1) (decisionFor n x store p) in
+    d .k ≡ 0 → d .response .saves ≡ true → wholeRecord n ≤ store
 unfolding decisionFor decision
-room x true store p e g = never g
-room x false store Malformed e g = never g
-room x false store Elsewhere e g = never g
-room x false store (Here command) e g = command-room cellCount x store command g e
+room n x true store p e g = never g
+room n x false store Malformed e g = never g
+room n x false store Elsewhere e g = never g
+room n x false store (Here command) e g = command-room n x store command g e
 
-save-room : (c : Card) (text : List ℕ) (reply store : ℕ) → Saves c text reply store → wholeRecord ≤ store
+save-room : (n : ℕ) (c : Card) (text : List ℕ) (reply store : ℕ) → Saves n c text reply store → wholeRecord n ≤ store
 unfolding lineDecision lineOutcome
-save-room c text reply store s = room (contextOf cellCount c) (ltb reply shortestReply) store (parse text) (s .accepted) (s .saves)
+save-room n c text reply store s = room n (contextOf n c) (ltb reply shortestReply) store (parse text) (s .accepted) (s .saves)
 
-module _ (c : Card) (text : List ℕ) (reply store : ℕ) (s : Saves c text reply store) where
-  both : (eqb (lineOutcome cellCount c text reply store .k) 0 && lineOutcome cellCount c text reply store .response .saves) ≡ true
-  both = rw (eq-eqb (lineOutcome cellCount c text reply store .k) 0 (s .accepted)) (s .saves)
+module _ (n : ℕ) (c : Card) (text : List ℕ) (reply store : ℕ) (s : Saves n c text reply store) where
+  both : (eqb (lineOutcome n c text reply store .k) 0 && lineOutcome n c text reply store .response .saves) ≡ true
+  both = rw (eq-eqb (lineOutcome n c text reply store .k) 0 (s .accepted)) (s .saves)
 
   -- what it writes is the record
-  bytes-are : savedBytes cellCount c text reply store ≡ recordOf configWidth c
+  bytes-are : savedBytes n c text reply store ≡ recordOf n configWidth c
   unfolding savedBytes
   bytes-are = rw both
 
-store-is : (c : Card) (text reply store : List ℕ) → validCard cellCount c ≡ true → Saves c text (length reply) (length store)
-    → storeAfter cellCount c text (length reply) store ≡ recordOf configWidth c ++ drop wholeRecord store
+store-is : (n : ℕ) (c : Card) (text reply store : List ℕ) → validCard n c ≡ true → Saves n c text (length reply) (length store)
+    → storeAfter n c text (length reply) store ≡ recordOf n configWidth c ++ drop (wholeRecord n) store
 unfolding storeAfter
-store-is c text reply store ok s =
-    rw (both c text (length reply) (length store) s)
-    (saved-front cellCount configWidth c store ok (save-room c text (length reply) (length store) s))
+store-is n c text reply store ok s =
+    rw (both n c text (length reply) (length store) s)
+    (saved-front n configWidth c store ok (save-room n c text (length reply) (length store) s))
 
 -- ---- the theorem
 
@@ -91,34 +91,38 @@ parses : parse (bytesOf "36SS Z") ≡ Here Save
 unfolding bytesOf isDigit isWord isWhole cardForm plainForm addressed parse
 parses = refl
 
-line-saves : (c : Card) (reply store : ℕ) → shortestReply ≤ reply → wholeRecord ≤ store → Saves c (bytesOf "36SS Z") reply store
+line-saves : (n : ℕ) (c : Card) (reply store : ℕ) → shortestReply ≤ reply → wholeRecord n ≤ store → Saves n c (bytesOf "36SS Z") reply store
 unfolding lineDecision lineOutcome decisionFor decision responseTo refusal
-line-saves c reply store hr hs =
+line-saves n c reply store hr hs =
     record {
-      accepted = rw (le-ltb reply shortestReply hr, parses, le-ltb store wholeRecord hs);
+      accepted = rw (le-ltb reply shortestReply hr, parses, le-ltb store (wholeRecord n) hs);
       saves = rw (le-ltb reply shortestReply hr, parses);
     }
 
-restored : (c : Card) → validCard cellCount c ≡ true → (d : Card) → Restored c (loaded cellCount configWidth d (recordOf configWidth c))
-restored c ok d =
-    let e = Records.load-save cellCount configWidth config-fits c ok d in
-    record { trigger = ap (λ (x : Card). x .trigger) e; cells = ap (λ (x : Card). x .cells) e; connectors = ap (λ (x : Card). x .connectors) e }
+restored : (n : ℕ) (c : Card) → validCard n c ≡ true → (d : Card) → Restored n c (loaded n configWidth d (recordOf n configWidth c))
+restored n c ok d =
+    let e = Records.load-save n configWidth config-fits c ok d in
+    record {
+      trigger = ap (λ (x : Card). x .trigger) e;
+      cells = ap (λ (x : Card). take n (x .cells)) e ∙ cleared-taken n configWidth config-fits c ok (drop n (d .cells));
+      connectors = ap (λ (x : Card). x .connectors) e;
+    }
 
-written : (c : Card) (text reply store : List ℕ) → validCard cellCount c ≡ true → Saves c text (length reply) (length store)
-    → Written c (savedBytes cellCount c text (length reply) (length store)) store (storeAfter cellCount c text (length reply) store)
-written c text reply store ok s =
-    rw (bytes-are c text (length reply) (length store) s)
+written : (n : ℕ) (c : Card) (text reply store : List ℕ) → validCard n c ≡ true → Saves n c text (length reply) (length store)
+    → Written n c (savedBytes n c text (length reply) (length store)) store (storeAfter n c text (length reply) store)
+written n c text reply store ok s =
+    rw (bytes-are n c text (length reply) (length store) s)
     (record {
-      sized = valid-length cellCount configWidth c ok;
-      front = store-is c text reply store ok s;
-      loads = load-accepts cellCount configWidth config-fits c ok;
-      restored = restored c ok;
+      sized = valid-length n configWidth c ok;
+      front = store-is n c text reply store ok s;
+      loads = load-accepts n configWidth config-fits c ok;
+      restored = restored n c ok;
     })
 
-pub save-load : SaveLoad
-save-load =
+pub save-load : (n : ℕ) → cellCount ≤ n → SaveLoad n
+save-load n more =
     record {
-      saves = line-saves;
-      save-load = λ calls text reply store s. written (end cellCount fresh calls) text reply store (fresh-reached-valid calls) s;
-      load-save = λ d bytes text reply store ok s. bytes-are _ text reply store s ∙ Records.save-load cellCount configWidth d bytes ok;
+      saves = line-saves n;
+      save-load = λ calls text reply store s. written n (end n (freshOf n) calls) text reply store (fresh-reached-valid n more calls) s;
+      load-save = λ d bytes text reply store ok s. bytes-are n _ text reply store s ∙ Records.save-load n configWidth d bytes ok;
     }

@@ -1,14 +1,15 @@
 -- Settings are valid where lines set them, and nowhere else; so a load is accepted only for settings that lines set.
-use Prim.Native.Nat.{ℕ}
+use Prim.Native.Nat.{ℕ, _+_, _≤_}
 use mathlib.Core.Path.{_≡_, refl, sym, _∙_}
 use mathlib.Core.Bool.{true}
 use mathlib.Core.List.{List, [], _∷_}
 use lib.Dec.{lit≤}
+use lib.ListN.{take}
 use Rattle.cells.specs.declared.cell.Cell.{Cell}
 use Rattle.card.specs.declared.card.Card.{Card}
 use Rattle.card.specs.declared.card.Connector.{Connector}
-use Rattle.card.specs.Address.{cellCount}
-use Rattle.card.specs.Fresh.{freshOf, fresh}
+use Rattle.card.specs.Address.{cellCount, firstCell, firstConnector}
+use Rattle.card.specs.Fresh.{freshOf}
 use Rattle.card.specs.Valid.{valid, validCard}
 use Rattle.card.proofs.Settings.{valid-cleared}
 use Rattle.saved.specs.Record.{configWidth, loadNumber, loaded}
@@ -21,34 +22,37 @@ use Rattle.lines.proofs.Reached.{fresh-reached-valid}
 use Rattle.lines.proofs.Wired.{settable}
 
 -- lines as calls leave what the lines leave
-end-fed : (c : Card) (texts : List (List ℕ)) → end cellCount c (lineCalls texts) ≡ fed cellCount shortestReply 0 c texts
+end-fed : (n : ℕ) (c : Card) (texts : List (List ℕ)) → end n c (lineCalls texts) ≡ fed n shortestReply 0 c texts
 unfolding end after fed
-end-fed c [] = refl
-end-fed c (text ∷ texts) = end-fed (lineOutcome cellCount c text shortestReply 0 .card) texts
+end-fed n c [] = refl
+end-fed n c (text ∷ texts) = end-fed n (lineOutcome n c text shortestReply 0 .card) texts
 
-module _ (trigger : ℕ) (cells : List Cell) (connectors : List Connector) where
-  pub set-by-lines : valid cellCount trigger cells connectors ≡ true → SetByLines trigger cells connectors
-  unfolding Settable SetByLines fresh
-  set-by-lines ok =
-      let texts = wiringLines trigger cells connectors in
-      let has = settable cellCount shortestReply 0 trigger cells connectors (lit≤ tt) (lit≤ tt) ok .1 in
-      let same = end-fed (freshOf cellCount) texts in
-      (texts, rw same has)
+-- of a card of n cells, which are no fewer than presets set, and whose places end before those of the connectors
+module _ (n : ℕ) (more : cellCount ≤ n) (apart : firstCell + n ≤ firstConnector) where
+  module _ (trigger : ℕ) (cells : List Cell) (connectors : List Connector) where
+    pub set-by-lines : valid n trigger cells connectors ≡ true → SetByLines n trigger cells connectors
+    unfolding Settable SetByLines
+    set-by-lines ok =
+        let texts = wiringLines trigger (take n cells) connectors in
+        let has = settable n shortestReply 0 trigger cells connectors apart (lit≤ tt) ok .1 in
+        let same = end-fed n (freshOf n) texts in
+        (texts, rw same has)
 
-  pub set-valid : SetByLines trigger cells connectors → valid cellCount trigger cells connectors ≡ true
-  unfolding SetByLines validCard
-  set-valid (texts, has) =
-      let reached = fresh-reached-valid (lineCalls texts) in
-      sym (valid-cleared cellCount trigger cells connectors) ∙ (rw (has .trigger, has .cells, has .connectors) at reached)
+    pub set-valid : SetByLines n trigger cells connectors → valid n trigger cells connectors ≡ true
+    unfolding SetByLines validCard
+    set-valid (texts, has) =
+        let c = end n (freshOf n) (lineCalls texts) in
+        let reached = fresh-reached-valid n more (lineCalls texts) in
+        sym (valid-cleared n trigger (c .cells) cells connectors (has .cells)) ∙ (rw (has .trigger, has .connectors) at reached)
 
-pub valid-is-settable : ValidIsSettable
-unfolding ValidIsSettable
-valid-is-settable trigger cells connectors = (set-by-lines trigger cells connectors, set-valid trigger cells connectors)
+  pub valid-is-settable : ValidIsSettable n
+  unfolding ValidIsSettable
+  valid-is-settable trigger cells connectors = (set-by-lines trigger cells connectors, set-valid trigger cells connectors)
 
--- the settings of an accepted record
-pub loaded-settable : (c : Card) (bytes : List ℕ) → loadNumber cellCount configWidth bytes ≡ 0
-    → let d = loaded cellCount configWidth c bytes in SetByLines (d .trigger) (d .cells) (d .connectors)
-unfolding validCard
-loaded-settable c bytes ok =
-    let d = loaded cellCount configWidth c bytes in
-    set-by-lines (d .trigger) (d .cells) (d .connectors) (loaded-valid cellCount configWidth c bytes ok)
+  -- the settings of an accepted record
+  pub loaded-settable : (c : Card) (bytes : List ℕ) → loadNumber n configWidth bytes ≡ 0
+      → let d = loaded n configWidth c bytes in SetByLines n (d .trigger) (d .cells) (d .connectors)
+  unfolding validCard
+  loaded-settable c bytes ok =
+      let d = loaded n configWidth c bytes in
+      set-by-lines (d .trigger) (d .cells) (d .connectors) (loaded-valid n configWidth c bytes ok)

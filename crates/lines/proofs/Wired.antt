@@ -5,8 +5,8 @@ use mathlib.Core.Bool.{Bool, true, false, cond, and-false}
 use mathlib.Core.List.{List, [], _∷_, _++_, map}
 use native.Mathlib.Omega.{arith}
 use lib.Dec.{eqb}
-use lib.ListN.{length, getD, set, replicate, length-map, length-set, length-replicate}
-use lib.Seq.{sets}
+use lib.ListN.{length, getD, set, take, replicate, length-map, length-set, length-replicate}
+use lib.Seq.{sets, take-all}
 use borrow.Author.Tests.{le-ltb, lt-ltb, eq-eqb}
 use Rattle.text.specs.Decimal.{maxDigits}
 use Rattle.text.proofs.Stores.{sets-all}
@@ -312,13 +312,13 @@ module _ (n store : ℕ) (apart : firstCell + n ≤ firstConnector) where
 
   -- ---- all of them
 
-  cells-reach : (cells : List Cell) (i : ℕ) (c : Card) → i + length cells ≤ n → length (c .cells) ≡ n → every (validCell n) cells ≡ true
+  cells-reach : (cells : List Cell) (i : ℕ) (c : Card) → i + length cells ≤ n → n ≤ length (c .cells) → every (validCell n) cells ≡ true
       → Reaches n store c (commandsFrom cellCommands i cells) (c .trigger) (sets (c .cells) i (map clearedCell cells)) (c .connectors)
   unfolding commandsFrom every
   cells-reach [] i c room count ok = record { card = c; runs = none; trigger = refl; cells = refl; connectors = refl }
   cells-reach (cell ∷ cells) i c room count ok =
       let first = cell-reaches c i (omega arith) (omega arith) cell (and-left (validCell n cell) _ ok) in
-      let long : length (first .card .cells) ≡ n = ap length (first .cells) ∙ length-set (c .cells) i (clearedCell cell) ∙ count in
+      let long : n ≤ length (first .card .cells) = omega (arith, count, ap length (first .cells) ∙ length-set (c .cells) i (clearedCell cell)) in
       let more = cells-reach cells (suc i) (first .card) (omega arith) long (and-right (validCell n cell) _ ok) in
       record {
         card = more .card;
@@ -348,17 +348,19 @@ module _ (n store : ℕ) (apart : firstCell + n ≤ firstConnector) where
 
   -- from a fresh card
   wiring-reaches : (trigger : ℕ) (cells : List Cell) (connectors : List Connector) → valid n trigger cells connectors ≡ true
-      → Reaches n store (freshOf n) (wiring trigger cells connectors) trigger (map clearedCell cells) connectors
+      → Reaches n store (freshOf n) (wiring trigger (take n cells) connectors) trigger (map clearedCell (take n cells)) connectors
   unfolding wiring changed changeFor refusal printableCommand setTrigger
   wiring-reaches trigger cells connectors ok =
       let s = split n trigger cells connectors ok in
       let count = s .cell-count in
       let others = s .connector-count in
       let start = length-replicate n freshCell in
-      let front = cells-reach cells 0 (freshOf n) (omega arith) start (s .cells-pass) in
+      let front = cells-reach (take n cells) 0 (freshOf n) (omega arith) (omega arith) (s .cells-pass) in
       let back = connectors-reach connectors 0 (front .card) (front .trigger) (omega arith) (ap length (front .connectors)) (s .connectors-pass) in
-      let set-cells : back .card .cells ≡ map clearedCell cells =
-      back .cells ∙ front .cells ∙ sets-all (replicate n freshCell) (map clearedCell cells) (length-map cells clearedCell ∙ count ∙ sym start) in
+      let set-cells : back .card .cells ≡ map clearedCell (take n cells) =
+      back .cells
+      ∙ front .cells
+      ∙ sets-all (replicate n freshCell) (map clearedCell (take n cells)) (length-map (take n cells) clearedCell ∙ count ∙ sym start) in
       let long : length connectors ≡ length (front .card .connectors) = others ∙ sym (ap length (front .connectors)) in
       let set-connectors : back .card .connectors ≡ connectors = back .connectors ∙ sets-all (front .card .connectors) connectors long in
       let sound : Sound n trigger cells (back .card .connectors) = subst (Sound n trigger cells) (sym set-connectors) s in
@@ -374,18 +376,19 @@ module _ (n store : ℕ) (apart : firstCell + n ≤ firstConnector) where
 
 -- so every command of a wiring is printable, and its line reads back
 pub wiring-printable : (n trigger : ℕ) (cells : List Cell) (connectors : List Connector) → firstCell + n ≤ firstConnector
-    → valid n trigger cells connectors ≡ true → every printableCommand (wiring trigger cells connectors) ≡ true
+    → valid n trigger cells connectors ≡ true → every printableCommand (wiring trigger (take n cells) connectors) ≡ true
 wiring-printable n trigger cells connectors apart ok = runs-printable (wiring-reaches n 0 apart trigger cells connectors ok .runs)
 
 pub settable : Settable
 unfolding Settable
 settable n reply store trigger cells connectors apart room ok =
     let r = wiring-reaches n store apart trigger cells connectors ok in
-    let end = fed-runs n reply store room (r .runs) in (
+    let end = fed-runs n reply store room (r .runs) in
+    let long = length-map (take n cells) clearedCell ∙ split n trigger cells connectors ok .cell-count in (
       accepted-runs n reply store room (r .runs),
       record {
         trigger = ap (λ (c : Card). c .trigger) end ∙ r .trigger;
-        cells = ap (λ (c : Card). c .cells) end ∙ r .cells;
+        cells = ap (λ (c : Card). take n (c .cells)) end ∙ ap (take n) (r .cells) ∙ take-all n (map clearedCell (take n cells)) (omega arith);
         connectors = ap (λ (c : Card). c .connectors) end ∙ r .connectors;
       },
     )

@@ -30,7 +30,7 @@ module _ (n : ℕ) where
   -- "the bytes that `36SS Z` wrote"
   unfoldable pub savedBytes : Card → (text : List ℕ) → (reply store : ℕ) → List ℕ
   savedBytes c text reply store =
-      cond (eqb (lineOutcome n c text reply store .k) 0 && lineOutcome n c text reply store .response .saves) (recordOf configWidth c) []
+      cond (eqb (lineOutcome n c text reply store .k) 0 && lineOutcome n c text reply store .response .saves) (recordOf n configWidth c) []
 
   -- the card after a call, and the call's answer
   unfoldable pub after : Card → Call → Card

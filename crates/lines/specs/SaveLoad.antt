@@ -1,48 +1,47 @@
--- Demand 2 of records: save and load are inverse, said of lines and lists of calls.
+-- Demand 2 of records: save and load are inverse, said of lines and lists of calls, on a card of n cells.
 use Prim.Native.Nat.{ℕ, _≤_}
 use mathlib.Core.Path.{_≡_}
 use mathlib.Core.Bool.{true}
 use mathlib.Core.List.{List, _++_, map}
-use lib.ListN.{length, drop}
+use lib.ListN.{length, take, drop}
 use Rattle.text.specs.Written.{bytesOf}
 use Rattle.card.specs.declared.card.Card.{Card}
-use Rattle.card.specs.Address.{cellCount}
 use Rattle.card.specs.Edits.{clearedCell}
-use Rattle.card.specs.Fresh.{fresh}
+use Rattle.card.specs.Fresh.{freshOf}
 use Rattle.saved.specs.Record.{configWidth, recordLength, loadNumber, loaded}
 use Rattle.lines.specs.Line.{shortestReply, lineOutcome, storeAfter}
 use Rattle.lines.specs.Calls.{Call, savedBytes, end}
 
--- the length of the card's record
-abbrev pub wholeRecord : ℕ
-wholeRecord = recordLength cellCount configWidth
+-- the length of the record of a card of n cells
+abbrev pub wholeRecord : ℕ → ℕ
+wholeRecord n = recordLength n configWidth
 
 -- a line is accepted, and what it gives is the record
-pub record Saves (c : Card) (text : List ℕ) (reply store : ℕ) : Type 0 where
-  pub accepted : lineOutcome cellCount c text reply store .k ≡ 0
-  pub saves : lineOutcome cellCount c text reply store .response .saves ≡ true
+pub record Saves (n : ℕ) (c : Card) (text : List ℕ) (reply store : ℕ) : Type 0 where
+  pub accepted : lineOutcome n c text reply store .k ≡ 0
+  pub saves : lineOutcome n c text reply store .response .saves ≡ true
 
 -- d has the settings of c, and "Pointer and states aren't saved": its states are clear
-pub record Restored (c d : Card) : Type 0 where
+pub record Restored (n : ℕ) (c d : Card) : Type 0 where
   pub trigger : d .trigger ≡ c .trigger
-  pub cells : d .cells ≡ map clearedCell (c .cells)
+  pub cells : take n (d .cells) ≡ map clearedCell (take n (c .cells))
   pub connectors : d .connectors ≡ c .connectors
 
 -- what a save of c wrote: as many bytes as a record has, at the front of the store, which is as it was beyond; a load takes them, on any card, and
 -- gives the settings back
-pub record Written (c : Card) (bytes store stored : List ℕ) : Type 0 where
-  pub sized : length bytes ≡ wholeRecord
-  pub front : stored ≡ bytes ++ drop wholeRecord store
-  pub loads : loadNumber cellCount configWidth bytes ≡ 0
-  pub restored : (d : Card) → Restored c (loaded cellCount configWidth d bytes)
+pub record Written (n : ℕ) (c : Card) (bytes store stored : List ℕ) : Type 0 where
+  pub sized : length bytes ≡ wholeRecord n
+  pub front : stored ≡ bytes ++ drop (wholeRecord n) store
+  pub loads : loadNumber n configWidth bytes ≡ 0
+  pub restored : (d : Card) → Restored n c (loaded n configWidth d bytes)
 
-pub record SaveLoad : Type 0 where
+pub record SaveLoad (n : ℕ) : Type 0 where
   -- with room for the reply and the record, `36SS Z` saves any card
-  pub saves : (c : Card) (reply store : ℕ) → shortestReply ≤ reply → wholeRecord ≤ store → Saves c (bytesOf "36SS Z") reply store
+  pub saves : (c : Card) (reply store : ℕ) → shortestReply ≤ reply → wholeRecord n ≤ store → Saves n c (bytesOf "36SS Z") reply store
   -- a save behind any list of calls, and a load of what it wrote
-  pub save-load : (calls : List Call) (text reply store : List ℕ) → let c = end cellCount fresh calls in
-      Saves c text (length reply) (length store)
-      → Written c (savedBytes cellCount c text (length reply) (length store)) store (storeAfter cellCount c text (length reply) store)
+  pub save-load : (calls : List Call) (text reply store : List ℕ) → let c = end n (freshOf n) calls in
+      Saves n c text (length reply) (length store)
+      → Written n c (savedBytes n c text (length reply) (length store)) store (storeAfter n c text (length reply) store)
   -- an accepted load, and a save of what it gave: the same bytes
-  pub load-save : (d : Card) (bytes text : List ℕ) (reply store : ℕ) → let c = loaded cellCount configWidth d bytes in
-      loadNumber cellCount configWidth bytes ≡ 0 → Saves c text reply store → savedBytes cellCount c text reply store ≡ bytes
+  pub load-save : (d : Card) (bytes text : List ℕ) (reply store : ℕ) → let c = loaded n configWidth d bytes in
+      loadNumber n configWidth bytes ≡ 0 → Saves n c text reply store → savedBytes n c text reply store ≡ bytes

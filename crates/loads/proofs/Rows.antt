@@ -68,7 +68,7 @@ unfolding answerTo
 answer-refused bytes k e ne = rw (← e, ne-eqb k 0 ne)
 
 pub answer-accepted : (bytes : List ℕ) (c : Card) → loadNumber cellCount configWidth bytes ≡ 0 → c ≡ loaded cellCount configWidth fresh bytes
-    → acceptedText (recordOf configWidth c) ≡ answerTo bytes
+    → acceptedText (recordOf cellCount configWidth c) ≡ answerTo bytes
 unfolding answerTo
 answer-accepted bytes c e ec = rw (e, ec)
 

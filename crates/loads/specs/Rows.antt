@@ -56,7 +56,7 @@ refusedText k = decimal k ++ (32 ∷ 45 ∷ 10 ∷ [])
 unfoldable pub answerTo : List ℕ → List ℕ
 answerTo bytes =
     let k = loadNumber cellCount configWidth bytes in
-    cond (eqb k 0) (acceptedText (recordOf configWidth (loaded cellCount configWidth fresh bytes))) (refusedText k)
+    cond (eqb k 0) (acceptedText (recordOf cellCount configWidth (loaded cellCount configWidth fresh bytes))) (refusedText k)
 
 -- what a row prints: `?` where it is none
 unfoldable pub printed : List ℕ → List ℕ

@@ -114,8 +114,8 @@ fn put_refused(out: &mut [u8], k: u8) -> usize
 fn put_accepted(out: &mut [u8], card: Card) -> usize
     requires { ⌜ longestPrint ≤ length (now out) ⌝ }
     requires { ⌜ validCard cellCount card ≡ true ⌝ }
-    ensures { λ _. ⌜ now (out .exit) ≡ sets (now (out .entry)) 0 (acceptedText (recordOf configWidth card)) ⌝ }
-    ensures { λ r. ⌜ r ≡ length (acceptedText (recordOf configWidth card)) ⌝ }
+    ensures { λ _. ⌜ now (out .exit) ≡ sets (now (out .entry)) 0 (acceptedText (recordOf cellCount configWidth card)) ⌝ }
+    ensures { λ r. ⌜ r ≡ length (acceptedText (recordOf cellCount configWidth card)) ⌝ }
     ensures { λ r. ⌜ r ≤ longestPrint ⌝ }
 {
     let mut store = [0u8; 276];

@@ -8,7 +8,7 @@ use native.Mathlib.Nat.{zero-add, le-of-lt, lt-of-le-of-lt, mul-le-mul-right}
 use native.Mathlib.Omega.{arith}
 use lib.Dec.{eqb, lit<}
 use lib.ListN.{length, getD, take, drop, length-append, length-map, drop-of-length-le, List·getD-append, List·getD-map}
-use lib.Seq.{take-at, drop-at, drop-drop, drop-append-le, getD-drop, getD-append-add, ext-getD, sets-eq}
+use lib.Seq.{take-at, take-all, drop-at, drop-drop, drop-append-le, getD-drop, getD-append-add, ext-getD, sets-eq}
 use borrow.Author.Tests.{le-ltb}
 use Rattle.words.proofs.Listed.{length-listed, listed-at}
 use Rattle.cells.specs.declared.cell.Cell.{Cell}
@@ -20,7 +20,7 @@ use Rattle.card.specs.Connectors.{noConnector}
 use Rattle.card.specs.Fresh.{clearState, noCell}
 use Rattle.card.specs.Valid.{validCell, valid, validCard}
 use Rattle.card.specs.Edits.{clearedCell}
-use Rattle.card.proofs.Settings.{every-at, Sound, split, cell-slots, cell-config, valid-cleared}
+use Rattle.card.proofs.Settings.{every-at, Sound, split, cell-slots, cell-config, valid-cleared, valid-first}
 use Rattle.card.proofs.Slots.{four}
 use Rattle.saved.specs.Record.{bigEndian, bigValue, triggerField, cellField, connectorField, fieldsFrom, encode, configWidth, triggerLength, cellLength}
 use Rattle.saved.specs.Record.{connectorLength, recordLength, triggerIn, cellIn, connectorIn, cellsIn, connectorsIn, recordOf, sameBytes, loadNumber}
@@ -182,17 +182,20 @@ module _ (n trigger : ℕ) (cells : List Cell) (connectors : List Connector) (ok
   parts : Sound n trigger cells connectors
   parts = split n trigger cells connectors ok
 
-  pub cell-count : length cells ≡ n
+  pub cell-count : length (take n cells) ≡ n
   cell-count = parts .cell-count
 
   pub connector-count : length connectors ≡ connectorCount
   connector-count = parts .connector-count
 
-  pub four-slots : FourSlots cells
-  four-slots i h = cell-slots n (getD cells i noCell) (every-at (validCell n) cells i noCell (parts .cells-pass) h)
+  first-valid : (i : ℕ) → i < length (take n cells) → validCell n (getD (take n cells) i noCell) ≡ true
+  first-valid i h = every-at (validCell n) (take n cells) i noCell (parts .cells-pass) h
 
-  configs-fit : (width : ℕ) → largestConfig < 256 ^ width → (i : ℕ) → i < length cells → getD cells i noCell .config < 256 ^ width
-  configs-fit width wide i h = lt-of-le-of-lt (cell-config n (getD cells i noCell) (every-at (validCell n) cells i noCell (parts .cells-pass) h)) wide
+  pub four-slots : FourSlots (take n cells)
+  four-slots i h = cell-slots n (getD (take n cells) i noCell) (first-valid i h)
+
+  configs-fit : (width : ℕ) → largestConfig < 256 ^ width → (i : ℕ) → i < length (take n cells) → getD (take n cells) i noCell .config < 256 ^ width
+  configs-fit width wide i h = lt-of-le-of-lt (cell-config n (getD (take n cells) i noCell) (first-valid i h)) wide
 
 -- a record says nothing of states
 encode-cleared : (width trigger : ℕ) (cells : List Cell) (connectors : List Connector)
@@ -203,16 +206,27 @@ encode-cleared width trigger cells connectors =
 
 -- ---- loads
 
--- a load by the settings that stand in its bytes
-module _ (n width : ℕ) (bytes : List ℕ) (trigger : ℕ) (cells : List Cell) (connectors : List Connector) (et : triggerIn bytes ≡ trigger)
-    (ec : cellsIn n width bytes ≡ cells) (ek : connectorsIn n width bytes ≡ connectors) where
-  pub number-from : loadNumber n width bytes ≡ cond (sameBytes (encode width trigger cells connectors) bytes) (cond (valid n trigger cells connectors) 0 15) 14
-  unfolding loadNumber
-  number-from = rw (et, ec, ek)
+-- the cells that stand in some bytes, with others behind them
+cells-taken : (n width : ℕ) (bytes : List ℕ) (rest : List Cell) → take n (cellsIn n width bytes ++ rest) ≡ cellsIn n width bytes
+cells-taken n width bytes rest = take-at (cellsIn n width bytes) rest n (length-listed (cellIn width bytes) n)
 
-  pub loaded-from : (d : Card) → loadNumber n width bytes ≡ 0 → loaded n width d bytes ≡ poweredUp n trigger cells connectors
+cells-all : (n width : ℕ) (bytes : List ℕ) → take n (cellsIn n width bytes) ≡ cellsIn n width bytes
+cells-all n width bytes = take-all n (cellsIn n width bytes) (omega (arith, length-listed (cellIn width bytes) n))
+
+-- a load by the settings that stand in its bytes
+module _ (n width : ℕ) (bytes : List ℕ) (trigger : ℕ) (connectors : List Connector) (et : triggerIn bytes ≡ trigger)
+    (ek : connectorsIn n width bytes ≡ connectors) where
+  pub number-from : (cells rest : List Cell) → cells ≡ cellsIn n width bytes ++ rest
+      → loadNumber n width bytes
+      ≡ cond (sameBytes (encode width trigger (take n cells) connectors) bytes) (cond (valid n trigger cells connectors) 0 15) 14
+  unfolding loadNumber valid
+  number-from cells rest ec =
+      rw (et, ek, ec, cells-taken n width bytes rest, cells-all n width bytes)
+
+  pub loaded-from : (d : Card) (cells : List Cell) → cells ≡ cellsIn n width bytes ++ drop n (d .cells) → loadNumber n width bytes ≡ 0
+      → loaded n width d bytes ≡ poweredUp n trigger cells connectors
   unfolding loaded
-  loaded-from d e = rw (e, et, ec, ek)
+  loaded-from d cells ec e = rw (e, et, ec, ek)
 
 -- a refused load changes nothing
 pub load-refused : (n width : ℕ) (d : Card) (bytes : List ℕ) → eqb (loadNumber n width bytes) 0 ≡ false → loaded n width d bytes ≡ d
@@ -249,29 +263,38 @@ module _ (n width : ℕ) (d : Card) (bytes : List ℕ) (ok : loadNumber n width 
   unfolding loadNumber
   tests = accepted _ _ ok
 
-  taken : loaded n width d bytes ≡ poweredUp n (triggerIn bytes) (cellsIn n width bytes) (connectorsIn n width bytes)
-  taken = loaded-from n width bytes (triggerIn bytes) (cellsIn n width bytes) (connectorsIn n width bytes) refl refl refl d ok
+  cells : List Cell
+  cells = cellsIn n width bytes ++ drop n (d .cells)
+
+  powered : loaded n width d bytes ≡ poweredUp n (triggerIn bytes) cells (connectorsIn n width bytes)
+  unfolding cells
+  powered = loaded-from n width bytes (triggerIn bytes) (connectorsIn n width bytes) refl refl d cells refl ok
 
   -- a card that was loaded saves as the bytes that it was loaded from
-  pub save-load : recordOf width (loaded n width d bytes) ≡ bytes
-  unfolding recordOf
-  save-load = ap (recordOf width) taken ∙ same-sound _ bytes (tests .0)
+  pub save-load : recordOf n width (loaded n width d bytes) ≡ bytes
+  unfolding recordOf cells
+  save-load =
+      ap (recordOf n width) powered
+      ∙ ap (λ (l : List Cell). encode width (triggerIn bytes) l (connectorsIn n width bytes)) (cells-taken n width bytes (drop n (d .cells)))
+      ∙ same-sound _ bytes (tests .0)
 
   -- and its settings are valid
   pub loaded-valid : validCard n (loaded n width d bytes) ≡ true
-  unfolding validCard
-  loaded-valid = ap (validCard n) taken ∙ tests .1
+  unfolding validCard cells
+  loaded-valid =
+      let first = cells-taken n width bytes (drop n (d .cells)) ∙ sym (cells-all n width bytes) in
+      ap (validCard n) powered ∙ valid-first n (triggerIn bytes) cells (cellsIn n width bytes) (connectorsIn n width bytes) first ∙ tests .1
 
 -- ---- saves
 
 -- the length of a record, of a card with cells of four slots and of a valid one
-pub record-length : (n width : ℕ) (c : Card) → length (c .cells) ≡ n → FourSlots (c .cells) → length (c .connectors) ≡ connectorCount
-    → length (recordOf width c) ≡ recordLength n width
+pub record-length : (n width : ℕ) (c : Card) → length (take n (c .cells)) ≡ n → FourSlots (take n (c .cells)) → length (c .connectors) ≡ connectorCount
+    → length (recordOf n width c) ≡ recordLength n width
 unfolding recordOf
 record-length n width c count slots others =
-    rw (count, others) at (encode-length width (c .trigger) (c .cells) (c .connectors) slots)
+    rw (count, others) at (encode-length width (c .trigger) (take n (c .cells)) (c .connectors) slots)
 
-pub valid-length : (n width : ℕ) (c : Card) → validCard n c ≡ true → length (recordOf width c) ≡ recordLength n width
+pub valid-length : (n width : ℕ) (c : Card) → validCard n c ≡ true → length (recordOf n width c) ≡ recordLength n width
 unfolding validCard
 valid-length n width c ok =
     record-length n width c (cell-count n (c .trigger) (c .cells) (c .connectors) ok) (four-slots n (c .trigger) (c .cells) (c .connectors) ok)
@@ -279,20 +302,21 @@ valid-length n width c ok =
 
 -- a store that has room holds the record at its front after a save, and beyond it what it held
 pub saved-front : (n width : ℕ) (c : Card) (store : List ℕ) → validCard n c ≡ true → recordLength n width ≤ length store
-    → savedTo n width c store ≡ recordOf width c ++ drop (recordLength n width) store
+    → savedTo n width c store ≡ recordOf n width c ++ drop (recordLength n width) store
 unfolding savedTo
 saved-front n width c store ok room =
     let sized = valid-length n width c ok in
     rw (le-ltb (length store) (recordLength n width) room)
-    (sets-eq (recordOf width c) store 0 (omega arith) ∙ ap (λ (k : ℕ). recordOf width c ++ drop k store) (zero-add (length (recordOf width c)) ∙ sized))
+    (sets-eq (recordOf n width c) store 0 (omega arith)
+    ∙ ap (λ (k : ℕ). recordOf n width c ++ drop k store) (zero-add (length (recordOf n width c)) ∙ sized))
 
 -- a store of just that length holds the record and no more
 pub saved-whole : (n width : ℕ) (c : Card) (store : List ℕ) → validCard n c ≡ true → length store ≡ recordLength n width
-    → savedTo n width c store ≡ recordOf width c
+    → savedTo n width c store ≡ recordOf n width c
 saved-whole n width c store ok e =
     saved-front n width c store ok (omega arith)
-    ∙ ap (λ (l : List ℕ). recordOf width c ++ l) (drop-of-length-le store {i = recordLength n width} (omega arith))
-    ∙ append-nil (recordOf width c)
+    ∙ ap (λ (l : List ℕ). recordOf n width c ++ l) (drop-of-length-le store {i = recordLength n width} (omega arith))
+    ∙ append-nil (recordOf n width c)
 
 -- the record of a valid card is accepted, and gives its settings
 module _ (n width : ℕ) (wide : largestConfig < 256 ^ width) (c : Card) (ok : validCard n c ≡ true) where
@@ -300,47 +324,59 @@ module _ (n width : ℕ) (wide : largestConfig < 256 ^ width) (c : Card) (ok : v
   unfolding validCard
   settings = ok
 
-  count : length (c .cells) ≡ n
+  count : length (take n (c .cells)) ≡ n
   count = cell-count n (c .trigger) (c .cells) (c .connectors) settings
 
-  slots : FourSlots (c .cells)
+  slots : FourSlots (take n (c .cells))
   slots = four-slots n (c .trigger) (c .cells) (c .connectors) settings
 
-  fit : (i : ℕ) → i < length (c .cells) → getD (c .cells) i noCell .config < 256 ^ width
+  fit : (i : ℕ) → i < length (take n (c .cells)) → getD (take n (c .cells)) i noCell .config < 256 ^ width
   fit = configs-fit n (c .trigger) (c .cells) (c .connectors) settings width wide
 
-  cells-back : cellsIn n width (recordOf width c) ≡ map clearedCell (c .cells)
+  cells-back : cellsIn n width (recordOf n width c) ≡ map clearedCell (take n (c .cells))
   unfolding recordOf
-  cells-back = rw count at (cells-read width (c .trigger) (c .cells) (c .connectors) slots fit)
+  cells-back = rw count at (cells-read width (c .trigger) (take n (c .cells)) (c .connectors) slots fit)
 
-  connectors-back : connectorsIn n width (recordOf width c) ≡ c .connectors
+  connectors-back : connectorsIn n width (recordOf n width c) ≡ c .connectors
   unfolding recordOf
   connectors-back =
-      rw count at (connectors-read width (c .trigger) (c .cells) (c .connectors) slots fit (connector-count n (c .trigger) (c .cells) (c .connectors) settings))
+      let others = connector-count n (c .trigger) (c .cells) (c .connectors) settings in
+      rw count at (connectors-read width (c .trigger) (take n (c .cells)) (c .connectors) slots fit others)
 
-  trigger-back : triggerIn (recordOf width c) ≡ c .trigger
+  trigger-back : triggerIn (recordOf n width c) ≡ c .trigger
   unfolding recordOf encode
   trigger-back = refl
 
-  pub load-accepts : loadNumber n width (recordOf width c) ≡ 0
+  -- the cells that a load gives have the settings of c
+  pub cleared-taken : (rest : List Cell) → take n (map clearedCell (take n (c .cells)) ++ rest) ≡ map clearedCell (take n (c .cells))
+  cleared-taken rest = take-at (map clearedCell (take n (c .cells))) rest n (length-map (take n (c .cells)) clearedCell ∙ count)
+
+  pub load-accepts : loadNumber n width (recordOf n width c) ≡ 0
   unfolding recordOf
   load-accepts =
-      number-from n width (recordOf width c) (c .trigger) (map clearedCell (c .cells)) (c .connectors) trigger-back cells-back connectors-back
+      let cells = map clearedCell (take n (c .cells)) ++ [] in
+      let read = ap (λ (l : List Cell). l ++ []) (sym cells-back) in
+      number-from n width (recordOf n width c) (c .trigger) (c .connectors) trigger-back connectors-back cells [] read
       ∙ rw (
-        encode-cleared width (c .trigger) (c .cells) (c .connectors),
-        same-refl (recordOf width c),
-        valid-cleared n (c .trigger) (c .cells) (c .connectors),
+        cleared-taken [],
+        encode-cleared width (c .trigger) (take n (c .cells)) (c .connectors),
+        same-refl (recordOf n width c),
+        valid-cleared n (c .trigger) cells (c .cells) (c .connectors) (cleared-taken []),
         settings,
       )
 
-  pub load-save : (d : Card) → loaded n width d (recordOf width c) ≡ poweredUp n (c .trigger) (map clearedCell (c .cells)) (c .connectors)
+  pub load-save : (d : Card) → loaded n width d (recordOf n width c)
+      ≡ poweredUp n (c .trigger) (map clearedCell (take n (c .cells)) ++ drop n (d .cells)) (c .connectors)
   load-save d =
-      loaded-from n width (recordOf width c) (c .trigger) (map clearedCell (c .cells)) (c .connectors) trigger-back cells-back connectors-back d load-accepts
+      loaded-from n width (recordOf n width c) (c .trigger) (c .connectors) trigger-back connectors-back d _
+      (ap (λ (l : List Cell). l ++ drop n (d .cells)) (sym cells-back)) load-accepts
 
 -- valid cards with one record have the same settings
 pub one-record : (n width : ℕ) → largestConfig < 256 ^ width → (c d : Card) → validCard n c ≡ true → validCard n d ≡ true
-    → recordOf width c ≡ recordOf width d
-    → (c .trigger ≡ d .trigger) × (map clearedCell (c .cells) ≡ map clearedCell (d .cells)) × (c .connectors ≡ d .connectors)
+    → recordOf n width c ≡ recordOf n width d
+    → (c .trigger ≡ d .trigger) × (map clearedCell (take n (c .cells)) ≡ map clearedCell (take n (d .cells))) × (c .connectors ≡ d .connectors)
 one-record n width wide c d okc okd e =
     let same = sym (load-save n width wide c okc c) ∙ ap (loaded n width c) e ∙ load-save n width wide d okd c in
-    (ap (λ (x : Card). x .trigger) same, ap (λ (x : Card). x .cells) same, ap (λ (x : Card). x .connectors) same)
+    let rest = drop n (c .cells) in
+    let cells = sym (cleared-taken n width wide c okc rest) ∙ ap (λ (x : Card). take n (x .cells)) same ∙ cleared-taken n width wide d okd rest in
+    (ap (λ (x : Card). x .trigger) same, cells, ap (λ (x : Card). x .connectors) same)

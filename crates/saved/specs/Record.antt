@@ -1,4 +1,4 @@
--- Document 01, "Saved record": the settings as bytes, and a load. Stated over the list of cells and the width of the configuration.
+-- Document 01, "Saved record": the settings as bytes, and a load. Stated over the number n of cells and the width of the configuration.
 use Prim.Native.Nat.{ℕ, zero, suc, _+_, _-_, _*_, _/_, _%_, _^_}
 use mathlib.Core.Bool.{Bool, true, false, _&&_, cond}
 use mathlib.Core.List.{List, [], _∷_, _++_}
@@ -98,9 +98,9 @@ connectorsIn n width bytes = listed (connectorIn n width bytes) connectorCount
 
 -- ---- save and load
 
--- the record of a card
-unfoldable pub recordOf : ℕ → Card → List ℕ
-recordOf width c = encode width (c .trigger) (c .cells) (c .connectors)
+-- the record of a card of n cells
+unfoldable pub recordOf : ℕ → ℕ → Card → List ℕ
+recordOf n width c = encode width (c .trigger) (take n (c .cells)) (c .connectors)
 
 unfoldable pub sameBytes : List ℕ → List ℕ → Bool
 sameBytes [] [] = true
@@ -119,11 +119,12 @@ loadNumber n width bytes =
 abbrev pub poweredUp : ℕ → ℕ → List Cell → List Connector → Card
 poweredUp n trigger cells connectors = started trigger cells connectors (2 ^ n - 1)
 
--- the card after a load: a refused one changes nothing
+-- the card after a load: what stands behind its n cells stays, and a refused load changes nothing
 unfoldable pub loaded : ℕ → ℕ → Card → List ℕ → Card
 loaded n width c bytes =
-    cond (eqb (loadNumber n width bytes) 0) (poweredUp n (triggerIn bytes) (cellsIn n width bytes) (connectorsIn n width bytes)) c
+    cond (eqb (loadNumber n width bytes) 0)
+    (poweredUp n (triggerIn bytes) (cellsIn n width bytes ++ drop n (c .cells)) (connectorsIn n width bytes)) c
 
 -- the store after a save: the record at its front and beyond it as it was; a store too short is untouched
 unfoldable pub savedTo : ℕ → ℕ → Card → List ℕ → List ℕ
-savedTo n width c store = cond (ltb (length store) (recordLength n width)) store (sets store 0 (recordOf width c))
+savedTo n width c store = cond (ltb (length store) (recordLength n width)) store (sets store 0 (recordOf n width c))

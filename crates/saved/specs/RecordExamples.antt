@@ -99,7 +99,7 @@ abbrev table : List (List ℕ × List ℕ)
 table =
     -- it loads, and saved again it is the same
     (load whole, 0 ∷ [])
-    ∷ (recordOf configWidth (loaded cellCount configWidth fresh whole), whole)
+    ∷ (recordOf cellCount configWidth (loaded cellCount configWidth fresh whole), whole)
     -- the values in it
     ∷ (triggerIn whole ∷ [], 3 ∷ [])
     ∷ (cellRead 0, 0 ∷ 258 ∷ 0 ∷ 0 ∷ 0 ∷ 0 ∷ [])

@@ -1,9 +1,10 @@
 // The saved record: the settings as bytes, and what a load makes of some bytes.
 ghost use mathlib.Core.Bool.{not};
+ghost use mathlib.Core.List.{_++_};
 ghost use mathlib.Core.Path.{_≡_};
 ghost use Prim.Native.Nat.{_+_, _*_, _<_};
 ghost use lib.Dec.{ltb};
-ghost use lib.ListN.{length};
+ghost use lib.ListN.{length, take, drop};
 ghost use lib.Seq.{sets};
 ghost use Rattle.card.specs.Address.{cellCount, connectorCount};
 ghost use Rattle.saved.specs.Record.{configWidth, cellLength, connectorLength, triggerLength, recordLength};
@@ -54,8 +55,8 @@ fn connector_bytes(k: u8, c: Connector) -> [u8; 6]
 
 // The fields of all cells, after that of the trigger.
 fn with_cells(out: [u8; RECORD_LENGTH], cells: [Cell; CELLS]) -> [u8; RECORD_LENGTH]
-    ensures { λ r. ⌜ r ≡ sets out triggerLength (fieldsFrom (cellField configWidth) 0 cells) ⌝ }
-    ensures { λ r. ⌜ length (fieldsFrom (cellField configWidth) 0 cells) ≡ cellCount * cellLength configWidth ⌝ }
+    ensures { λ r. ⌜ r ≡ sets out triggerLength (fieldsFrom (cellField configWidth) 0 (take cellCount cells)) ⌝ }
+    ensures { λ r. ⌜ length (fieldsFrom (cellField configWidth) 0 (take cellCount cells)) ≡ cellCount * cellLength configWidth ⌝ }
 {
     let mut next = out;
     for i in 0..16u8 {
@@ -89,7 +90,7 @@ fn encoded(
     cells: [Cell; CELLS],
     connectors: [Connector; CONNECTORS],
 ) -> [u8; RECORD_LENGTH]
-    ensures { λ r. ⌜ r ≡ encode configWidth trigger cells connectors ⌝ }
+    ensures { λ r. ⌜ r ≡ encode configWidth trigger (take cellCount cells) connectors ⌝ }
 {
     let first = [1, 0, 1, trigger];
     let mut out = [0u8; RECORD_LENGTH];
@@ -140,18 +141,17 @@ fn connector_in(bytes: &[u8], k: usize) -> Connector
     }
 }
 
-// All cells of a record.
-fn cells_in(bytes: &[u8]) -> [Cell; CELLS]
+// The cells of a record in the place of others.
+fn cells_in(bytes: &[u8], cells: [Cell; CELLS]) -> [Cell; CELLS]
     requires { ⌜ length (now bytes) ≡ recordLength cellCount configWidth ⌝ }
-    ensures { λ r. ⌜ r ≡ cellsIn cellCount configWidth (now (bytes .entry)) ⌝ }
+    ensures { λ r. ⌜ r ≡ cellsIn cellCount configWidth (now (bytes .entry)) ++ drop cellCount cells ⌝ }
 {
-    let first = cell_in(bytes, 0);
-    let mut cells = [first; CELLS];
-    for i in 1..CELLS {
+    let mut next = cells;
+    for i in 0..CELLS {
         let cell = cell_in(bytes, i);
-        cells[i] = cell;
+        next[i] = cell;
     }
-    cells
+    next
 }
 
 // All connectors of a record.
@@ -195,7 +195,8 @@ pub fn load(card: Card, bytes: &[u8]) -> Loaded
         return Loaded { card: card, k: 14 };
     }
     let trigger = bytes[3];
-    let cells = cells_in(bytes);
+    let old = card.cells;
+    let cells = cells_in(bytes, old);
     let connectors = connectors_in(bytes);
     let again = encoded(trigger, cells, connectors);
     if !same(&again, bytes) {

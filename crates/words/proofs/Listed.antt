@@ -6,8 +6,8 @@ use mathlib.Core.Logic.{_⊎_, inl, inr}
 use native.Mathlib.Nat.{le-refl, le-of-suc-le-suc, eq-or-lt-of-le, not-suc-le-zero, lt-suc-self}
 use native.Mathlib.Numerals.{add-one}
 use native.Mathlib.Omega.{arith}
-use lib.ListN.{length, getD, set, drop, length-append, List·getD-append, List·getD-map, drop-of-length-le, length-map}
-use lib.Seq.{drop-cons, set-at, getD-at, append-snoc, ext-getD}
+use lib.ListN.{length, getD, set, take, drop, length-append, length-drop, List·getD-append, List·getD-map, drop-of-length-le, length-map}
+use lib.Seq.{drop-cons, set-at, getD-at, append-snoc, ext-getD, take-at, take-all, length-take-le, getD-take}
 use Rattle.words.specs.Listed.{listed}
 
 module _ {A : Type 0} where
@@ -39,12 +39,34 @@ module _ {A : Type 0} where
       rw (er, ev, drop-cons l i d h, add-one)
       (set-at (listed f i) (getD l i d) (drop (suc i) l) (f i) i (length-listed f i) ∙ sym (append-snoc (listed f i) (f i) (drop (suc i) l)))
 
+  -- the first n entries were replaced: each of them, all of them, and the length
+  pub front-at : (f : ℕ → A) (n : ℕ) (l : List A) (i : ℕ) (d : A) → i < n → getD (listed f n ++ drop n l) i d ≡ f i
+  front-at f n l i d h = List·getD-append (listed f n) (drop n l) d i (rw (length-listed f n) h) ∙ listed-at f n i d h
+
+  pub front-taken : (f : ℕ → A) (n : ℕ) (l : List A) → take n (listed f n ++ drop n l) ≡ listed f n
+  front-taken f n l = take-at (listed f n) (drop n l) n (length-listed f n)
+
+  pub front-length : (f : ℕ → A) (n : ℕ) (l : List A) → n ≤ length l → length (listed f n ++ drop n l) ≡ length l
+  front-length f n l h = omega (arith, length-append (listed f n) (drop n l), length-listed f n, length-drop n l)
+
+  -- a list given by its entries
+  listed-as : (f : ℕ → A) (n : ℕ) (l : List A) (d : A) → length l ≡ n → ((i : ℕ) → i < n → f i ≡ getD l i d) → listed f n ≡ l
+  listed-as f n l d e same =
+      let long = length-listed f n in
+      ext-getD d (listed f n) l (long ∙ sym e) (λ i h. let k : i < n = omega (arith, long) in listed-at f n i d k ∙ same i k)
+
+  pub listed-take : (l : List A) (d : A) (n : ℕ) → n ≤ length l → listed (λ i. getD l i d) n ≡ take n l
+  listed-take l d n h = listed-as (λ i. getD l i d) n (take n l) d (length-take-le n l h) (λ i k. sym (getD-take n l i d k))
+
   -- all of them were
   pub listed-done : (f : ℕ → A) (n : ℕ) (l r : List A) → r ≡ listed f n ++ drop n l → length l ≤ n → r ≡ listed f n
   listed-done f n l r e h = e ∙ ap (λ (t : List A). listed f n ++ t) (drop-of-length-le l h) ∙ append-nil (listed f n)
 
--- a list mapped, entry by entry
+-- the first n entries mapped, entry by entry, and all of them
+pub listed-mapped : {A B : Type 0} (g : A → B) (l : List A) (d : A) (n : ℕ) → n ≤ length l → listed (λ i. g (getD l i d)) n ≡ map g (take n l)
+listed-mapped g l d n h =
+    listed-as (λ i. g (getD l i d)) n (map g (take n l)) (g d) (length-map (take n l) g ∙ length-take-le n l h)
+    (λ i k. ap g (sym (getD-take n l i d k)) ∙ sym (List·getD-map g (take n l) i d))
+
 pub listed-map : {A B : Type 0} (g : A → B) (l : List A) (d : A) (n : ℕ) → length l ≡ n → listed (λ i. g (getD l i d)) n ≡ map g l
-listed-map g l d n e =
-    ext-getD (g d) (listed (λ i. g (getD l i d)) n) (map g l) (length-listed (λ i. g (getD l i d)) n ∙ sym e ∙ sym (length-map l g))
-    (λ i h. listed-at (λ i. g (getD l i d)) n i (g d) (rw (length-listed (λ i. g (getD l i d)) n) at h) ∙ sym (List·getD-map g l i d))
+listed-map g l d n e = listed-mapped g l d n (omega arith) ∙ ap (map g) (take-all n l (omega arith))

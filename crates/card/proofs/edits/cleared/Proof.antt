@@ -1,12 +1,13 @@
 -- `card::edits::cleared` meets its contract: after i turns the first i cells are cleared.
 use Prim.Native.Nat.{_-_, _≤_, zero-le}
-use mathlib.Core.Path.{_≡_, refl, _∙_}
-use mathlib.Core.List.{_++_}
+use mathlib.Core.Path.{_≡_, refl, ap, _∙_}
+use mathlib.Core.List.{List, _++_}
 use native.Mathlib.Omega.{arith}
-use lib.ListN.{drop, getD}
+use lib.ListN.{length, drop, getD}
 use borrow.Author.Needs.{needs}
 use Rattle.words.specs.Listed.{listed}
-use Rattle.words.proofs.Listed.{listed-next, listed-done, listed-map}
+use Rattle.words.proofs.Listed.{listed-next, listed-mapped}
+use Rattle.cells.specs.declared.cell.Cell.{Cell}
 use Rattle.card.specs.Address.{cellCount}
 use Rattle.card.specs.Fresh.{clearState, noCell}
 use Rattle.card.specs.Edits.{clearedCell}
@@ -57,8 +58,8 @@ returns c =
     let l = c .before .loop in
     let cells = c .before .before .args .t1 in
     let end : l .i ≡ cellCount = omega arith in
-    listed-done (λ k. clearedCell (getD cells k noCell)) cellCount cells (l .next) (rw end at (l .inv .3)) (search needs)
-    ∙ listed-map clearedCell cells noCell cellCount (search needs)
+    let sixteen : length cells ≡ cellCount = search needs in
+    (rw end at (l .inv .3)) ∙ ap (λ (front : List Cell). front ++ drop cellCount cells) (listed-mapped clearedCell cells noCell cellCount (omega arith))
 
 pub cleared-spec : {M : Type 1} → statement M
 cleared-spec =

@@ -1,9 +1,10 @@
 -- `card::presets::apply_preset` meets its contract: the rows say of each cell and connector what the definition says.
 use mathlib.Core.Path.{sym, _∙_, ap}
 use mathlib.Core.Bool.{Bool, _||_}
+use mathlib.Core.List.{List, _++_}
 use mathlib.Core.Option.{Option, Option·getD}
 use Prim.Native.Nat.{ℕ}
-use lib.ListN.{getD}
+use lib.ListN.{getD, drop}
 use borrow.Author.Needs.{needs}
 use Rattle.words.specs.Bits.{bitAt}
 use Rattle.words.proofs.Laws.{built-same}
@@ -41,8 +42,9 @@ returns c =
     let row = c .before .before .before .before .before .before .cell-row .result in
     let says = c .before .before .before .before .before .before .cell-row .ensures in
     let cells = c .before .before .before .cells-under .ensures
-    ∙ listed-same (λ i. Option·getD (cellIn (row .0) (row .1) i) (getD (a .card .cells) i noCell)) (cellAfter (a .card) (a .v)) cellCount
-    (λ i h. ap (λ (o : Option Cell). Option·getD o (getD (a .card .cells) i noCell)) (says i h)) in
+    ∙ ap (λ (front : List Cell). front ++ drop cellCount (a .card .cells))
+    (listed-same (λ i. Option·getD (cellIn (row .0) (row .1) i) (getD (a .card .cells) i noCell)) (cellAfter (a .card) (a .v)) cellCount
+    (λ i h. ap (λ (o : Option Cell). Option·getD o (getD (a .card .cells) i noCell)) (says i h))) in
     let connectors = c .before .connectors-under .ensures
     ∙ listed-same (λ k. sourced (sourceIn (c .before .before .source-row .result) k) (getD (a .card .connectors) k noConnector))
     (connectorAfter (a .card) (a .v)) connectorCount

@@ -7,7 +7,7 @@ use native.Mathlib.Omega.{arith}
 use lib.ListN.{drop, getD}
 use borrow.Author.Needs.{needs}
 use Rattle.words.specs.Listed.{listed}
-use Rattle.words.proofs.Listed.{listed-next, listed-done}
+use Rattle.words.proofs.Listed.{listed-next}
 use Rattle.cells.specs.declared.cell.Cell.{Cell}
 use Rattle.card.specs.Address.{cellCount}
 use Rattle.card.specs.Fresh.{noCell}
@@ -63,10 +63,9 @@ loop-again c =
 
 returns : tie.Need-returns Inv-loop μ-loop
 returns c =
-    let a = c .before .before .args in
     let l = c .before .loop in
     let end : l .i ≡ cellCount = omega arith in
-    listed-done (under (a .row .0) (a .row .1) (a .t2)) cellCount (a .t2) (l .next) (rw end at (l .inv .1)) (search needs)
+    rw end at (l .inv .1)
 
 pub cells-under-spec : {M : Type 1} → statement M
 cells-under-spec =

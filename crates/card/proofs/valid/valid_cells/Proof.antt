@@ -1,10 +1,9 @@
 -- `card::valid::valid_cells` meets its contract: after i turns the first i entries are tested.
 use Prim.Native.Nat.{_-_, _≤_, zero-le}
 use mathlib.Core.Bool.{Bool, _&&_}
-use mathlib.Core.Path.{_≡_, refl, _∙_, ap₂, sym, ap}
+use mathlib.Core.Path.{_≡_, refl, _∙_, ap₂, sym}
 use native.Mathlib.Omega.{arith}
 use lib.ListN.{take}
-use lib.Seq.{take-all}
 use borrow.Author.Needs.{needs}
 use Rattle.card.specs.Address.{cellCount}
 use Rattle.card.specs.Valid.{validCell, every}
@@ -51,7 +50,7 @@ returns : tie.Need-returns Inv-loop μ-loop
 returns c =
     let l = c .before .loop in
     let end : l .i ≡ cellCount = omega arith in
-    l .inv .1 ∙ ap (every (validCell cellCount)) (take-all (l .i) (c .before .before .args .t1) (search needs))
+    rw end at (l .inv .1)
 
 pub valid-cells-spec : {M : Type 1} → statement M
 valid-cells-spec =

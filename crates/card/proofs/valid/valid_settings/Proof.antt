@@ -1,7 +1,9 @@
 -- `card::valid::valid_settings` meets its contract: arrays of sixteen have sixteen entries, and each part is tested by its own function.
 use mathlib.Core.Path.{_≡_}
 use mathlib.Core.Bool.{and-true}
+use native.Mathlib.Omega.{arith}
 use lib.ListN.{length}
+use lib.Seq.{length-take-le}
 use borrow.Author.Needs.{needs}
 use Rattle.card.specs.Address.{cellCount, connectorCount}
 use Rattle.card.specs.Valid.{valid}
@@ -33,8 +35,9 @@ returns c =
     let b = f .before .before in
     let a = b .before .before .args in
     let sixteen : length (a .cells) ≡ cellCount = search needs in
+    let taken = length-take-le cellCount (a .cells) (omega arith) in
     let others : length (a .t3) ≡ connectorCount = search needs in
-    rw (b .bad-clock .ensures, f .front-driven .ensures, c .before .valid-cells .ensures, c .valid-connectors .ensures, sixteen, others, and-true)
+    rw (b .bad-clock .ensures, f .front-driven .ensures, c .before .valid-cells .ensures, c .valid-connectors .ensures, taken, others, and-true)
 
 pub valid-settings-spec : {M : Type 1} → statement M
 valid-settings-spec =

@@ -4,9 +4,10 @@ use mathlib.Core.List.{List}
 use mathlib.Core.Path.{refl, ap, _∙_}
 use native.Mathlib.Omega.{arith}
 use lib.Seq.{sets}
-use lib.ListN.{replicate}
+use lib.ListN.{take, replicate}
 use borrow.Author.Needs.{needs}
 use Rattle.text.proofs.Stores.{sets-three}
+use Rattle.card.specs.Address.{cellCount}
 use Rattle.saved.specs.Record.{encode, triggerField, cellField, connectorField, fieldsFrom, configWidth}
 use Rattle.saved.proofs.record.encoded.Statement.{statement}
 use Rattle.saved.proofs.record.encoded.Tie as tie
@@ -31,7 +32,7 @@ unfolding encode
 returns c =
     let a = c .before .before .before .before .before .before .args in
     let first = triggerField (a .trigger) in
-    let cells = fieldsFrom (cellField configWidth) 0 (a .cells) in
+    let cells = fieldsFrom (cellField configWidth) 0 (take cellCount (a .cells)) in
     let connectors = fieldsFrom connectorField 0 (a .connectors) in
     let first-stored = c .before .before .before .copy .ensures .0 in
     let inner = c .before .with-cells .ensures .0 ∙ ap (λ (r : List ℕ). sets r 4 cells) first-stored in

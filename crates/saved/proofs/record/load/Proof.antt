@@ -3,6 +3,7 @@ use Prim.Native.Nat.{ℕ}
 use mathlib.Core.Path.{_≡_, refl, sym, ap, _∙_}
 use mathlib.Core.Bool.{true, false, cond}
 use lib.Dec.{eqb}
+use lib.ListN.{drop}
 use borrow.Author.Tests.{not-true, not-false}
 use borrow.Author.Needs.{needs}
 use Rattle.card.specs.Address.{cellCount}
@@ -14,14 +15,14 @@ use Rattle.saved.proofs.record.load.Tie as tie
 
 -- the number by what the code has read and written again
 number : (c : tie.After-encoded)
-    → let a = c .before .before .before .before .before .before .args in
+    → let a = c .before .before .before .before .before .before .before .args in
     loadNumber cellCount configWidth (a .bytes .now)
     ≡ cond (sameBytes (c .encoded .result) (a .bytes .now))
     (cond (valid cellCount (triggerIn (a .bytes .now)) (c .before .before .cells-in .result) (c .before .connectors-in .result)) 0 15) 14
 number c =
-    let a = c .before .before .before .before .before .before .args in
-    number-from cellCount configWidth (a .bytes .now) (triggerIn (a .bytes .now)) _ _ refl
-    (sym (c .before .before .cells-in .ensures)) (sym (c .before .connectors-in .ensures))
+    let a = c .before .before .before .before .before .before .before .args in
+    number-from cellCount configWidth (a .bytes .now) (triggerIn (a .bytes .now)) _ refl (sym (c .before .connectors-in .ensures))
+    _ (drop cellCount (a .card .cells)) (c .before .before .cells-in .ensures)
     ∙ rw (← c .encoded .ensures)
 
 returns : tie.Need-returns
@@ -50,7 +51,7 @@ same-requires c κs = search needs
 
 returns-2 : tie.Need-returns-2
 returns-2 c =
-    let a = c .before .before .before .before .before .before .before .before .before .args in
+    let a = c .before .before .before .before .before .before .before .before .before .before .args in
     let differ : c .before .same .result ≡ false = not-true _ (c .if2 .taken) in
     let n : loadNumber cellCount configWidth (a .bytes .now) ≡ 14 = number (c .before .before .before) ∙ rw (← c .before .same .ensures, differ) in
     (sym (load-refused cellCount configWidth (a .card) (a .bytes .now) (ap (λ (k : ℕ). eqb k 0) n)), sym n)
@@ -63,7 +64,7 @@ valid-settings-requires c κs = search needs
 
 returns-3 : tie.Need-returns-3
 returns-3 c =
-    let a = c .before .before .before .before .before .before .before .before .before .before .before .before .args in
+    let a = c .before .before .before .before .before .before .before .before .before .before .before .before .before .args in
     let alike : c .before .before .before .before .same .result ≡ true = not-false _ (c .before .before .before .if2 .left) in
     let bad : c .before .valid-settings .result ≡ false = not-true _ (c .if3 .taken) in
     let w = c .before .before .before .before in
@@ -73,7 +74,7 @@ returns-3 c =
 
 returns-4 : tie.Need-returns-4
 returns-4 c =
-    let a = c .before .before .before .before .before .before .before .before .before .before .before .before .args in
+    let a = c .before .before .before .before .before .before .before .before .before .before .before .before .before .args in
     let alike : c .before .before .before .before .same .result ≡ true = not-false _ (c .before .before .before .if2 .left) in
     let good : c .before .valid-settings .result ≡ true = not-false _ (c .if3 .left) in
     let w = c .before .before .before .before in
@@ -81,8 +82,8 @@ returns-4 c =
     let n : loadNumber cellCount configWidth (a .bytes .now) ≡ 0 =
     number (w .before .before) ∙ rw (← w .same .ensures, alike, ← c .before .valid-settings .ensures, good) in
     let whole =
-    loaded-from cellCount configWidth (a .bytes .now) (triggerIn (a .bytes .now)) _ _ refl
-    (sym (r .before .cells-in .ensures)) (sym (r .connectors-in .ensures)) (a .card) n in
+    loaded-from cellCount configWidth (a .bytes .now) (triggerIn (a .bytes .now)) _ refl (sym (r .connectors-in .ensures))
+    (a .card) _ (r .before .cells-in .ensures) n in
     (c .before .before .started .ensures ∙ sym whole, sym n)
 
 pub load-spec : {M : Type 1} → statement M

@@ -3,7 +3,7 @@ use Prim.Native.Nat.{_-_, _*_, _≤_, zero-le, _<_}
 use mathlib.Core.Path.{_≡_, refl, ap, _∙_}
 use native.Mathlib.Omega.{arith}
 use lib.ListN.{length, take}
-use lib.Seq.{sets, length-sets, take-all}
+use lib.Seq.{sets, length-sets}
 use borrow.Author.Needs.{needs}
 use Rattle.card.specs.Fresh.{noCell}
 use Rattle.card.specs.Address.{cellCount}
@@ -80,8 +80,7 @@ returns : tie.Need-returns Inv-loop μ-loop
 returns c =
     let l = c .before .loop in
     let end : l .i ≡ cellCount = omega arith in
-    let all : take (l .i) (c .before .before .args .t2) ≡ c .before .before .args .t2 = take-all (l .i) (c .before .before .args .t2) (search needs) in
-    (rw all at (l .inv .1), rw (all, end) at (l .inv .2))
+    (rw end at (l .inv .1), rw end at (l .inv .2))
 
 pub with-cells-spec : {M : Type 1} → statement M
 with-cells-spec =
