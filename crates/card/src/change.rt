@@ -5,6 +5,8 @@ ghost use Rattle.card.specs.Change.{changed};
 use crate::card::Card;
 use crate::edits;
 use crate::presets::apply_preset;
+use cells::cell::Config;
+use cells::cell::Count;
 use cells::table::Slots;
 
 // The slots that a write gives, each with its address.
@@ -24,8 +26,8 @@ pub enum Change {
     Home,
     Preset(u32),
     Kind(u8),
-    Config(u16),
-    State(u16),
+    Config(Config),
+    State(Count),
     Slots(Wires),
     ConnectorKind(u8),
     Source(u8),

@@ -8,14 +8,19 @@ use crate::card::Connector;
 use crate::edits::at_cell;
 use crate::edits::current_cell;
 use crate::edits::current_connector;
+use crate::limits::CellWord;
 use crate::limits::FIRST_CONNECTOR;
 use crate::limits::FRONT_TRIGGER;
 use crate::presets::sets_front;
 use crate::valid::front_driven;
 use cells::cell::Cell;
+use cells::cell::Config;
 use cells::cell::State;
 use cells::table::Kept;
 use cells::table::row_of;
+
+// What a read gives: anything that the card holds, and nothing is wider than a configuration.
+pub type Value = Config;
 
 // A small part of the card: no line looks at more before it changes something. `celled` says that the pointer stands at a cell.
 pub struct Context {
@@ -25,7 +30,7 @@ pub struct Context {
     pub cell: Cell,
     pub connector: Connector,
     pub levels: u16,
-    pub outputs: u16,
+    pub outputs: CellWord,
 }
 
 pub fn context_of(card: Card) -> Context
@@ -46,20 +51,20 @@ pub fn context_of(card: Card) -> Context
 }
 
 // The type at the pointer.
-pub fn read_type(x: Context) -> u16
+pub fn read_type(x: Context) -> Value
     ensures { λ v. ⌜ v ≡ typeRead x ⌝ }
 {
     let cell = x.cell;
     let connector = x.connector;
     if x.celled {
-        cell.kind as u16
+        cell.kind as Value
     } else {
-        connector.kind as u16
+        connector.kind as Value
     }
 }
 
 // The configuration of the cell, or the source of the connector, at the pointer.
-pub fn read_config(x: Context) -> u16
+pub fn read_config(x: Context) -> Value
     ensures { λ v. ⌜ v ≡ configRead x ⌝ }
 {
     let cell = x.cell;
@@ -67,11 +72,11 @@ pub fn read_config(x: Context) -> u16
     if x.celled {
         cell.config
     } else {
-        connector.source as u16
+        connector.source as Value
     }
 }
 
-fn state_as(kept: Kept, s: State) -> u16
+fn state_as(kept: Kept, s: State) -> Value
     ensures { λ v. ⌜ v ≡ stateAs kept s ⌝ }
 {
     let count = s.count;
@@ -83,7 +88,7 @@ fn state_as(kept: Kept, s: State) -> u16
 }
 
 // The state of the cell at the pointer: a flip-flop's bit, a timer's count, 0 where it keeps none.
-pub fn read_state(x: Context) -> u16
+pub fn read_state(x: Context) -> Value
     ensures { λ v. ⌜ v ≡ stateRead x ⌝ }
 {
     let cell = x.cell;
@@ -94,22 +99,22 @@ pub fn read_state(x: Context) -> u16
 }
 
 // What slot number i of the cell at the pointer holds, X being 0; there is none from 4 on, and its answer is 0.
-pub fn read_slot(x: Context, i: usize) -> u16
+pub fn read_slot(x: Context, i: usize) -> Value
     ensures { λ v. ⌜ v ≡ slotRead x i ⌝ }
 {
     let cell = x.cell;
     let slots = cell.slots;
-    if i < 4 { slots[i] as u16 } else { 0 }
+    if i < 4 { slots[i] as Value } else { 0 }
 }
 
 // The levels of the front connectors, and of the backplane, as of the last tick.
-pub fn read_front(x: Context) -> u16
+pub fn read_front(x: Context) -> Value
     ensures { λ v. ⌜ v ≡ frontRead x ⌝ }
 {
     x.levels % 256
 }
 
-pub fn read_back(x: Context) -> u16
+pub fn read_back(x: Context) -> Value
     ensures { λ v. ⌜ v ≡ backRead x ⌝ }
 {
     x.levels / 256

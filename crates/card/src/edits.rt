@@ -9,14 +9,16 @@ use crate::card::Card;
 use crate::card::Connector;
 use crate::limits::ALL_CELLS;
 use crate::limits::CELLS;
-use crate::limits::CELLS_END;
-use crate::limits::CONNECTORS_END;
 use crate::limits::EDGES;
 use crate::limits::FIRST_CELL;
 use crate::limits::FIRST_CONNECTOR;
 use crate::limits::FRONT_TRIGGER;
 use crate::limits::INPUT;
+use crate::place::is_cell;
+use crate::place::is_connector;
 use cells::cell::Cell;
+use cells::cell::Config;
+use cells::cell::Count;
 use cells::cell::Pulses;
 use cells::cell::State;
 use cells::table::Kept;
@@ -33,7 +35,7 @@ const CLEAR: State = State {
 pub fn at_cell(card: Card) -> bool
     ensures { λ q. ⌜ q ≡ atCell cellCount card ⌝ }
 {
-    (FIRST_CELL <= card.pointer) & (card.pointer < CELLS_END)
+    is_cell(card.pointer as u32)
 }
 
 // The cell at the pointer.
@@ -41,7 +43,7 @@ pub fn current_cell(card: Card) -> Cell
     ensures { λ r. ⌜ r ≡ currentCell cellCount card ⌝ }
 {
     let p = card.pointer;
-    if (FIRST_CELL <= p) & (p < CELLS_END) {
+    if is_cell(p as u32) {
         let at = (p - FIRST_CELL) as usize;
         card.cells[at]
     } else {
@@ -59,7 +61,7 @@ pub fn current_connector(card: Card) -> Connector
     ensures { λ r. ⌜ r ≡ currentConnector card ⌝ }
 {
     let p = card.pointer;
-    if (FIRST_CONNECTOR <= p) & (p < CONNECTORS_END) {
+    if is_connector(p as u32) {
         let at = (p - FIRST_CONNECTOR) as usize;
         card.connectors[at]
     } else {
@@ -75,7 +77,7 @@ fn put_cell(card: Card, cell: Cell) -> Card
     ensures { λ r. ⌜ r ≡ putCell cellCount card cell ⌝ }
 {
     let p = card.pointer;
-    if (FIRST_CELL <= p) & (p < CELLS_END) {
+    if is_cell(p as u32) {
         let i = (p - FIRST_CELL) as u32;
         let at = i as usize;
         let mut next = card;
@@ -92,7 +94,7 @@ fn put_connector(card: Card, connector: Connector) -> Card
     ensures { λ r. ⌜ r ≡ putConnector card connector ⌝ }
 {
     let p = card.pointer;
-    if (FIRST_CONNECTOR <= p) & (p < CONNECTORS_END) {
+    if is_connector(p as u32) {
         let at = (p - FIRST_CONNECTOR) as usize;
         let mut next = card;
         next.connectors[at] = connector;
@@ -194,7 +196,7 @@ fn configured_state(kept: Kept, s: State) -> State
     }
 }
 
-pub fn set_config(card: Card, config: u16) -> Card
+pub fn set_config(card: Card, config: Config) -> Card
     ensures { λ r. ⌜ r ≡ setConfig cellCount card config ⌝ }
 {
     let cell = current_cell(card);
@@ -225,7 +227,7 @@ fn with_count(s: State, count: Pulses) -> State
     next
 }
 
-fn stated_as(kept: Kept, s: State, v: u16) -> State
+fn stated_as(kept: Kept, s: State, v: Count) -> State
     ensures { λ r. ⌜ r ≡ statedAs kept s v ⌝ }
 {
     match kept {
@@ -235,7 +237,7 @@ fn stated_as(kept: Kept, s: State, v: u16) -> State
     }
 }
 
-pub fn set_state(card: Card, v: u16) -> Card
+pub fn set_state(card: Card, v: Count) -> Card
     ensures { λ r. ⌜ r ≡ setState cellCount card v ⌝ }
 {
     let cell = current_cell(card);

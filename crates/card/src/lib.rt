@@ -4,5 +4,6 @@ pub mod change;
 pub mod context;
 pub mod edits;
 pub mod limits;
+pub mod place;
 pub mod presets;
 pub mod valid;

@@ -13,6 +13,11 @@ pub const FIRST_CONNECTOR: u8 = 33;
 
 pub const CONNECTORS_END: u8 = FIRST_CONNECTOR + CONNECTORS as u8;
 
+// The bases that addresses have, and the largest address.
+pub const BASES: u32 = 64;
+
+pub const LARGEST_ADDRESS: u32 = 255;
+
 // A word with a bit for each cell, and the one with all of them.
 pub type CellWord = u16;
 
@@ -25,7 +30,9 @@ pub const OPEN_DRAIN: u8 = 1;
 
 pub const PUSH_PULL: u8 = 2;
 
-// The clock code under which BNC1 brings the trigger.
+// The largest clock code, and the one under which BNC1 brings the trigger.
+pub const LARGEST_CLOCK: u32 = 4;
+
 pub const FRONT_TRIGGER: u8 = 4;
 
 // The first address of the edges.

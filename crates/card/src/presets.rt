@@ -17,14 +17,22 @@ use crate::card::Card;
 use crate::card::Connector;
 use crate::limits::CELLS;
 use crate::limits::CONNECTORS;
+use crate::limits::CellWord;
+use crate::limits::FIRST_CELL;
 use crate::limits::PUSH_PULL;
 use cells::cell::Cell;
+use cells::cell::Config;
 use cells::cell::Pulses;
 use cells::cell::State;
 
+// How many rows the two tables have: no preset has a number past the first, and none past the second sets a cell.
+const SOURCE_ROWS: usize = 60;
+
+const CELL_ROWS: usize = 37;
+
 // A row for each preset number, read by bytes: the connectors that it sources, a bit for each from BNC1 on; those of them that take the first
 // address; the first and the second address; 1 where a connector's address is its index further.
-const SOURCES: [u64; 60] = [
+const SOURCES: [u64; SOURCE_ROWS] = [
     0x00_00_00_00_00,
     0x00_00_00_00_00,
     0x00_00_00_00_00,
@@ -90,7 +98,7 @@ const SOURCES: [u64; 60] = [
 // Two rows for each preset number, read by bytes: the first cell that it sets and how many from there, then that cell's type, configuration
 // and slots X Y Z F; in the second row, behind a zero, 1 where the addresses in X and Y are the cell's index further, then the type,
 // configuration and slots of the other cells. No later preset sets a cell.
-const CELL_ROWS: [u64; 74] = [
+const SET_CELLS: [u64; 2 * CELL_ROWS] = [
     0x01_10_00_00_00_00_00_00,
     0x00_00_00_00_00_00_00_00,
     0x00_00_00_00_00_00_00_00,
@@ -183,16 +191,16 @@ pub fn bad_preset(v: u32) -> bool
     }
 }
 
-fn source_rows() -> [u64; 60]
+fn source_rows() -> [u64; SOURCE_ROWS]
     ensures { λ r. ⌜ SourceRows r ⌝ }
 {
     SOURCES
 }
 
-fn cell_rows() -> [u64; 74]
+fn cell_rows() -> [u64; 2 * CELL_ROWS]
     ensures { λ r. ⌜ CellRows r ⌝ }
 {
-    CELL_ROWS
+    SET_CELLS
 }
 
 // A number past the table sources nothing.
@@ -201,7 +209,7 @@ fn source_row(v: u32) -> u64
 {
     let rows = source_rows();
     let n = v as usize;
-    if n < 60 { rows[n] } else { 0 }
+    if n < SOURCE_ROWS { rows[n] } else { 0 }
 }
 
 // A number past the table sets no cell.
@@ -210,7 +218,7 @@ fn cell_row(v: u32) -> CellRow
 {
     let rows = cell_rows();
     let n = v as usize;
-    if n < 37 {
+    if n < CELL_ROWS {
         CellRow(rows[2 * n], rows[2 * n + 1])
     } else {
         CellRow(0, 0)
@@ -282,7 +290,7 @@ fn wired_cell(step: bool, place: u8, w: u64) -> Cell
     ];
     Cell {
         kind: byte(w, 5),
-        config: byte(w, 4) as u16,
+        config: byte(w, 4) as Config,
         slots: slots,
         state: State {
             bit: false,
@@ -299,7 +307,8 @@ fn covers(row: u64, i: u32) -> bool
 {
     let from = byte(row, 7) as u32;
     let count = byte(row, 6) as u32;
-    (from <= 1 + i) & (1 + i < from + count)
+    let place = FIRST_CELL as u32 + i;
+    (from <= place) & (place < from + count)
 }
 
 // The cell at index i under a row: set whole, or as it was.
@@ -308,7 +317,7 @@ fn cell_under(row: CellRow, i: u32, old: Cell) -> Cell
     ensures { λ r. ⌜ r ≡ Option·getD (cellIn (row .0) (row .1) i) old ⌝ }
 {
     if covers(row.0, i) {
-        let first = byte(row.0, 7) as u32 == 1 + i;
+        let first = byte(row.0, 7) as u32 == FIRST_CELL as u32 + i;
         let w = either(first, row.0, row.1);
         wired_cell(words::bit(row.1, 48), i as u8, w)
     } else {
@@ -320,7 +329,7 @@ fn connectors_under(row: u64, connectors: [Connector; CONNECTORS]) -> [Connector
     ensures { λ r. ⌜ r ≡ listed (λ k. sourced (sourceIn row k) (getD connectors k noConnector)) connectorCount ⌝ }
 {
     let mut next = connectors;
-    for k in 0..16u32 {
+    for k in 0..CONNECTORS as u32 {
         let at = k as usize;
         let c = connector_under(row, k, connectors[at]);
         next[at] = c;
@@ -332,7 +341,7 @@ fn cells_under(row: CellRow, cells: [Cell; CELLS]) -> [Cell; CELLS]
     ensures { λ r. ⌜ r ≡ listed (λ i. Option·getD (cellIn (row .0) (row .1) i) (getD cells i noCell)) cellCount ++ drop cellCount cells ⌝ }
 {
     let mut next = cells;
-    for i in 0..16u32 {
+    for i in 0..CELLS as u32 {
         let at = i as usize;
         let c = cell_under(row, i, cells[at]);
         next[at] = c;
@@ -340,11 +349,11 @@ fn cells_under(row: CellRow, cells: [Cell; CELLS]) -> [Cell; CELLS]
     next
 }
 
-fn edited_under(row: u64, edited: u16) -> u16
+fn edited_under(row: u64, edited: CellWord) -> CellWord
     ensures { λ r. ⌜ r ≡ wordOf (λ i. bitAt edited i || PresetRows.covers row i) cellCount ⌝ }
 {
-    let mut next: u16 = 0;
-    for i in 0..16u32 {
+    let mut next: CellWord = 0;
+    for i in 0..CELLS as u32 {
         let old = words::bit(edited as u64, i);
         next = words::pushed16(next, i, old | covers(row, i));
     }

@@ -5,40 +5,48 @@ ghost use Rattle.card.specs.Address.{cellCount};
 ghost use Rattle.card.specs.Valid.{badPlace, badCellType, badConnectorType, badClock, badConfig, unusedSlot, badAddress, frontDriven};
 ghost use Rattle.card.specs.Valid.{validSlot, validSlots, validCell, validConnector, every, valid, noConfig, badStateAs, badState, noState};
 use crate::card::Connector;
+use crate::limits::BASES;
 use crate::limits::CELLS;
 use crate::limits::CONNECTORS;
 use crate::limits::EDGES;
 use crate::limits::FRONT_TRIGGER;
+use crate::limits::LARGEST_ADDRESS;
+use crate::limits::LARGEST_CLOCK;
+use crate::limits::OPEN_DRAIN;
+use crate::limits::PUSH_PULL;
+use crate::place::is_cell;
+use crate::place::is_connector;
 use cells::cell::Cell;
 use cells::table::Kept;
 use cells::table::Row;
 use cells::table::Slots;
+use cells::table::TYPES;
 use cells::table::row_of;
 
 // 5: no place of a cell or a connector.
 pub fn bad_place(v: u32) -> bool
     ensures { λ r. ⌜ r ≡ badPlace cellCount v ⌝ }
 {
-    !(((1 <= v) & (v < 17)) | ((33 <= v) & (v < 49)))
+    !(is_cell(v) | is_connector(v))
 }
 
 // 7: a type or a clock code that there is not.
 pub fn bad_cell_type(v: u32) -> bool
     ensures { λ r. ⌜ r ≡ badCellType v ⌝ }
 {
-    19 <= v
+    TYPES as u32 <= v
 }
 
 pub fn bad_connector_type(v: u32) -> bool
     ensures { λ r. ⌜ r ≡ badConnectorType v ⌝ }
 {
-    2 < v
+    (PUSH_PULL as u32) < v
 }
 
 pub fn bad_clock(v: u32) -> bool
     ensures { λ r. ⌜ r ≡ badClock v ⌝ }
 {
-    4 < v
+    LARGEST_CLOCK < v
 }
 
 // 9: a configuration that a cell of this type cannot have.
@@ -62,15 +70,15 @@ pub fn unused_slot(kind: u8, given: Slots) -> bool
 pub fn bad_address(a: u32) -> bool
     ensures { λ r. ⌜ r ≡ badAddress cellCount a ⌝ }
 {
-    let b = a % 64;
-    (255 < a) | !((b == 0) | (((1 <= b) & (b < 17)) | ((33 <= b) & (b < 49))))
+    let b = a % BASES;
+    (LARGEST_ADDRESS < a) | !((b == 0) | (is_cell(b) | is_connector(b)))
 }
 
 // 13: the type of BNC1 makes it an output while the trigger comes in by it.
 pub fn front_driven(trigger: u8, kind: u32) -> bool
     ensures { λ r. ⌜ r ≡ frontDriven trigger kind ⌝ }
 {
-    (trigger == FRONT_TRIGGER) & ((kind == 1) | (kind == 2))
+    (trigger == FRONT_TRIGGER) & ((kind == OPEN_DRAIN as u32) | (kind == PUSH_PULL as u32))
 }
 
 // What a slot may hold.

@@ -5,15 +5,19 @@
 ghost use mathlib.Core.Path.{_≡_};
 ghost use Rattle.cells.specs.Work.{workOut};
 ghost use Rattle.cellchart.specs.Chart.{digitOf, readingOf, clear, duration, after};
+use cells::cell::Config;
 use cells::cell::Pulses;
 use cells::cell::State;
 use cells::cell::Worked;
 use cells::table::Row;
 use cells::table::Slots;
+use cells::table::TYPES;
 use cells::table::packed;
 
 // Of both timers.
-const DURATION: u16 = 2;
+const DURATION: Config = 2;
+
+const KINDS: u8 = TYPES as u8;
 
 // A step of a course is the readings X Y Z of a timer, as bits.
 const TRIGGER: u8 = 1;
@@ -101,7 +105,7 @@ fn put_row(kind: u8) {
 
 fn put_chart() {
     let mut kind: u8 = 0;
-    while kind < 19 {
+    while kind < KINDS {
         put_row(kind);
         kind += 1;
     }

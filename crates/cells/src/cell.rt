@@ -1,8 +1,13 @@
 // A cell as the card holds it.
 
+// A configuration: a constant, a lookup's code, a duration. A count is as wide, since a duration sets it.
+pub type Config = u16;
+
+pub type Count = Config;
+
 // A number of pulses, which are clock edges and never ticks: a duration, or a count of pulses left.
 #[repr(C)]
-pub struct Pulses(pub u16);
+pub struct Pulses(pub Count);
 
 // What a cell keeps between ticks, the same for every type: a flip-flop's bit, a timer's count and pulse.
 #[repr(C)]
@@ -16,7 +21,7 @@ pub struct State {
 #[repr(C)]
 pub struct Cell {
     pub kind: u8,
-    pub config: u16,
+    pub config: Config,
     pub slots: [u8; 4],
     pub state: State,
 }

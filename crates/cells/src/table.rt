@@ -4,6 +4,7 @@ ghost use Prim.Native.Nat.{_<_, _≤_};
 ghost use Rattle.words.specs.Bits.{bitNumber};
 ghost use Rattle.cells.specs.Table.{slots, keptBy, rowOf, levelSlots};
 ghost use Rattle.cells.specs.Work.{placeOf, slotsOf};
+use crate::cell::Config;
 
 // One bit for each input slot: the readings of the four, or a set of them.
 #[repr(C)]
@@ -54,7 +55,7 @@ pub struct Row {
     pub used: Slots,
     pub edge: Slots,
     pub configured: bool,
-    pub largest: u16,
+    pub largest: Config,
     pub class: Class,
     pub kept: Kept,
 }
@@ -126,7 +127,7 @@ const EDGE: [u8; TYPES] = [
 ];
 
 // The largest configuration, 0 where there is none.
-const LARGEST: [u16; TYPES] = [
+const LARGEST: [Config; TYPES] = [
     65535,
     0,
     15,
@@ -240,7 +241,7 @@ pub fn edge_of(kind: u8) -> u32
 }
 
 // Its largest configuration; 0 where it has none, and past the table.
-fn largest_of(kind: u8) -> u16
+fn largest_of(kind: u8) -> Config
     ensures { λ l. ⌜ l ≡ rowOf kind .largest ⌝ }
 {
     let n = kind as usize;

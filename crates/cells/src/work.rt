@@ -3,6 +3,7 @@ ghost use mathlib.Core.Path.{_≡_};
 ghost use Rattle.cells.specs.Work;
 ghost use Rattle.cells.specs.Work.{slotsOf, lookupOut, gateOut, dFlop, syncDFlop, clearDFlop, flopNext, nextCount, nextPulse, pulses};
 ghost use Rattle.cells.specs.Work.{keeping, holding, countAfter, pulseAfter, oneShot, workAs, workOut};
+use crate::cell::Config;
 use crate::cell::Pulses;
 use crate::cell::State;
 use crate::cell::Worked;
@@ -16,14 +17,14 @@ use crate::table::unpacked;
 use crate::table::used_of;
 
 // The bit of the code at the place that the readings choose.
-fn lookup(code: u16, r: Slots) -> bool
+fn lookup(code: Config, r: Slots) -> bool
     ensures { λ q. ⌜ q ≡ lookupOut code r ⌝ }
 {
     words::bit(code as u64, packed(r.x, r.y, r.z, r.f))
 }
 
 // What a gate answers.
-fn gate_out(gate: GateKind, code: u16, r: Slots) -> bool
+fn gate_out(gate: GateKind, code: Config, r: Slots) -> bool
     ensures { λ q. ⌜ q ≡ gateOut gate code r ⌝ }
 {
     match gate {
@@ -184,7 +185,7 @@ fn pulse_after(retrigger: bool, d: Pulses, s: State, r: Slots) -> bool
     next_pulse(r.z, took, r.y, d, s.count, s.pulse)
 }
 
-fn one_shot(retrigger: bool, config: u16, s: State, r: Slots) -> Worked
+fn one_shot(retrigger: bool, config: Config, s: State, r: Slots) -> Worked
     ensures { λ w. ⌜ w ≡ oneShot retrigger config s r ⌝ }
 {
     let count = count_after(retrigger, Pulses(config), s, r);
@@ -196,7 +197,7 @@ fn one_shot(retrigger: bool, config: u16, s: State, r: Slots) -> Worked
     }
 }
 
-fn delay(retrigger: bool, config: u16, s: State, r: Slots) -> Worked
+fn delay(retrigger: bool, config: Config, s: State, r: Slots) -> Worked
     ensures { λ w. ⌜ w ≡ Work.delay retrigger config s r ⌝ }
 {
     let count = count_after(retrigger, Pulses(config), s, r);
@@ -211,7 +212,7 @@ fn delay(retrigger: bool, config: u16, s: State, r: Slots) -> Worked
 }
 
 // What a class makes of the used readings, packed. Each arm unpacks what it needs.
-fn work_as(class: Class, config: u16, s: State, r: u32) -> Worked
+fn work_as(class: Class, config: Config, s: State, r: u32) -> Worked
     ensures { λ w. ⌜ w ≡ workAs class config s (slotsOf r) ⌝ }
 {
     match class {
@@ -225,7 +226,7 @@ fn work_as(class: Class, config: u16, s: State, r: u32) -> Worked
 }
 
 // A cell of a type worked out with the readings of its four slots, packed. A slot that is not used reads low.
-pub fn work(kind: u8, config: u16, s: State, r: u32) -> Worked
+pub fn work(kind: u8, config: Config, s: State, r: u32) -> Worked
     ensures { λ w. ⌜ w ≡ workOut kind config s (slotsOf r) ⌝ }
 {
     work_as(class_of(kind), config, s, used_of(kind) & r)

@@ -13,6 +13,7 @@ use crate::reads;
 use crate::writes;
 use card::change::Change;
 use card::context::Context;
+use card::context::Value;
 
 // The largest number that a command may give.
 const LARGEST_NUMBER: Number = 65535;
@@ -20,7 +21,7 @@ const LARGEST_NUMBER: Number = 65535;
 // The response to a command: nothing, a number, or the record that it saves.
 pub struct Response {
     pub number: bool,
-    pub value: u16,
+    pub value: Value,
     pub saves: bool,
 }
 
@@ -85,7 +86,7 @@ pub fn write(k: u8, change: Change) -> Decision
 }
 
 // A read: no change.
-pub fn read(k: u8, v: u16) -> Decision
+pub fn read(k: u8, v: Value) -> Decision
     ensures { λ d. ⌜ d ≡ record { k = k; change = Change.Nothing; response = Line.number v } ⌝ }
 {
     Decision {
@@ -116,7 +117,7 @@ fn decide(x: Context, store: usize, command: Command) -> Decision
 {
     match command {
         Command::Move(v) => writes::to_place(v),
-        Command::Where => read(0, x.pointer as u16),
+        Command::Where => read(0, x.pointer as Value),
         Command::Trigger(v) => writes::to_trigger(v),
         Command::Home => write(0, Change::Home),
         Command::Preset(v) => writes::to_preset(x, v),

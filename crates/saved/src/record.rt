@@ -16,14 +16,59 @@ use card::card::started;
 use card::limits::ALL_CELLS;
 use card::limits::CELLS;
 use card::limits::CONNECTORS;
+use card::limits::FIRST_CELL;
 use card::limits::FIRST_CONNECTOR;
 use card::valid::valid_settings;
 use cells::cell::Cell;
+use cells::cell::Config;
 use cells::cell::Pulses;
 use cells::cell::State;
 
-// How many bytes a record has.
-pub const RECORD_LENGTH: usize = 276;
+// A field is its tag, the number of the bytes that follow in two bytes, and these bytes.
+const HEAD: usize = 3;
+
+// The field of the trigger has one byte.
+const TRIGGER_TAG: u8 = 1;
+
+const TRIGGER_SIZE: u8 = 1;
+
+const TRIGGER_LENGTH: usize = HEAD + TRIGGER_SIZE as usize;
+
+// That of a cell has its number, its type, its configuration and its slots.
+const CELL_TAG: u8 = 2;
+
+const CELL_SIZE: u8 = 8;
+
+const CELL_LENGTH: usize = HEAD + CELL_SIZE as usize;
+
+// That of a connector has its address, its type and its source.
+const CONNECTOR_TAG: u8 = 3;
+
+const CONNECTOR_SIZE: u8 = 3;
+
+const CONNECTOR_LENGTH: usize = HEAD + CONNECTOR_SIZE as usize;
+
+// The number or the address comes first in a field, then the type; then a connector's source, or a cell's configuration, high byte first, and slots.
+const KIND_AT: usize = HEAD + 1;
+
+const SOURCE_AT: usize = KIND_AT + 1;
+
+const HIGH_AT: usize = KIND_AT + 1;
+
+const LOW_AT: usize = HIGH_AT + 1;
+
+const X_AT: usize = LOW_AT + 1;
+
+const Y_AT: usize = X_AT + 1;
+
+const Z_AT: usize = Y_AT + 1;
+
+const F_AT: usize = Z_AT + 1;
+
+// Where the fields of connectors begin, and how many bytes a record has.
+const CONNECTORS_AT: usize = TRIGGER_LENGTH + CELLS * CELL_LENGTH;
+
+pub const RECORD_LENGTH: usize = CONNECTORS_AT + CONNECTORS * CONNECTOR_LENGTH;
 
 // What a load gives: the card, and the number that refuses it, 0 where none does.
 #[repr(C)]
@@ -34,23 +79,42 @@ pub struct Loaded {
 
 // ---- bytes out
 
-// The field of cell number i + 1.
-fn cell_bytes(i: u8, cell: Cell) -> [u8; 11]
+// The field of cell i, whose number is i + FIRST_CELL.
+fn cell_bytes(i: u8, cell: Cell) -> [u8; CELL_LENGTH]
     requires { ⌜ i < cellCount ⌝ }
     ensures { λ r. ⌜ r ≡ cellField configWidth i cell ⌝ }
 {
     let s = cell.slots;
     let high = (cell.config / 256) as u8;
     let low = (cell.config % 256) as u8;
-    [2, 0, 8, i + 1, cell.kind, high, low, s[0], s[1], s[2], s[3]]
+    [
+        CELL_TAG,
+        0,
+        CELL_SIZE,
+        i + FIRST_CELL,
+        cell.kind,
+        high,
+        low,
+        s[0],
+        s[1],
+        s[2],
+        s[3],
+    ]
 }
 
 // The field of connector k, whose address is k + FIRST_CONNECTOR.
-fn connector_bytes(k: u8, c: Connector) -> [u8; 6]
+fn connector_bytes(k: u8, c: Connector) -> [u8; CONNECTOR_LENGTH]
     requires { ⌜ k < connectorCount ⌝ }
     ensures { λ r. ⌜ r ≡ connectorField k c ⌝ }
 {
-    [3, 0, 3, k + FIRST_CONNECTOR, c.kind, c.source]
+    [
+        CONNECTOR_TAG,
+        0,
+        CONNECTOR_SIZE,
+        k + FIRST_CONNECTOR,
+        c.kind,
+        c.source,
+    ]
 }
 
 // The fields of all cells, after that of the trigger.
@@ -59,10 +123,10 @@ fn with_cells(out: [u8; RECORD_LENGTH], cells: [Cell; CELLS]) -> [u8; RECORD_LEN
     ensures { λ r. ⌜ length (fieldsFrom (cellField configWidth) 0 (take cellCount cells)) ≡ cellCount * cellLength configWidth ⌝ }
 {
     let mut next = out;
-    for i in 0..16u8 {
+    for i in 0..CELLS as u8 {
         let at = i as usize;
         let bytes = cell_bytes(i, cells[at]);
-        text::copy(&mut next, 4 + 11 * at, &bytes);
+        text::copy(&mut next, TRIGGER_LENGTH + CELL_LENGTH * at, &bytes);
     }
     next
 }
@@ -76,10 +140,10 @@ fn with_connectors(
     ensures { λ r. ⌜ length (fieldsFrom connectorField 0 connectors) ≡ connectorCount * connectorLength ⌝ }
 {
     let mut next = out;
-    for k in 0..16u8 {
+    for k in 0..CONNECTORS as u8 {
         let at = k as usize;
         let bytes = connector_bytes(k, connectors[at]);
-        text::copy(&mut next, 180 + 6 * at, &bytes);
+        text::copy(&mut next, CONNECTORS_AT + CONNECTOR_LENGTH * at, &bytes);
     }
     next
 }
@@ -92,7 +156,7 @@ fn encoded(
 ) -> [u8; RECORD_LENGTH]
     ensures { λ r. ⌜ r ≡ encode configWidth trigger (take cellCount cells) connectors ⌝ }
 {
-    let first = [1, 0, 1, trigger];
+    let first = [TRIGGER_TAG, 0, TRIGGER_SIZE, trigger];
     let mut out = [0u8; RECORD_LENGTH];
     text::copy(&mut out, 0, &first);
     with_connectors(with_cells(out, cells), connectors)
@@ -100,11 +164,11 @@ fn encoded(
 
 // ---- bytes in
 
-// Two bytes as a number, high first.
-fn pair(high: u8, low: u8) -> u16
+// The two bytes of a configuration, high first.
+fn pair(high: u8, low: u8) -> Config
     ensures { λ r. ⌜ r ≡ high * 256 + low ⌝ }
 {
-    high as u16 * 256 + low as u16
+    high as Config * 256 + low as Config
 }
 
 // The cell whose field is number i.
@@ -113,16 +177,21 @@ fn cell_in(bytes: &[u8], i: usize) -> Cell
     requires { ⌜ i < cellCount ⌝ }
     ensures { λ r. ⌜ r ≡ cellIn configWidth (now (bytes .entry)) i ⌝ }
 {
-    let at = 4 + i * 11;
-    let slots = [bytes[at + 7], bytes[at + 8], bytes[at + 9], bytes[at + 10]];
+    let at = TRIGGER_LENGTH + i * CELL_LENGTH;
+    let slots = [
+        bytes[at + X_AT],
+        bytes[at + Y_AT],
+        bytes[at + Z_AT],
+        bytes[at + F_AT],
+    ];
     let state = State {
         bit: false,
         count: Pulses(0),
         pulse: false,
     };
     Cell {
-        kind: bytes[at + 4],
-        config: pair(bytes[at + 5], bytes[at + 6]),
+        kind: bytes[at + KIND_AT],
+        config: pair(bytes[at + HIGH_AT], bytes[at + LOW_AT]),
         slots: slots,
         state: state,
     }
@@ -134,10 +203,10 @@ fn connector_in(bytes: &[u8], k: usize) -> Connector
     requires { ⌜ k < connectorCount ⌝ }
     ensures { λ r. ⌜ r ≡ connectorIn cellCount configWidth (now (bytes .entry)) k ⌝ }
 {
-    let at = 180 + k * 6;
+    let at = CONNECTORS_AT + k * CONNECTOR_LENGTH;
     Connector {
-        kind: bytes[at + 4],
-        source: bytes[at + 5],
+        kind: bytes[at + KIND_AT],
+        source: bytes[at + SOURCE_AT],
     }
 }
 
@@ -194,7 +263,7 @@ pub fn load(card: Card, bytes: &[u8]) -> Loaded
     if bytes.len() != RECORD_LENGTH {
         return Loaded { card: card, k: 14 };
     }
-    let trigger = bytes[3];
+    let trigger = bytes[HEAD];
     let old = card.cells;
     let cells = cells_in(bytes, old);
     let connectors = connectors_in(bytes);

@@ -1,13 +1,21 @@
 -- `card::edits::current_cell` meets its contract: the test is whether the pointer stands at one.
-use Rattle.card.proofs.Places.{among-bounds}
+use mathlib.Core.Path.{sym, _∙_}
 use native.Mathlib.Omega.{arith}
+use Rattle.card.specs.Address.{cellCount, firstCell}
 use Rattle.card.specs.Edits.{currentCell}
+use Rattle.card.proofs.Places.{among-bounds}
 use borrow.Author.Needs.{needs}
 use Rattle.card.proofs.edits.current_cell.Statement.{statement}
 use Rattle.card.proofs.edits.current_cell.Tie as tie
 
+cast-is-cell : tie.Need-cast-is-cell
+cast-is-cell c = search needs
+
+is-cell-requires : tie.Need-is-cell-requires
+is-cell-requires c κs = search needs
+
 sub-at : tie.Need-sub-at
-sub-at c = among-bounds 1 16 _ (c .if1 .taken) .0
+sub-at c = among-bounds firstCell cellCount _ (sym (c .before .is-cell .ensures) ∙ c .if1 .taken) .0
 
 cast-at : tie.Need-cast-at
 cast-at c = search needs
@@ -16,16 +24,18 @@ mul-result : tie.Need-mul-result
 mul-result c = search needs
 
 element-copy-out-result : tie.Need-element-copy-out-result
-element-copy-out-result c = omega (arith, among-bounds 1 16 (c .before .args .t1 .pointer) (c .if1 .taken))
+element-copy-out-result c =
+    let here = sym (c .before .is-cell .ensures) ∙ c .if1 .taken in
+    omega (arith, among-bounds firstCell cellCount (c .before .before .args .t1 .pointer) here)
 
 returns : tie.Need-returns
 unfolding currentCell
-returns c = rw (c .before .if1 .taken)
+returns c = rw (sym (c .before .before .is-cell .ensures) ∙ c .before .if1 .taken)
 
 returns-2 : tie.Need-returns-2
 unfolding currentCell
-returns-2 c = rw (c .if1 .left)
+returns-2 c = rw (sym (c .before .is-cell .ensures) ∙ c .if1 .left)
 
 pub current-cell-spec : {M : Type 1} → statement M
 current-cell-spec =
-    tie.close (tie.spec sub-at cast-at mul-result element-copy-out-result returns returns-2)
+    tie.close (tie.spec cast-is-cell is-cell-requires sub-at cast-at mul-result element-copy-out-result returns returns-2)

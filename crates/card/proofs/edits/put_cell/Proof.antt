@@ -1,13 +1,21 @@
 -- `card::edits::put_cell` meets its contract: one element is replaced, and its bit of the edits set, where the pointer stands at a cell.
-use Rattle.card.proofs.Places.{among-bounds}
+use mathlib.Core.Path.{sym, _∙_}
 use native.Mathlib.Omega.{arith}
+use Rattle.card.specs.Address.{cellCount, firstCell}
 use Rattle.card.specs.Edits.{putCell}
+use Rattle.card.proofs.Places.{among-bounds}
 use borrow.Author.Needs.{needs}
 use Rattle.card.proofs.edits.put_cell.Statement.{statement}
 use Rattle.card.proofs.edits.put_cell.Tie as tie
 
+cast-is-cell : tie.Need-cast-is-cell
+cast-is-cell c = search needs
+
+is-cell-requires : tie.Need-is-cell-requires
+is-cell-requires c κs = search needs
+
 sub-i : tie.Need-sub-i
-sub-i c = among-bounds 1 16 _ (c .if1 .taken) .0
+sub-i c = among-bounds firstCell cellCount _ (sym (c .before .is-cell .ensures) ∙ c .if1 .taken) .0
 
 cast-i : tie.Need-cast-i
 cast-i c = search needs
@@ -19,23 +27,29 @@ mul-cell : tie.Need-mul-cell
 mul-cell c = search needs
 
 element-set-from-cell : tie.Need-element-set-from-cell
-element-set-from-cell c = omega (arith, among-bounds 1 16 (c .before .args .card .pointer) (c .if1 .taken))
+element-set-from-cell c =
+    let here = sym (c .before .is-cell .ensures) ∙ c .if1 .taken in
+    omega (arith, among-bounds firstCell cellCount (c .before .before .args .card .pointer) here)
 
 with-set16-requires : tie.Need-with-set16-requires
-with-set16-requires c κs = omega (arith, among-bounds 1 16 (c .before .args .card .pointer) (c .if1 .taken))
+with-set16-requires c κs =
+    let here = sym (c .before .is-cell .ensures) ∙ c .if1 .taken in
+    omega (arith, among-bounds firstCell cellCount (c .before .before .args .card .pointer) here)
 
 returns : tie.Need-returns
 unfolding putCell
-returns c = rw (c .before .if1 .taken, c .with-set16 .ensures)
+returns c = rw (sym (c .before .before .is-cell .ensures) ∙ c .before .if1 .taken, c .with-set16 .ensures)
 
 returns-2 : tie.Need-returns-2
 unfolding putCell
-returns-2 c = rw (c .if1 .left)
+returns-2 c = rw (sym (c .before .is-cell .ensures) ∙ c .if1 .left)
 
 pub put-cell-spec : {M : Type 1} → statement M
 put-cell-spec =
     tie.close
     (tie.spec
+    cast-is-cell
+    is-cell-requires
     sub-i
     cast-i
     cast-at

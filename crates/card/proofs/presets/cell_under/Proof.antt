@@ -13,6 +13,9 @@ byte-requires c κs = search needs
 cast-first : tie.Need-cast-first
 cast-first c = search needs
 
+cast-first-2 : tie.Need-cast-first-2
+cast-first-2 c = search needs
+
 add-first : tie.Need-add-first
 add-first c = search needs
 
@@ -51,6 +54,7 @@ cell-under-spec =
     covers-requires
     byte-requires
     cast-first
+    cast-first-2
     add-first
     either-requires
     bit-requires

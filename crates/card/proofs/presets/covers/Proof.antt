@@ -16,14 +16,14 @@ byte-requires-2 c κs = search needs
 cast-count : tie.Need-cast-count
 cast-count c = search needs
 
+cast-place : tie.Need-cast-place
+cast-place c = search needs
+
+add-place : tie.Need-add-place
+add-place c = search needs
+
 add-result : tie.Need-add-result
 add-result c = search needs
-
-add-result-2 : tie.Need-add-result-2
-add-result-2 c = search needs
-
-add-result-3 : tie.Need-add-result-3
-add-result-3 c = search needs
 
 returns : tie.Need-returns
 unfolding covers
@@ -37,7 +37,7 @@ covers-spec =
     cast-from
     byte-requires-2
     cast-count
+    cast-place
+    add-place
     add-result
-    add-result-2
-    add-result-3
     returns)

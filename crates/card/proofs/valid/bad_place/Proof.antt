@@ -1,12 +1,18 @@
--- `card::valid::bad_place` meets its contract: the code is the definition written out.
-use mathlib.Core.Path.{refl}
+-- `card::valid::bad_place` meets its contract: the place is one of neither kind.
+use borrow.Author.Needs.{needs}
 use Rattle.card.specs.Valid.{badPlace}
 use Rattle.card.proofs.valid.bad_place.Statement.{statement}
 use Rattle.card.proofs.valid.bad_place.Tie as tie
 
+is-cell-requires : tie.Need-is-cell-requires
+is-cell-requires c κs = search needs
+
+is-connector-requires : tie.Need-is-connector-requires
+is-connector-requires c κs = search needs
+
 returns : tie.Need-returns
 unfolding badPlace
-returns c = refl
+returns c = rw (c .before .is-cell .ensures, c .is-connector .ensures)
 
 pub bad-place-spec : {M : Type 1} → statement M
-bad-place-spec = tie.close (tie.spec returns)
+bad-place-spec = tie.close (tie.spec is-cell-requires is-connector-requires returns)
