@@ -1,6 +1,6 @@
 -- Laws of settings: a test of every entry of a list, as a loop makes it, at one entry, and after a change; and what valid settings are.
 use Prim.Native.Nat.{ℕ, zero, suc, _+_, _≤_, _<_, zero-le}
-use mathlib.Core.Path.{_≡_, refl, sym, ap, _∙_}
+use mathlib.Core.Path.{_≡_, refl, sym, ap, ap₂, _∙_}
 use mathlib.Core.Bool.{Bool, true, false, not, _&&_, and-true, and-assoc}
 use mathlib.Core.List.{List, [], _∷_, _++_, map}
 use native.Mathlib.Nat.{not-suc-le-zero, le-of-suc-le-suc, lt-suc-self, le-trans}
@@ -27,9 +27,16 @@ module _ {A : Type 0} (f : A → Bool) where
   every-snoc [] x = and-true (f x)
   every-snoc (y ∷ ys) x = ap (λ (b : Bool). f y && b) (every-snoc ys x) ∙ sym (and-assoc (f y) (every f ys) (f x))
 
-  -- the first i entries were tested, and now the next one
-  pub every-next : (i : ℕ) (l : List A) (d : A) → i < length l → every f (take (i + 1) l) ≡ (every f (take i l) && f (getD l i d))
-  every-next i l d h = rw (add-one i, take-suc l i d h) (every-snoc (take i l) (getD l i d))
+  -- a loop tests the entries in order: after i turns the first i, of count
+  abbrev pub Tested : (count : ℕ) → List A → Bool → ℕ → Type 0
+  Tested count l ok i = (i ≤ count) × (ok ≡ every f (take i l))
+
+  pub tested-next : (count i : ℕ) (l : List A) (d : A) (ok v : Bool) → Tested count l ok i → i < count → i < length l → v ≡ f (getD l i d)
+      → Tested count l (ok && v) (i + 1)
+  tested-next count i l d ok v so-far h inside e = (
+    omega arith,
+    ap₂ (λ (x y : Bool). x && y) (so-far .1) e ∙ sym (rw (add-one i, take-suc l i d inside) (every-snoc (take i l) (getD l i d))),
+  )
 
   -- what every entry passes, an entry passes
   pub every-at : (l : List A) (i : ℕ) (d : A) → every f l ≡ true → i < length l → f (getD l i d) ≡ true

@@ -1,5 +1,5 @@
 -- Laws of bytes: in fields of one length, as numbers, and compared.
-use Prim.Native.Nat.{ℕ, zero, suc, _+_, _*_, _/_, _%_, _^_, _<_}
+use Prim.Native.Nat.{ℕ, zero, suc, _+_, _*_, _/_, _%_, _^_, _≤_, _<_, zero-le}
 use mathlib.Core.Path.{_≡_, refl, sym, ap, ap₂, _∙_}
 use mathlib.Core.Bool.{Bool, true, false, _&&_, false≢true, and-assoc}
 use mathlib.Core.List.{List, [], _∷_, _++_, map, append-nil, append-assoc}
@@ -10,7 +10,7 @@ use native.Mathlib.Omega.{arith}
 use lib.Arith.{mod-mul, digits-div, digits-mod}
 use lib.Dec.{eqb, lit<}
 use lib.ListN.{length, getD, take, drop, length-append}
-use lib.Seq.{sets, take-suc, drop-cons, length-take-le, drop-append-add}
+use lib.Seq.{sets, length-sets, take-suc, drop-cons, length-take-le, drop-append-add}
 use borrow.Author.Tests.{eqb-true, eq-eqb}
 use Rattle.text.proofs.Stores.{sets-append}
 use Rattle.cells.proofs.Rows.{and-left, and-right}
@@ -38,7 +38,19 @@ module _ {A : Type 0} (f : ℕ → A → List ℕ) where
       rw (add-one i, take-suc l i d h)
       (fields-snoc 0 (take i l) (getD l i d) ∙ ap (λ (k : ℕ). fieldsFrom f 0 (take i l) ++ f k (getD l i d)) n)
 
-  -- the fields of the first i entries were stored from `at` on, and now that of the next one
+  -- a loop stores the fields, of length w, from `at` on in a buffer of this size: after i turns those of the first i entries, of count
+  abbrev pub FieldsStored : (w at size count : ℕ) → List A → (out next : List ℕ) → ℕ → Type 0
+  FieldsStored w at size count l out next i =
+      (i ≤ count)
+      × (next ≡ sets out at (fieldsFrom f 0 (take i l)))
+      × (length (fieldsFrom f 0 (take i l)) ≡ i * w)
+      × (length next ≡ size)
+
+  pub fields-none : (w at size count : ℕ) (l : List A) (out : List ℕ) → length out ≡ size → FieldsStored w at size count l out out 0
+  unfolding fieldsFrom
+  fields-none w at size count l out long = (zero-le, refl, sym (zero-mul w), long)
+
+  -- the fields of the first i entries were stored, and now that of the next one
   module _ (w at i : ℕ) (l : List A) (d : A) (bytes : List ℕ)
       (h : i < length l) (e : bytes ≡ f i (getD l i d)) (n : length (fieldsFrom f 0 (take i l)) ≡ i * w) where
     pub field-next : (out next : List ℕ) (place : ℕ) → next ≡ sets out at (fieldsFrom f 0 (take i l)) → place ≡ at + i * w
@@ -54,6 +66,11 @@ module _ {A : Type 0} (f : ℕ → A → List ℕ) where
     field-longer long =
         let one : length (f i (getD l i d)) ≡ w = sym (ap length e) ∙ long in
         ap length (fields-next l i d h) ∙ length-append (fieldsFrom f 0 (take i l)) (f i (getD l i d)) ∙ omega (arith, add-mul i 1 w)
+
+    pub fields-stored-next : (size count : ℕ) (out next after : List ℕ) (place : ℕ) → FieldsStored w at size count l out next i → i < count
+        → length bytes ≡ w → place ≡ at + i * w → after ≡ sets next place bytes → FieldsStored w at size count l out after (i + 1)
+    fields-stored-next size count out next after place so-far inside long p stored =
+        (omega arith, stored ∙ field-next out next place (so-far .1) p, field-longer long, ap length stored ∙ length-sets next place bytes ∙ so-far .3)
 
   -- fields that do not see the difference
   pub fields-map : (g : A → A) → ((k : ℕ) (x : A) → f k (g x) ≡ f k x) → (s : ℕ) (l : List A) → fieldsFrom f s (map g l) ≡ fieldsFrom f s l

@@ -233,6 +233,10 @@ pub load-refused : (n width : ℕ) (d : Card) (bytes : List ℕ) → eqb (loadNu
 unfolding loaded
 load-refused n width d bytes e = rw e
 
+pub refused-with : (n width : ℕ) (d : Card) (bytes : List ℕ) (k : ℕ) → loadNumber n width bytes ≡ k → eqb k 0 ≡ false
+    → (d ≡ loaded n width d bytes) × (k ≡ loadNumber n width bytes)
+refused-with n width d bytes k e other = (sym (load-refused n width d bytes (ap (λ (k : ℕ). eqb k 0) e ∙ other)), sym e)
+
 -- bytes of another length are not those of the settings in them, and are refused with 14
 pub other-length : (n width : ℕ) (bytes : List ℕ) → (length bytes ≡ recordLength n width → ⊥)
     → sameBytes (encode width (triggerIn bytes) (cellsIn n width bytes) (connectorsIn n width bytes)) bytes ≡ false

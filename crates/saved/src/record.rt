@@ -223,18 +223,17 @@ fn cells_in(bytes: &[u8], cells: [Cell; CELLS]) -> [Cell; CELLS]
     next
 }
 
-// All connectors of a record.
-fn connectors_in(bytes: &[u8]) -> [Connector; CONNECTORS]
+// So the connectors.
+fn connectors_in(bytes: &[u8], connectors: [Connector; CONNECTORS]) -> [Connector; CONNECTORS]
     requires { ⌜ length (now bytes) ≡ recordLength cellCount configWidth ⌝ }
     ensures { λ r. ⌜ r ≡ connectorsIn cellCount configWidth (now (bytes .entry)) ⌝ }
 {
-    let first = connector_in(bytes, 0);
-    let mut connectors = [first; CONNECTORS];
-    for k in 1..CONNECTORS {
+    let mut next = connectors;
+    for k in 0..CONNECTORS {
         let c = connector_in(bytes, k);
-        connectors[k] = c;
+        next[k] = c;
     }
-    connectors
+    next
 }
 
 // The same bytes.
@@ -264,9 +263,10 @@ pub fn load(card: Card, bytes: &[u8]) -> Loaded
         return Loaded { card: card, k: 14 };
     }
     let trigger = bytes[HEAD];
-    let old = card.cells;
-    let cells = cells_in(bytes, old);
-    let connectors = connectors_in(bytes);
+    let cells = card.cells;
+    let connectors = card.connectors;
+    let cells = cells_in(bytes, cells);
+    let connectors = connectors_in(bytes, connectors);
     let again = encoded(trigger, cells, connectors);
     if !same(&again, bytes) {
         return Loaded { card: card, k: 14 };

@@ -1,11 +1,11 @@
 -- `loads::put_hex` meets its contract: after i turns the digits of the first i bytes are stored.
-use Prim.Native.Nat.{_+_, _-_, _*_, _≤_, zero-le, _<_}
-use mathlib.Core.Path.{_≡_, refl, ap, _∙_}
+use Prim.Native.Nat.{_+_, _-_, _*_}
+use mathlib.Core.Path.{_≡_, refl}
 use native.Mathlib.Omega.{arith}
 use lib.ListN.{length, take}
-use lib.Seq.{sets, length-sets, take-all}
+use lib.Seq.{take-all}
 use Rattle.saved.specs.Record.{fieldsFrom}
-use Rattle.saved.proofs.Fields.{field-next, field-longer}
+use Rattle.saved.proofs.Fields.{FieldsStored, fields-none, fields-stored-next}
 use Rattle.loads.specs.Rows.{digitPair, hexOf}
 use borrow.Author.Needs.{needs}
 use Rattle.loads.proofs.put_hex.Statement.{statement}
@@ -13,18 +13,15 @@ use Rattle.loads.proofs.put_hex.Tie as tie
 
 abbrev Inv-loop : tie.InvT-loop
 Inv-loop out₀ at bytes i₀ i-end out i =
-    (i ≤ length bytes)
-    × (i-end ≡ length bytes)
-    × (out ≡ sets out₀ at (fieldsFrom digitPair 0 (take i bytes)))
-    × (length (fieldsFrom digitPair 0 (take i bytes)) ≡ i * 2)
-    × (length out ≡ length out₀)
+    (i-end ≡ length bytes) × FieldsStored digitPair 2 at (length out₀) (length bytes) bytes out₀ out i
 
 abbrev μ-loop : tie.MeasureT-loop
 μ-loop out₀ at bytes i₀ i-end out i = length bytes - i
 
 loop-holds : tie.Need-loop-holds Inv-loop μ-loop
-unfolding fieldsFrom
-loop-holds c = (zero-le, refl, refl, refl, refl)
+loop-holds c =
+    let a = c .before .before .args in
+    (refl, fields-none digitPair 2 (a .at) (length (a .out .now)) (length (a .bytes .now)) (a .bytes .now) (a .out .now) refl)
 
 shared-slice-read-digit-pair : tie.Need-shared-slice-read-digit-pair Inv-loop μ-loop
 shared-slice-read-digit-pair c = search needs
@@ -59,12 +56,11 @@ loop-again c =
     let i = l .loop .i in
     let bytes = a .bytes .now in
     let inv = l .loop .inv in
-    let h : i < length bytes = search needs in
-    let place : a .at + 2 * i ≡ a .at + i * 2 = omega arith in
-    let next = field-next digitPair 2 (a .at) i bytes 0 pair h (made .ensures) (inv .3) (a .out .now) (l .loop .out) _ (inv .2) place in
-    let stored = c .before .before .copy .ensures .0 ∙ next in
-    let longer = field-longer digitPair 2 (a .at) i bytes 0 pair h (made .ensures) (inv .3) (search needs) in
-    (search needs, refl, stored, longer, ap length stored ∙ simp length-sets)
+    let place : a .at + 2 * i ≡ a .at + i * 2 = omega arith in (
+      refl,
+      fields-stored-next digitPair 2 (a .at) i bytes 0 pair (search needs) (made .ensures) (inv .1 .2) (length (a .out .now)) (length bytes)
+          (a .out .now) (l .loop .out) _ _ (inv .1) (search needs) (search needs) place (c .before .before .copy .ensures .0),
+    )
 
 mul-result : tie.Need-mul-result Inv-loop μ-loop
 mul-result c = search needs
@@ -83,8 +79,8 @@ returns c =
     let bytes = a .bytes .now in
     let end : l .i ≡ length bytes = search needs in
     let all : take (l .i) bytes ≡ bytes = take-all (l .i) bytes (search needs) in
-    let long : length (fieldsFrom digitPair 0 bytes) ≡ length bytes * 2 = rw (all, end) at (l .inv .3) in
-    (rw all at (l .inv .2), (omega (arith, long), omega arith))
+    let long : length (fieldsFrom digitPair 0 bytes) ≡ length bytes * 2 = rw (all, end) at (l .inv .1 .2) in
+    (rw all at (l .inv .1 .1), (omega (arith, long), omega arith))
 
 pub put-hex-spec : {M : Type 1} → statement M
 put-hex-spec =

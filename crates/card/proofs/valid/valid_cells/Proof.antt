@@ -1,19 +1,17 @@
 -- `card::valid::valid_cells` meets its contract: after i turns the first i entries are tested.
-use Prim.Native.Nat.{_-_, _≤_, zero-le}
-use mathlib.Core.Bool.{Bool, _&&_}
-use mathlib.Core.Path.{_≡_, refl, _∙_, ap₂, sym}
+use Prim.Native.Nat.{_-_, zero-le}
+use mathlib.Core.Path.{_≡_, refl}
 use native.Mathlib.Omega.{arith}
-use lib.ListN.{take}
 use borrow.Author.Needs.{needs}
 use Rattle.card.specs.Address.{cellCount}
 use Rattle.card.specs.Valid.{validCell, every}
 use Rattle.card.specs.Fresh.{noCell}
-use Rattle.card.proofs.Settings.{every-next}
+use Rattle.card.proofs.Settings.{Tested, tested-next}
 use Rattle.card.proofs.valid.valid_cells.Statement.{statement}
 use Rattle.card.proofs.valid.valid_cells.Tie as tie
 
 abbrev Inv-loop : tie.InvT-loop
-Inv-loop cells ok₀ i₀ ok i = (i ≤ cellCount) × (ok ≡ every (validCell cellCount) (take i cells))
+Inv-loop cells ok₀ i₀ ok i = Tested (validCell cellCount) cellCount cells ok i
 
 abbrev μ-loop : tie.MeasureT-loop
 μ-loop cells ok₀ i₀ ok i = cellCount - i
@@ -39,12 +37,9 @@ loop-less c = search needs
 
 loop-again : tie.Need-loop-again Inv-loop μ-loop
 loop-again c =
-    let a = c .before .before .before .before .args in
-    let l = c .before .before .before .loop in (
-      omega arith,
-      ap₂ (λ (x y : Bool). x && y) (l .inv .1) (c .valid-cell .ensures)
-          ∙ sym (every-next (validCell cellCount) (l .i) (a .t1) noCell (search needs)),
-    )
+    let l = c .before .before .before .loop in
+    tested-next (validCell cellCount) cellCount (l .i) (c .before .before .before .before .args .t1) noCell _ _ (l .inv)
+    (search needs) (search needs) (c .valid-cell .ensures)
 
 returns : tie.Need-returns Inv-loop μ-loop
 returns c =

@@ -1,20 +1,18 @@
 -- `card::valid::valid_connectors` meets its contract: after k turns the first k entries are tested.
-use Prim.Native.Nat.{_-_, _≤_, zero-le}
-use mathlib.Core.Bool.{Bool, _&&_}
-use mathlib.Core.Path.{_≡_, refl, _∙_, ap₂, sym, ap}
+use Prim.Native.Nat.{_-_, zero-le}
+use mathlib.Core.Path.{_≡_, refl, _∙_, ap}
 use native.Mathlib.Omega.{arith}
-use lib.ListN.{take}
 use lib.Seq.{take-all}
 use borrow.Author.Needs.{needs}
 use Rattle.card.specs.Address.{cellCount, connectorCount}
 use Rattle.card.specs.Valid.{validConnector, every}
 use Rattle.card.specs.Connectors.{noConnector}
-use Rattle.card.proofs.Settings.{every-next}
+use Rattle.card.proofs.Settings.{Tested, tested-next}
 use Rattle.card.proofs.valid.valid_connectors.Statement.{statement}
 use Rattle.card.proofs.valid.valid_connectors.Tie as tie
 
 abbrev Inv-loop : tie.InvT-loop
-Inv-loop connectors ok₀ k₀ ok k = (k ≤ connectorCount) × (ok ≡ every (validConnector cellCount) (take k connectors))
+Inv-loop connectors ok₀ k₀ ok k = Tested (validConnector cellCount) connectorCount connectors ok k
 
 abbrev μ-loop : tie.MeasureT-loop
 μ-loop connectors ok₀ k₀ ok k = connectorCount - k
@@ -40,12 +38,9 @@ loop-less c = search needs
 
 loop-again : tie.Need-loop-again Inv-loop μ-loop
 loop-again c =
-    let a = c .before .before .before .before .args in
-    let l = c .before .before .before .loop in (
-      omega arith,
-      ap₂ (λ (x y : Bool). x && y) (l .inv .1) (c .valid-connector .ensures)
-          ∙ sym (every-next (validConnector cellCount) (l .k) (a .t1) noConnector (search needs)),
-    )
+    let l = c .before .before .before .loop in
+    tested-next (validConnector cellCount) connectorCount (l .k) (c .before .before .before .before .args .t1) noConnector _ _ (l .inv)
+    (search needs) (search needs) (c .valid-connector .ensures)
 
 returns : tie.Need-returns Inv-loop μ-loop
 returns c =

@@ -1,43 +1,36 @@
--- `saved::record::connectors_in` meets its contract: after k turns the first k entries are those of the definition.
-use Prim.Native.Nat.{_-_, _≤_}
+-- `saved::record::connectors_in` meets its contract: after k turns the first k entries are those of the record.
+use Prim.Native.Nat.{_-_, _≤_, zero-le}
 use mathlib.Core.Path.{_≡_, refl}
 use mathlib.Core.List.{_++_}
-use native.Mathlib.Nat.{le-refl}
 use native.Mathlib.Omega.{arith}
-use lib.ListN.{drop, length, replicate}
+use lib.ListN.{drop}
 use borrow.Author.Needs.{needs}
 use Rattle.words.specs.Listed.{listed}
 use Rattle.words.proofs.Listed.{listed-next, listed-done}
 use Rattle.card.specs.Address.{cellCount, connectorCount}
+use Rattle.card.specs.Connectors.{noConnector}
 use Rattle.saved.specs.Record.{configWidth, connectorIn}
 use Rattle.saved.proofs.record.connectors_in.Statement.{statement}
 use Rattle.saved.proofs.record.connectors_in.Tie as tie
 
 abbrev Inv-loop : tie.InvT-loop
-Inv-loop bytes connectors₀ k₀ connectors k =
-    (1 ≤ k)
-    × (k ≤ connectorCount)
-    × (connectors ≡ listed (connectorIn cellCount configWidth bytes) k ++ drop k connectors₀)
-    × (length connectors₀ ≡ connectorCount)
+Inv-loop bytes next₀ k₀ next k = (k ≤ connectorCount) × (next ≡ listed (connectorIn cellCount configWidth bytes) k ++ drop k next₀)
 
 abbrev μ-loop : tie.MeasureT-loop
-μ-loop bytes connectors₀ k₀ connectors k = connectorCount - k
+μ-loop bytes next₀ k₀ next k = connectorCount - k
+
+loop-holds : tie.Need-loop-holds Inv-loop μ-loop
+unfolding listed
+loop-holds c = (zero-le, refl)
 
 connector-in-requires : tie.Need-connector-in-requires Inv-loop μ-loop
 connector-in-requires c κs = search needs
 
-loop-holds : tie.Need-loop-holds Inv-loop μ-loop
-unfolding listed
-loop-holds c = (omega arith, omega arith, rw (c .connector-in .ensures), refl)
+mul-next : tie.Need-mul-next Inv-loop μ-loop
+mul-next c = search needs
 
-connector-in-requires-2 : tie.Need-connector-in-requires-2 Inv-loop μ-loop
-connector-in-requires-2 c κs = search needs
-
-mul-connectors : tie.Need-mul-connectors Inv-loop μ-loop
-mul-connectors c = search needs
-
-array-set-from-connectors : tie.Need-array-set-from-connectors Inv-loop μ-loop
-array-set-from-connectors c = search needs
+array-set-from-next : tie.Need-array-set-from-next Inv-loop μ-loop
+array-set-from-next c = search needs
 
 add-k : tie.Need-add-k Inv-loop μ-loop
 add-k c = search needs
@@ -48,16 +41,16 @@ loop-less c = search needs
 loop-again : tie.Need-loop-again Inv-loop μ-loop
 loop-again c =
     let l = c .before .before .loop in
-    let f = connectorIn cellCount configWidth (c .before .before .before .before .before .args .bytes .now) in
-    (omega arith, omega arith, listed-next f (l .k) _ (l .connectors) _ (f 0) (l .inv .2) (c .connector-in2 .ensures) (omega arith), l .inv .3)
+    let a = c .before .before .before .before .args in
+    let f = connectorIn cellCount configWidth (a .bytes .now) in
+    (omega arith, listed-next f (l .k) (a .connectors) (l .next) _ noConnector (l .inv .1) (c .connector-in .ensures) (search needs))
 
 returns : tie.Need-returns Inv-loop μ-loop
 returns c =
     let l = c .before .loop in
-    let f = connectorIn cellCount configWidth (c .before .before .before .before .args .bytes .now) in
+    let a = c .before .before .before .args in
     let end : l .k ≡ connectorCount = omega arith in
-    let blank = replicate connectorCount (c .before .before .connector-in .result) in
-    listed-done f connectorCount blank (l .connectors) (rw end at (l .inv .2)) (le-refl connectorCount)
+    listed-done (connectorIn cellCount configWidth (a .bytes .now)) connectorCount (a .connectors) (l .next) (rw end at (l .inv .1)) (search needs)
 
 pub connectors-in-spec : {M : Type 1} → statement M
 connectors-in-spec =
@@ -65,11 +58,10 @@ connectors-in-spec =
     (tie.spec
     Inv-loop
     μ-loop
-    connector-in-requires
     loop-holds
-    connector-in-requires-2
-    mul-connectors
-    array-set-from-connectors
+    connector-in-requires
+    mul-next
+    array-set-from-next
     add-k
     loop-less
     loop-again

@@ -1,30 +1,30 @@
 -- `saved::record::with_cells` meets its contract: after i turns the fields of the first i entries are stored.
-use Prim.Native.Nat.{_-_, _*_, _≤_, zero-le, _<_}
-use mathlib.Core.Path.{_≡_, refl, ap, _∙_}
+use Prim.Native.Nat.{ℕ, _-_}
+use mathlib.Core.Path.{_≡_}
 use native.Mathlib.Omega.{arith}
-use lib.ListN.{length, take}
-use lib.Seq.{sets, length-sets}
 use borrow.Author.Needs.{needs}
 use Rattle.card.specs.Fresh.{noCell}
 use Rattle.card.specs.Address.{cellCount}
-use Rattle.saved.specs.Record.{configWidth, triggerLength, cellLength, recordLength, cellField, fieldsFrom}
-use Rattle.saved.proofs.Fields.{field-next, field-longer}
+use Rattle.saved.specs.Record.{configWidth, triggerLength, cellLength, recordLength, cellField}
+use Rattle.saved.proofs.Fields.{FieldsStored, fields-none, fields-stored-next}
 use Rattle.saved.proofs.record.with_cells.Statement.{statement}
 use Rattle.saved.proofs.record.with_cells.Tie as tie
 
+-- the fields are stored from here on, in a record of this size
+abbrev start : ℕ
+start = triggerLength
+
+abbrev size : ℕ
+size = recordLength cellCount configWidth
+
 abbrev Inv-loop : tie.InvT-loop
-Inv-loop cells next₀ i₀ next i =
-    (i ≤ cellCount)
-    × (next ≡ sets next₀ triggerLength (fieldsFrom (cellField configWidth) 0 (take i cells)))
-    × (length (fieldsFrom (cellField configWidth) 0 (take i cells)) ≡ i * cellLength configWidth)
-    × (length next ≡ recordLength cellCount configWidth)
+Inv-loop cells next₀ i₀ next i = FieldsStored (cellField configWidth) (cellLength configWidth) start size cellCount cells next₀ next i
 
 abbrev μ-loop : tie.MeasureT-loop
 μ-loop cells next₀ i₀ next i = cellCount - i
 
 loop-holds : tie.Need-loop-holds Inv-loop μ-loop
-unfolding fieldsFrom
-loop-holds c = (zero-le, refl, refl, search needs)
+loop-holds c = fields-none (cellField configWidth) (cellLength configWidth) start size cellCount (c .args .t2) _ (search needs)
 
 cast-at : tie.Need-cast-at Inv-loop μ-loop
 cast-at c = search needs
@@ -64,17 +64,8 @@ loop-again c =
     let a = c .before .before .before .before .before .before .before .before .args in
     let l = c .before .before .before .before .before .before .before .loop in
     let made = c .before .before .before .before .cell-bytes in
-    let h : l .i < length (a .t2) = search needs in
-    let stored =
-    c .before .copy .ensures .0
-    ∙ field-next (cellField configWidth) (cellLength configWidth) triggerLength (l .i) (a .t2) noCell (made .result)
-    h (made .ensures) (l .inv .2) (a .out) (l .next) _ (l .inv .1) (omega arith) in (
-      omega arith,
-      stored,
-      field-longer (cellField configWidth) (cellLength configWidth) triggerLength (l .i) (a .t2) noCell (made .result)
-          h (made .ensures) (l .inv .2) (search needs),
-      ap length stored ∙ simp length-sets (search needs),
-    )
+    fields-stored-next (cellField configWidth) (cellLength configWidth) start (l .i) (a .t2) noCell (made .result) (search needs) (made .ensures) (l .inv .2)
+    size cellCount (a .out) (l .next) _ _ (l .inv) (search needs) (search needs) (omega arith) (c .before .copy .ensures .0)
 
 returns : tie.Need-returns Inv-loop μ-loop
 returns c =

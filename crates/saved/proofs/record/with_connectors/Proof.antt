@@ -1,30 +1,32 @@
 -- `saved::record::with_connectors` meets its contract: after k turns the fields of the first k entries are stored.
-use Prim.Native.Nat.{_-_, _*_, _+_, _≤_, zero-le, _<_}
-use mathlib.Core.Path.{_≡_, refl, ap, _∙_}
+use Prim.Native.Nat.{ℕ, _-_, _*_, _+_}
+use mathlib.Core.Path.{_≡_}
 use native.Mathlib.Omega.{arith}
-use lib.ListN.{length, take}
-use lib.Seq.{sets, length-sets, take-all}
+use lib.ListN.{take}
+use lib.Seq.{take-all}
 use borrow.Author.Needs.{needs}
 use Rattle.card.specs.Connectors.{noConnector}
 use Rattle.card.specs.Address.{cellCount, connectorCount}
-use Rattle.saved.specs.Record.{configWidth, triggerLength, cellLength, connectorLength, recordLength, connectorField, fieldsFrom}
-use Rattle.saved.proofs.Fields.{field-next, field-longer}
+use Rattle.saved.specs.Record.{configWidth, triggerLength, cellLength, connectorLength, recordLength, connectorField}
+use Rattle.saved.proofs.Fields.{FieldsStored, fields-none, fields-stored-next}
 use Rattle.saved.proofs.record.with_connectors.Statement.{statement}
 use Rattle.saved.proofs.record.with_connectors.Tie as tie
 
+-- the fields are stored from here on, in a record of this size
+abbrev start : ℕ
+start = triggerLength + cellCount * cellLength configWidth
+
+abbrev size : ℕ
+size = recordLength cellCount configWidth
+
 abbrev Inv-loop : tie.InvT-loop
-Inv-loop connectors next₀ k₀ next k =
-    (k ≤ connectorCount)
-    × (next ≡ sets next₀ (triggerLength + cellCount * cellLength configWidth) (fieldsFrom (connectorField) 0 (take k connectors)))
-    × (length (fieldsFrom (connectorField) 0 (take k connectors)) ≡ k * connectorLength)
-    × (length next ≡ recordLength cellCount configWidth)
+Inv-loop connectors next₀ k₀ next k = FieldsStored connectorField connectorLength start size connectorCount connectors next₀ next k
 
 abbrev μ-loop : tie.MeasureT-loop
 μ-loop connectors next₀ k₀ next k = connectorCount - k
 
 loop-holds : tie.Need-loop-holds Inv-loop μ-loop
-unfolding fieldsFrom
-loop-holds c = (zero-le, refl, refl, search needs)
+loop-holds c = fields-none connectorField connectorLength start size connectorCount (c .args .t2) _ (search needs)
 
 cast-at : tie.Need-cast-at Inv-loop μ-loop
 cast-at c = search needs
@@ -64,17 +66,8 @@ loop-again c =
     let a = c .before .before .before .before .before .before .before .before .args in
     let l = c .before .before .before .before .before .before .before .loop in
     let made = c .before .before .before .before .connector-bytes in
-    let h : l .k < length (a .t2) = search needs in
-    let stored =
-    c .before .copy .ensures .0
-    ∙ field-next connectorField connectorLength (triggerLength + cellCount * cellLength configWidth) (l .k) (a .t2) noConnector (made .result)
-    h (made .ensures) (l .inv .2) (a .out) (l .next) _ (l .inv .1) (omega arith) in (
-      omega arith,
-      stored,
-      field-longer connectorField connectorLength (triggerLength + cellCount * cellLength configWidth) (l .k) (a .t2) noConnector (made .result)
-          h (made .ensures) (l .inv .2) (search needs),
-      ap length stored ∙ simp length-sets (search needs),
-    )
+    fields-stored-next connectorField connectorLength start (l .k) (a .t2) noConnector (made .result) (search needs) (made .ensures) (l .inv .2)
+    size connectorCount (a .out) (l .next) _ _ (l .inv) (search needs) (search needs) (omega arith) (c .before .copy .ensures .0)
 
 returns : tie.Need-returns Inv-loop μ-loop
 returns c =
