@@ -16,7 +16,7 @@ use Rattle.card.specs.Address.{firstCell}
 use Rattle.card.specs.Change.{changed, pointed, editsCell}
 use Rattle.card.specs.Edits.{atCell, atConnector, withCell, withConnector, putCell, putConnector}
 use Rattle.card.specs.Edits.{move, setTrigger, home, setType, setConfig, setState, setSlots, setConnectorType, setSource}
-use Rattle.card.specs.Presets.{editedAfter, preset}
+use Rattle.card.specs.Presets.{editedWithPreset, preset}
 use Rattle.card.specs.Untouched.{Edit}
 use Rattle.card.proofs.EditLaws.{no-edit, move-edit, trigger-edit, home-edit, type-edit, config-edit, state-edit, slots-edit, connector-type-edit}
 use Rattle.card.proofs.EditLaws.{source-edit, preset-edit}
@@ -75,7 +75,7 @@ changed-bit n c Nothing i h = same-bit c i
 changed-bit n c (Pointer p) i h = same-bit c i
 changed-bit n c (Trigger t) i h = same-bit c i
 changed-bit n c Home i h = bit-ones n i h ∙ sym (or-true (bitAt (c .edited) i))
-changed-bit n c (Preset v) i h = bit-built (editedAfter c v) n i h
+changed-bit n c (Preset v) i h = bit-built (editedWithPreset c v) n i h
 changed-bit n c (Kind kind) i h = put-bit n c _ i
 changed-bit n c (Config v) i h = put-bit n c _ i
 changed-bit n c (State v) i h = put-bit n c _ i

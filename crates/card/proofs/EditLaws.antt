@@ -18,7 +18,7 @@ use Rattle.card.specs.declared.card.Connector.{Connector}
 use Rattle.card.specs.Fresh.{noCell}
 use Rattle.card.specs.Edits.{atCell, atConnector, withSettings, withCell, putCell, putConnector, move, setTrigger, home, setType, setConfig, setState}
 use Rattle.card.specs.Edits.{setSlots, setConnectorType, setSource}
-use Rattle.card.specs.Presets.{presetCell, has, cellAfter, editedAfter, preset}
+use Rattle.card.specs.Presets.{presetCell, has, cellWithPreset, editedWithPreset, preset}
 use Rattle.card.specs.Untouched.{Edit}
 
 -- new settings leave everything else: what is to be shown is of the cells and the edits alone
@@ -106,8 +106,8 @@ module _ (n : ℕ) (c : Card) where
   pub preset-edit : (v : ℕ) → Edit n c (preset n c v)
   unfolding preset
   preset-edit v =
-      settings-edit n c (c .trigger) (listed (cellAfter c v) n ++ drop n (c .cells)) _ (wordOf (editedAfter c v) n)
-      (λ i h e. or-left (bitAt (c .edited) i) _ (sym (bit-built (editedAfter c v) n i h) ∙ e))
+      settings-edit n c (c .trigger) (listed (cellWithPreset c v) n ++ drop n (c .cells)) _ (wordOf (editedWithPreset c v) n)
+      (λ i h e. or-left (bitAt (c .edited) i) _ (sym (bit-built (editedWithPreset c v) n i h) ∙ e))
       (λ i h e.
-      front-at (cellAfter c v) n (c .cells) i noCell h
-      ∙ unset (presetCell v i) (getD (c .cells) i noCell) (or-right (bitAt (c .edited) i) _ (sym (bit-built (editedAfter c v) n i h) ∙ e)))
+      front-at (cellWithPreset c v) n (c .cells) i noCell h
+      ∙ unset (presetCell v i) (getD (c .cells) i noCell) (or-right (bitAt (c .edited) i) _ (sym (bit-built (editedWithPreset c v) n i h) ∙ e)))

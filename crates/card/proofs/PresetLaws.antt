@@ -16,7 +16,7 @@ use Rattle.card.specs.Address.{connectorCount}
 use Rattle.card.specs.Connectors.{noConnector}
 use Rattle.card.specs.Edits.{withSettings}
 use Rattle.card.specs.Fresh.{noCell}
-use Rattle.card.specs.Presets.{Setting, has, settingOf, offered, presetCell, presetSource, cellAfter, connectorAfter, editedAfter, preset}
+use Rattle.card.specs.Presets.{Setting, has, settingOf, offered, presetCell, presetSource, cellWithPreset, connectorWithPreset, editedWithPreset, preset}
 
 -- a preset leaves the memory, the pointer and the trigger source
 pub preset-keeps : (n : ℕ) (c : Card) (v : ℕ) → let d = preset n c v in
@@ -34,10 +34,10 @@ pub preset-unoffered : (n : ℕ) (c : Card) (v : ℕ) → n ≤ length (c .cells
 unfolding offered presetCell presetSource preset
 preset-unoffered n c v hc hk he e =
     let none-set = no-setting (settingOf v) e in
-    let first = listed-same (cellAfter c v) (λ i. getD (c .cells) i noCell) n (λ i h. rw none-set) ∙ listed-take (c .cells) noCell n hc in
+    let first = listed-same (cellWithPreset c v) (λ i. getD (c .cells) i noCell) n (λ i h. rw none-set) ∙ listed-take (c .cells) noCell n hc in
     let cells = ap (λ (front : List Cell). front ++ drop n (c .cells)) first ∙ take-append-drop n (c .cells) in
-    let connectors = listed-same (connectorAfter c v) (λ k. getD (c .connectors) k noConnector) connectorCount (λ k h. rw none-set)
+    let connectors = listed-same (connectorWithPreset c v) (λ k. getD (c .connectors) k noConnector) connectorCount (λ k h. rw none-set)
     ∙ listed-take (c .connectors) noConnector connectorCount (omega arith)
     ∙ take-all connectorCount (c .connectors) (omega arith) in
-    let edited = built-same (editedAfter c v) (bitAt (c .edited)) n (λ i h. rw (none-set, or-false)) ∙ built-of-bits (c .edited) n he in
+    let edited = built-same (editedWithPreset c v) (bitAt (c .edited)) n (λ i h. rw (none-set, or-false)) ∙ built-of-bits (c .edited) n he in
     λ k. withSettings c (c .trigger) (cells k) (connectors k) (edited k)

@@ -14,8 +14,8 @@ use Rattle.words.specs.Listed.{listed}
 use Rattle.words.proofs.Listed.{listed-at}
 use Rattle.cells.proofs.Rows.{and-left, and-right}
 use Rattle.card.specs.Address.{firstCell}
-use Rattle.card.specs.Presets.{Entry, table, find, has, cellsOf, settingOf, offered, presetCell, presetSource}
-use Rattle.card.specs.PresetRows.{sourceRows, cellRows, byteAt, sourceIn, covers, cellIn}
+use Rattle.card.specs.Presets.{Entry, presetTable, find, has, cellsOf, settingOf, offered, presetCell, presetSource}
+use Rattle.card.specs.PresetRows.{sourceRows, cellRows, rowByte, sourceUnder, covers, cellUnder}
 use Rattle.card.specs.Valid.{every}
 
 -- two lists given entry by entry are the same, and so is each entry
@@ -35,8 +35,8 @@ row-at read should rows places e v h i k =
 numbered : Entry → Bool
 numbered e = ltb (e .0) sourceRows
 
-all-numbered : every numbered table ≡ true
-unfolding every numbered table listed
+all-numbered : every numbered presetTable ≡ true
+unfolding every numbered presetTable listed
 all-numbered = refl
 
 none-at : (l : List Entry) → every numbered l ≡ true → (v : ℕ) → sourceRows ≤ v → find v l ≡ none
@@ -49,7 +49,7 @@ none-at (e ∷ es) t v h =
 
 pub past-table : (v : ℕ) → sourceRows ≤ v → settingOf v ≡ none
 unfolding settingOf
-past-table v h = none-at table all-numbered v h
+past-table v h = none-at presetTable all-numbered v h
 
 pub past-source : (v k : ℕ) → sourceRows ≤ v → presetSource v k ≡ none
 unfolding presetSource
@@ -67,8 +67,8 @@ isEmpty (x ∷ xs) = false
 cellless : Entry → Bool
 cellless e = ltb (e .0) cellRows || isEmpty (e .1 .cells)
 
-all-cellless : every cellless table ≡ true
-unfolding every cellless isEmpty table listed
+all-cellless : every cellless presetTable ≡ true
+unfolding every cellless isEmpty presetTable listed
 all-cellless = refl
 
 empty : {A : Type 0} (l : List A) → isEmpty l ≡ true → l ≡ []
@@ -89,11 +89,11 @@ no-cells (e ∷ es) t v h = go (no-cells es (and-right (cellless e) _ t) v h) (�
 
 pub past-cell : (v i : ℕ) → cellRows ≤ v → presetCell v i ≡ none
 unfolding presetCell settingOf
-past-cell v i h = rw (no-cells table all-cellless v h)
+past-cell v i h = rw (no-cells presetTable all-cellless v h)
 
 -- rows of zeros set nothing
-pub zero-row : (i : ℕ) → cellIn 0 0 i ≡ none
-unfolding covers byteAt cellIn
+pub zero-row : (i : ℕ) → cellUnder 0 0 i ≡ none
+unfolding covers rowByte cellUnder
 zero-row i = rw (le-ltb (firstCell + i) 0 zero-le, and-false)
 
 -- ---- which cells and connectors a row sets
@@ -102,10 +102,10 @@ has-cond : {A : Type 0} (b : Bool) (a : A) → has (cond b (some a) none) ≡ b
 has-cond true a = refl
 has-cond false a = refl
 
-pub has-source : (w k : ℕ) → has (sourceIn w k) ≡ bitAt w (32 + k)
-unfolding sourceIn
+pub has-source : (w k : ℕ) → has (sourceUnder w k) ≡ bitAt w (32 + k)
+unfolding sourceUnder
 has-source w k = has-cond (bitAt w (32 + k)) _
 
-pub has-cell : (a b i : ℕ) → has (cellIn a b i) ≡ covers a i
-unfolding cellIn
+pub has-cell : (a b i : ℕ) → has (cellUnder a b i) ≡ covers a i
+unfolding cellUnder
 has-cell a b i = has-cond (covers a i) _

@@ -22,8 +22,8 @@ use Rattle.card.specs.Connectors.{noConnector}
 use Rattle.card.specs.Fresh.{noCell}
 use Rattle.card.specs.Valid.{largestAddress, frontTrigger, permittedBase, badCellType, badConnectorType, badAddress, frontDriven}
 use Rattle.card.specs.Valid.{validSlot, validSlots, validCell, validConnector, every, validCard}
-use Rattle.card.specs.Presets.{Setting, Entry, table, find, has, cellsOf, sourcesOf, settingOf, presetCell, presetSource, setsFront, sourced, cellAfter}
-use Rattle.card.specs.Presets.{connectorAfter, preset}
+use Rattle.card.specs.Presets.{Setting, Entry, presetTable, find, has, cellsOf, sourcesOf, settingOf, presetCell, presetSource, setsFront, sourced}
+use Rattle.card.specs.Presets.{cellWithPreset, connectorWithPreset, preset}
 use Rattle.card.proofs.Places.{among-in, among-bounds}
 use Rattle.card.proofs.Settings.{every-listed, first-pass, taken-room, cell-slots, config-most, join}
 use Rattle.card.proofs.ValidLaws.{kind-known, sound, cell-at, connector-at}
@@ -52,8 +52,8 @@ goodSetting : Setting → Bool
 goodSetting s = every (λ (e : ℕ × Cell). validCell cellCount (e .1)) (s .cells) && every (λ (e : ℕ × ℕ). goodSource (e .1)) (s .sources)
 
 -- a test over the whole table
-all-good : every (λ (e : Entry). goodSetting (e .1)) table ≡ true
-unfolding every goodSetting table listed validCell validSlots validSlot badCellType badAddress permittedBase rowOf
+all-good : every (λ (e : Entry). goodSetting (e .1)) presetTable ≡ true
+unfolding every goodSetting presetTable listed validCell validSlots validSlot badCellType badAddress permittedBase rowOf
 all-good = refl
 
 good-cells : (o : Option Setting) → passes goodSetting o ≡ true → every (λ (e : ℕ × Cell). validCell cellCount (e .1)) (cellsOf o) ≡ true
@@ -69,12 +69,12 @@ good-sources (some s) t = and-right (every (λ (e : ℕ × Cell). validCell cell
 preset-cell : (v i : ℕ) → passes (validCell cellCount) (presetCell v i) ≡ true
 unfolding presetCell settingOf
 preset-cell v i =
-    found-passes (validCell cellCount) (cellsOf (settingOf v)) (good-cells (settingOf v) (found-passes goodSetting table all-good v)) (firstCell + i)
+    found-passes (validCell cellCount) (cellsOf (settingOf v)) (good-cells (settingOf v) (found-passes goodSetting presetTable all-good v)) (firstCell + i)
 
 preset-source : (v k : ℕ) → passes goodSource (presetSource v k) ≡ true
 unfolding presetSource settingOf
 preset-source v k =
-    found-passes goodSource (sourcesOf (settingOf v)) (good-sources (settingOf v) (found-passes goodSetting table all-good v)) (1 + k)
+    found-passes goodSource (sourcesOf (settingOf v)) (good-sources (settingOf v) (found-passes goodSetting presetTable all-good v)) (1 + k)
 
 -- ---- among more cells
 
@@ -145,23 +145,23 @@ module _ (n : ℕ) (more : cellCount ≤ n) where
       → validCard n (preset n c v) ≡ true
   unfolding preset validCard setsFront
   valid-preset c ok v free =
-      let cells = listed (cellAfter c v) n ++ drop n (c .cells) in
-      let connectors = listed (connectorAfter c v) connectorCount in
-      let first = listed-at (connectorAfter c v) connectorCount 0 noConnector (omega arith) in
+      let cells = listed (cellWithPreset c v) n ++ drop n (c .cells) in
+      let connectors = listed (connectorWithPreset c v) connectorCount in
+      let first = listed-at (connectorWithPreset c v) connectorCount 0 noConnector (omega arith) in
       let s = sound n c ok in
       let had = taken-room n (c .cells) (s .cell-count) in
-      let long : n ≤ length cells = omega (arith, had, front-length (cellAfter c v) n (c .cells) had) in
+      let long : n ≤ length cells = omega (arith, had, front-length (cellWithPreset c v) n (c .cells) had) in
       join n (c .trigger) cells connectors
       (record {
         clock = s .clock;
         front = rw first (either-front (c .trigger) (presetSource v 0) (getD (c .connectors) 0 noConnector) free (s .front));
         cell-count = length-take-le n cells long;
-        connector-count = length-listed (connectorAfter c v) connectorCount;
+        connector-count = length-listed (connectorWithPreset c v) connectorCount;
         cells-pass =
             first-pass (validCell n) n cells noCell long
-            (λ i h. rw (front-at (cellAfter c v) n (c .cells) i noCell h)
+            (λ i h. rw (front-at (cellWithPreset c v) n (c .cells) i noCell h)
             (either-cell (presetCell v i) (getD (c .cells) i noCell) (preset-cell v i) (cell-at n c ok i h)));
         connectors-pass =
-            every-listed (validConnector n) (connectorAfter c v) connectorCount
+            every-listed (validConnector n) (connectorWithPreset c v) connectorCount
             (λ k h. either-connector (presetSource v k) (getD (c .connectors) k noConnector) (preset-source v k) (connector-at n c ok k h));
       })

@@ -22,7 +22,8 @@ use Rattle.card.specs.Connectors.{noConnector}
 use Rattle.card.specs.Fresh.{noCell, freshCell, freshConnectors, freshOf}
 use Rattle.card.specs.Valid.{frontTrigger, permittedBase, badClock, badCellType, badConnectorType, badConfig, unusedSlot, badAddress, frontDriven}
 use Rattle.card.specs.Valid.{validSlot, validSlots, validCell, validConnector, every, valid, validCard}
-use Rattle.card.specs.Edits.{atCell, atConnector, withCell, withConnector, clearedCell, clearedCells, blankSlots, input, stored, wiredSlot, currentCell}
+use Rattle.card.specs.Edits.{atCell, atConnector, withCell, withConnector, clearedCell, clearedCells, blankSlots, input, storedAddress, wiredSlot}
+use Rattle.card.specs.Edits.{currentCell}
 use Rattle.card.specs.Edits.{currentConnector, putCell, putConnector, move, setTrigger, home, typed, setType, configured, setConfig, stated, setState}
 use Rattle.card.specs.Edits.{wired, setSlots, setConnectorType, setSource}
 use Rattle.card.proofs.Settings.{every-at, every-set, every-replicate, first-at, first-pass, taken-room, Sound, split, join, valid-cleared}
@@ -81,7 +82,7 @@ module _ (n v : ℕ) (good : badAddress n v ≡ false) where
       rw good (le-leb _ v (omega arith))
 
   -- a used slot takes any permitted address
-  stored-valid : (edge : Bool) → validSlot n true edge (stored edge v) ≡ true
+  stored-valid : (edge : Bool) → validSlot n true edge (storedAddress edge v) ≡ true
   unfolding validSlot
   stored-valid true = edge-slot (ltb v 128) refl
   stored-valid false = rw good

@@ -23,7 +23,7 @@ use Rattle.card.specs.Connectors.{openDrain, pushPull, isOutput, noConne
 use Rattle.card.specs.Fresh.{clearState, noCell}
 use Rattle.card.specs.Valid.{largestAddress, frontTrigger, frontDriven, badPlace, badConnectorType, badConfig, unusedSlot, badAddress, validSlot}
 use Rattle.card.specs.Valid.{validSlots, validCell, validConnector}
-use Rattle.card.specs.Edits.{atCell, atConnector, input, blankSlot, clearedCell, stored, wiredSlot, configuredState, currentCell, currentConnector}
+use Rattle.card.specs.Edits.{atCell, atConnector, input, blankSlot, clearedCell, storedAddress, wiredSlot, configuredState, currentCell, currentConnector}
 use Rattle.card.specs.Edits.{putCell, putConnector, move, setTrigger, typed, setType, configured, setConfig, wired, setSlots, setConnectorType}
 use Rattle.card.specs.Edits.{setSource}
 use Rattle.card.specs.Written.{configuredAs, written}
@@ -35,7 +35,7 @@ use Rattle.card.proofs.Places.{among-in, among-above}
 -- ---- a valid cell is what lines make of its settings
 
 -- a permitted address is stored as it is given
-stored-as : (n : ℕ) (edge : Bool) (a : ℕ) → validSlot n true edge a ≡ true → stored edge a ≡ a
+stored-as : (n : ℕ) (edge : Bool) (a : ℕ) → validSlot n true edge a ≡ true → storedAddress edge a ≡ a
 unfolding validSlot
 stored-as n true a ok =
     let high : edgeAddress ≤ a = leb-true _ a (and-right (not (badAddress n a)) _ ok) in

@@ -150,12 +150,12 @@ unfoldable pub setState : ℕ → Card → ℕ → Card
 setState n c v = putCell n c (stated (currentCell n c) v)
 
 -- "an edge-sensitive slot given 0-127 stores that plus 128"
-abbrev pub stored : Bool → ℕ → ℕ
-stored edge v = cond (edge && ltb v edgeAddress) (v + edgeAddress) v
+abbrev pub storedAddress : Bool → ℕ → ℕ
+storedAddress edge v = cond (edge && ltb v edgeAddress) (v + edgeAddress) v
 
 -- "`36CCB` with one to four different `p=n`": the slots given take the values, the others stay
 abbrev pub wiredSlot : Bool → Bool → ℕ → ℕ → ℕ
-wiredSlot given edge v old = cond given (stored edge v) old
+wiredSlot given edge v old = cond given (storedAddress edge v) old
 
 abbrev pub wiredSlots : Slots → Slots → List ℕ → List ℕ → List ℕ
 wiredSlots given edge v old =

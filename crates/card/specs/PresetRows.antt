@@ -20,36 +20,36 @@ abbrev pub cellRows : ℕ
 cellRows = 37
 
 -- byte number i of a row, from the low end
-unfoldable pub byteAt : ℕ → ℕ → ℕ
-byteAt w i = w / 2 ^ (8 * i) % 256
+unfoldable pub rowByte : ℕ → ℕ → ℕ
+rowByte w i = w / 2 ^ (8 * i) % 256
 
 -- an address, as it stands or by the place further
-abbrev pub stepped : Bool → ℕ → ℕ → ℕ
-stepped step place a = cond step ((a + place) % 2 ^ 8) a
+abbrev pub offsetAddress : Bool → ℕ → ℕ → ℕ
+offsetAddress step place a = cond step ((a + place) % 2 ^ 8) a
 
 -- the source of the connector at index k: the connectors are byte 4, those with the first address byte 3, the addresses bytes 2 and 1
-unfoldable pub sourceIn : ℕ → ℕ → Option ℕ
-sourceIn w k = cond (bitAt w (32 + k)) (some (stepped (bitAt w 0) k (cond (bitAt w (24 + k)) (byteAt w 2) (byteAt w 1)))) none
+unfoldable pub sourceUnder : ℕ → ℕ → Option ℕ
+sourceUnder w k = cond (bitAt w (32 + k)) (some (offsetAddress (bitAt w 0) k (cond (bitAt w (24 + k)) (rowByte w 2) (rowByte w 1)))) none
 
 -- the cell of a row at a place: a step moves the slots X and Y
 unfoldable pub wiredCell : Bool → ℕ → ℕ → Cell
 wiredCell step place w =
-    whole (byteAt w 5) (byteAt w 4) (stepped step place (byteAt w 3) ∷ stepped step place (byteAt w 2) ∷ byteAt w 1 ∷ byteAt w 0 ∷ [])
+    whole (rowByte w 5) (rowByte w 4) (offsetAddress step place (rowByte w 3) ∷ offsetAddress step place (rowByte w 2) ∷ rowByte w 1 ∷ rowByte w 0 ∷ [])
 
 -- the row sets the cell at index i
 unfoldable pub covers : ℕ → ℕ → Bool
-covers w i = among (byteAt w 7) (byteAt w 6) (firstCell + i)
+covers w i = among (rowByte w 7) (rowByte w 6) (firstCell + i)
 
 -- the cell at index i under the two rows of a preset
-unfoldable pub cellIn : ℕ → ℕ → ℕ → Option Cell
-cellIn a b i = cond (covers a i) (some (wiredCell (bitAt b 48) i (cond (eqb (byteAt a 7) (firstCell + i)) a b))) none
+unfoldable pub cellUnder : ℕ → ℕ → ℕ → Option Cell
+cellUnder a b i = cond (covers a i) (some (wiredCell (bitAt b 48) i (cond (eqb (rowByte a 7) (firstCell + i)) a b))) none
 
 -- every row of a table says what document 01 says of its preset
 unfoldable pub SourceRows : List ℕ → Type 0
 SourceRows rows =
-    listed (λ v. listed (sourceIn (getD rows v 0)) connectorCount) sourceRows ≡ listed (λ v. listed (presetSource v) connectorCount) sourceRows
+    listed (λ v. listed (sourceUnder (getD rows v 0)) connectorCount) sourceRows ≡ listed (λ v. listed (presetSource v) connectorCount) sourceRows
 
 unfoldable pub CellRows : List ℕ → Type 0
 CellRows rows =
-    listed (λ v. listed (cellIn (getD rows (2 * v) 0) (getD rows (2 * v + 1) 0)) cellCount) cellRows
+    listed (λ v. listed (cellUnder (getD rows (2 * v) 0) (getD rows (2 * v + 1) 0)) cellCount) cellRows
     ≡ listed (λ v. listed (presetCell v) cellCount) cellRows

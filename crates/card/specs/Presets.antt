@@ -167,8 +167,8 @@ sevenLasers =
     ∷ []
 
 -- all presets that are offered
-unfoldable pub table : List Entry
-table =
+unfoldable pub presetTable : List Entry
+presetTable =
     cellPresets ++ (mixedPresets ++ (sourcePresets ++ (lasers (numbers 5 4) fourLasers ++ lasers (numbers 1 7) sevenLasers)))
 
 -- ---- what the table says of a preset
@@ -185,7 +185,7 @@ has (some a) = true
 
 -- the table's entry for a preset
 unfoldable pub settingOf : ℕ → Option Setting
-settingOf v = find v table
+settingOf v = find v presetTable
 
 -- "Offered": the table has the number
 unfoldable pub offered : ℕ → Bool
@@ -219,18 +219,18 @@ sourced none old = old
 sourced (some a) old = record { kind = pushPull; source = a }
 
 -- a cell or a connector after a preset: as the preset sets it, or as it was
-abbrev pub cellAfter : Card → ℕ → ℕ → Cell
-cellAfter c v i = Option·getD (presetCell v i) (getD (c .cells) i noCell)
+abbrev pub cellWithPreset : Card → ℕ → ℕ → Cell
+cellWithPreset c v i = Option·getD (presetCell v i) (getD (c .cells) i noCell)
 
-abbrev pub connectorAfter : Card → ℕ → ℕ → Connector
-connectorAfter c v k = sourced (presetSource v k) (getD (c .connectors) k noConnector)
+abbrev pub connectorWithPreset : Card → ℕ → ℕ → Connector
+connectorWithPreset c v k = sourced (presetSource v k) (getD (c .connectors) k noConnector)
 
 -- a cell is edited by "a preset that sets it"
-abbrev pub editedAfter : Card → ℕ → ℕ → Bool
-editedAfter c v i = bitAt (c .edited) i || has (presetCell v i)
+abbrev pub editedWithPreset : Card → ℕ → ℕ → Bool
+editedWithPreset c v i = bitAt (c .edited) i || has (presetCell v i)
 
 -- what the preset does not set stays; so does all else of the card
 unfoldable pub preset : ℕ → Card → ℕ → Card
 preset n c v =
-    withSettings c (c .trigger) (listed (cellAfter c v) n ++ drop n (c .cells)) (listed (connectorAfter c v) connectorCount)
-    (wordOf (editedAfter c v) n)
+    withSettings c (c .trigger) (listed (cellWithPreset c v) n ++ drop n (c .cells)) (listed (connectorWithPreset c v) connectorCount)
+    (wordOf (editedWithPreset c v) n)

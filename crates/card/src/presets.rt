@@ -10,7 +10,7 @@ ghost use Rattle.words.specs.Listed.{listed};
 ghost use Rattle.card.specs.Address.{cellCount, connectorCount};
 ghost use Rattle.card.specs.Connectors.{noConnector};
 ghost use Rattle.card.specs.PresetRows;
-ghost use Rattle.card.specs.PresetRows.{byteAt, sourceIn, wiredCell, cellIn, SourceRows, CellRows};
+ghost use Rattle.card.specs.PresetRows.{rowByte, sourceUnder, wiredCell, cellUnder, SourceRows, CellRows};
 ghost use Rattle.card.specs.Presets.{offered, presetCell, presetSource, setsFront, sourced, preset};
 ghost use Rattle.card.specs.Fresh.{noCell};
 use crate::card::Card;
@@ -205,7 +205,7 @@ fn cell_rows() -> [u64; 2 * CELL_ROWS]
 
 // A number past the table sources nothing.
 fn source_row(v: u32) -> u64
-    ensures { λ r. ⌜ ((k : ℕ) → k < connectorCount → sourceIn r k ≡ presetSource v k) ⌝ }
+    ensures { λ r. ⌜ ((k : ℕ) → k < connectorCount → sourceUnder r k ≡ presetSource v k) ⌝ }
 {
     let rows = source_rows();
     let n = v as usize;
@@ -214,7 +214,7 @@ fn source_row(v: u32) -> u64
 
 // A number past the table sets no cell.
 fn cell_row(v: u32) -> CellRow
-    ensures { λ r. ⌜ ((i : ℕ) → i < cellCount → cellIn (r .0) (r .1) i ≡ presetCell v i) ⌝ }
+    ensures { λ r. ⌜ ((i : ℕ) → i < cellCount → cellUnder (r .0) (r .1) i ≡ presetCell v i) ⌝ }
 {
     let rows = cell_rows();
     let n = v as usize;
@@ -234,14 +234,14 @@ pub fn sets_front(v: u32) -> bool
 
 fn byte(w: u64, i: u32) -> u8
     requires { ⌜ i < 8 ⌝ }
-    ensures { λ r. ⌜ r ≡ byteAt w i ⌝ }
+    ensures { λ r. ⌜ r ≡ rowByte w i ⌝ }
 {
     ((w >> (8 * i)) % 256) as u8
 }
 
 // Nothing says here that the sum fits, so it wraps; no row of the tables comes to 256.
-fn stepped(step: bool, place: u8, a: u8) -> u8
-    ensures { λ r. ⌜ r ≡ PresetRows.stepped step place a ⌝ }
+fn offset_address(step: bool, place: u8, a: u8) -> u8
+    ensures { λ r. ⌜ r ≡ PresetRows.offsetAddress step place a ⌝ }
 {
     if step {
         std::num::wrapping_add_u8(a, place)
@@ -265,14 +265,14 @@ fn either(first: bool, a: u64, b: u64) -> u64
 // The connector at index k under a row: sourced, or as it was.
 fn connector_under(row: u64, k: u32, old: Connector) -> Connector
     requires { ⌜ k < connectorCount ⌝ }
-    ensures { λ r. ⌜ r ≡ sourced (sourceIn row k) old ⌝ }
+    ensures { λ r. ⌜ r ≡ sourced (sourceUnder row k) old ⌝ }
 {
     if words::bit(row, 32 + k) {
         let first = words::bit(row, 24 + k);
         let a = address(first, byte(row, 2), byte(row, 1));
         Connector {
             kind: PUSH_PULL,
-            source: stepped(words::bit(row, 0), k as u8, a),
+            source: offset_address(words::bit(row, 0), k as u8, a),
         }
     } else {
         old
@@ -283,8 +283,8 @@ fn wired_cell(step: bool, place: u8, w: u64) -> Cell
     ensures { λ r. ⌜ r ≡ wiredCell step place w ⌝ }
 {
     let slots = [
-        stepped(step, place, byte(w, 3)),
-        stepped(step, place, byte(w, 2)),
+        offset_address(step, place, byte(w, 3)),
+        offset_address(step, place, byte(w, 2)),
         byte(w, 1),
         byte(w, 0),
     ];
@@ -314,7 +314,7 @@ fn covers(row: u64, i: u32) -> bool
 // The cell at index i under a row: set whole, or as it was.
 fn cell_under(row: CellRow, i: u32, old: Cell) -> Cell
     requires { ⌜ i < cellCount ⌝ }
-    ensures { λ r. ⌜ r ≡ Option·getD (cellIn (row .0) (row .1) i) old ⌝ }
+    ensures { λ r. ⌜ r ≡ Option·getD (cellUnder (row .0) (row .1) i) old ⌝ }
 {
     if covers(row.0, i) {
         let first = byte(row.0, 7) as u32 == FIRST_CELL as u32 + i;
@@ -326,7 +326,7 @@ fn cell_under(row: CellRow, i: u32, old: Cell) -> Cell
 }
 
 fn connectors_under(row: u64, connectors: [Connector; CONNECTORS]) -> [Connector; CONNECTORS]
-    ensures { λ r. ⌜ r ≡ listed (λ k. sourced (sourceIn row k) (getD connectors k noConnector)) connectorCount ⌝ }
+    ensures { λ r. ⌜ r ≡ listed (λ k. sourced (sourceUnder row k) (getD connectors k noConnector)) connectorCount ⌝ }
 {
     let mut next = connectors;
     for k in 0..CONNECTORS as u32 {
@@ -338,7 +338,7 @@ fn connectors_under(row: u64, connectors: [Connector; CONNECTORS]) -> [Connector
 }
 
 fn cells_under(row: CellRow, cells: [Cell; CELLS]) -> [Cell; CELLS]
-    ensures { λ r. ⌜ r ≡ listed (λ i. Option·getD (cellIn (row .0) (row .1) i) (getD cells i noCell)) cellCount ++ drop cellCount cells ⌝ }
+    ensures { λ r. ⌜ r ≡ listed (λ i. Option·getD (cellUnder (row .0) (row .1) i) (getD cells i noCell)) cellCount ++ drop cellCount cells ⌝ }
 {
     let mut next = cells;
     for i in 0..CELLS as u32 {

@@ -25,6 +25,6 @@ abbrev pub duration : ℕ
 duration = 2
 
 -- what a timer of a type keeps after steps, one after the other
-abbrev pub after : ℕ → State → List ℕ → State
-after kind s [] = s
-after kind s (n ∷ ns) = after kind (workOut kind duration s (readingOf n) .state) ns
+abbrev pub keptAfter : ℕ → State → List ℕ → State
+keptAfter kind s [] = s
+keptAfter kind s (n ∷ ns) = keptAfter kind (workOut kind duration s (readingOf n) .state) ns

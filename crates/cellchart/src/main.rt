@@ -4,7 +4,7 @@
 // A line of a course: the readings X Y Z, then the count, pulse and output that they lead to.
 ghost use mathlib.Core.Path.{_≡_};
 ghost use Rattle.cells.specs.Work.{workOut};
-ghost use Rattle.cellchart.specs.Chart.{digitOf, readingOf, clear, duration, after};
+ghost use Rattle.cellchart.specs.Chart.{digitOf, readingOf, clear, duration, keptAfter};
 use cells::cell::Config;
 use cells::cell::Pulses;
 use cells::cell::State;
@@ -148,7 +148,7 @@ fn put_head(kind: u16) {
 
 // A timer's course from nothing kept. The result is what it keeps at the end.
 fn put_course(kind: u8, steps: [u8; 6]) -> State
-    ensures { λ s. ⌜ s ≡ after kind clear steps ⌝ }
+    ensures { λ s. ⌜ s ≡ keptAfter kind clear steps ⌝ }
 {
     put_head(kind as u16);
     let mut s = CLEAR;

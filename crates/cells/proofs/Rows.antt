@@ -8,7 +8,7 @@ use lib.Dec.{eqb, ltb}
 use borrow.Author.Tests.{ltb-true, ne-eqb}
 use Rattle.cells.specs.declared.table.Row.{Row}
 use Rattle.cells.specs.declared.table.Class.{Class}
-use Rattle.cells.specs.Table.{Line, lines, keptBy, rowAs, rowAmong, rowIn, rowOf, no-row, typeCount}
+use Rattle.cells.specs.Table.{ChartLine, chart, keptBy, rowAs, rowAmong, rowIn, rowOf, no-row, typeCount}
 
 pub and-left : (a b : Bool) → (a && b) ≡ true → a ≡ true
 and-left true b e = refl
@@ -19,11 +19,11 @@ and-right true b e = e
 and-right false b e = absurd (false≢true e)
 
 -- a test passes at each row that the lines give, and at the row of a number past the table
-abbrev allAmong : (Row → Bool) → Line → List (ℕ × Class) → Bool
+abbrev allAmong : (Row → Bool) → ChartLine → List (ℕ × Class) → Bool
 allAmong P l [] = true
 allAmong P l (t ∷ ts) = P (rowAs l (t .1)) && allAmong P l ts
 
-abbrev pub allRows : (Row → Bool) → List Line → Bool
+abbrev pub allRows : (Row → Bool) → List ChartLine → Bool
 allRows P [] = P no-row
 allRows P (l ∷ ls) = allAmong P l (l .types) && allRows P ls
 
@@ -31,7 +31,7 @@ either : (P : Row → Type 0) (b : Bool) (v w : Row) → P v → P w → P (cond
 either P true v w p q = p
 either P false v w p q = q
 
-among-all : (P : Row → Bool) (n : ℕ) (l : Line) (ts : List (ℕ × Class)) (other : Row)
+among-all : (P : Row → Bool) (n : ℕ) (l : ChartLine) (ts : List (ℕ × Class)) (other : Row)
     → allAmong P l ts ≡ true → P other ≡ true → P (rowAmong n l ts other) ≡ true
 among-all P n l [] other a o = o
 among-all P n l (t ∷ ts) other a o =
@@ -39,34 +39,34 @@ among-all P n l (t ∷ ts) other a o =
     let rest = and-right (P (rowAs l (t .1))) (allAmong P l ts) a in
     either (λ (w : Row). P w ≡ true) (eqb n (t .0)) (rowAs l (t .1)) (rowAmong n l ts other) here (among-all P n l ts other rest o)
 
-in-all : (P : Row → Bool) (n : ℕ) (ls : List Line) → allRows P ls ≡ true → P (rowIn n ls) ≡ true
+in-all : (P : Row → Bool) (n : ℕ) (ls : List ChartLine) → allRows P ls ≡ true → P (rowIn n ls) ≡ true
 in-all P n [] a = a
 in-all P n (l ∷ ls) a =
     among-all P n l (l .types) (rowIn n ls) (and-left (allAmong P l (l .types)) (allRows P ls) a)
     (in-all P n ls (and-right (allAmong P l (l .types)) (allRows P ls) a))
 
 -- the rule at each entry, from the test over the whole table
-pub every-row : (P : Row → Bool) → allRows P lines ≡ true → (n : ℕ) → P (rowOf n) ≡ true
+pub every-row : (P : Row → Bool) → allRows P chart ≡ true → (n : ℕ) → P (rowOf n) ≡ true
 unfolding rowOf
-every-row P a n = in-all P n lines a
+every-row P a n = in-all P n chart a
 
 -- a type keeps what its class keeps
 Keeps : Row → Type 0
 Keeps w = w .kept ≡ keptBy (w .class)
 
-among-keeps : (n : ℕ) (l : Line) (ts : List (ℕ × Class)) (other : Row) → Keeps other → Keeps (rowAmong n l ts other)
+among-keeps : (n : ℕ) (l : ChartLine) (ts : List (ℕ × Class)) (other : Row) → Keeps other → Keeps (rowAmong n l ts other)
 unfolding Keeps
 among-keeps n l [] other o = o
 among-keeps n l (t ∷ ts) other o = either Keeps (eqb n (t .0)) (rowAs l (t .1)) (rowAmong n l ts other) refl (among-keeps n l ts other o)
 
-in-keeps : (n : ℕ) (ls : List Line) → Keeps (rowIn n ls)
+in-keeps : (n : ℕ) (ls : List ChartLine) → Keeps (rowIn n ls)
 unfolding Keeps
 in-keeps n [] = refl
 in-keeps n (l ∷ ls) = among-keeps n l (l .types) (rowIn n ls) (in-keeps n ls)
 
 pub row-keeps : (n : ℕ) → rowOf n .kept ≡ keptBy (rowOf n .class)
 unfolding rowOf Keeps
-row-keeps n = in-keeps n lines
+row-keeps n = in-keeps n chart
 
 -- a type has a configuration exactly where its largest is above 0
 beq-same : (a b : Bool) → Bool·beq a b ≡ true → a ≡ b
@@ -83,11 +83,11 @@ belowAll : ℕ → List (ℕ × Class) → Bool
 belowAll m [] = true
 belowAll m (t ∷ ts) = ltb (t .0) m && belowAll m ts
 
-belowLines : ℕ → List Line → Bool
+belowLines : ℕ → List ChartLine → Bool
 belowLines m [] = true
 belowLines m (l ∷ ls) = belowAll m (l .types) && belowLines m ls
 
-past-among : (m n : ℕ) (l : Line) (ts : List (ℕ × Class)) (other : Row) → belowAll m ts ≡ true → m ≤ n → rowAmong n l ts other ≡ other
+past-among : (m n : ℕ) (l : ChartLine) (ts : List (ℕ × Class)) (other : Row) → belowAll m ts ≡ true → m ≤ n → rowAmong n l ts other ≡ other
 unfolding belowAll
 past-among m n l [] other a h = refl
 past-among m n l (t ∷ ts) other a h =
@@ -95,7 +95,7 @@ past-among m n l (t ∷ ts) other a h =
     let miss : n ≡ t .0 → ⊥ = omega arith in
     rw (ne-eqb n (t .0) miss) (past-among m n l ts other (and-right (ltb (t .0) m) (belowAll m ts) a) h)
 
-past-lines : (m n : ℕ) (ls : List Line) → belowLines m ls ≡ true → m ≤ n → rowIn n ls ≡ no-row
+past-lines : (m n : ℕ) (ls : List ChartLine) → belowLines m ls ≡ true → m ≤ n → rowIn n ls ≡ no-row
 unfolding belowLines
 past-lines m n [] a h = refl
 past-lines m n (l ∷ ls) a h =
@@ -105,4 +105,4 @@ past-lines m n (l ∷ ls) a h =
 -- a number past the table has the row that does nothing
 pub past-table : (n : ℕ) → typeCount ≤ n → rowOf n ≡ no-row
 unfolding rowOf belowAll belowLines
-past-table n h = past-lines typeCount n lines refl h
+past-table n h = past-lines typeCount n chart refl h

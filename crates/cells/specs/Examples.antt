@@ -16,15 +16,15 @@ Shown = ℕ × Bool × Bool
 timer : (kind d count : ℕ) → Bool → Slots → Worked
 timer kind d count pulse r = workOut kind d (record { count = pulses count; bit = false; pulse = pulse }) r
 
-given : Worked → Shown
-given w = (w .state .count .0, w .state .pulse, w .out)
+shown : Worked → Shown
+shown w = (w .state .count .0, w .state .pulse, w .out)
 
 -- one-shots keep no pulse
 shot : (kind d count : ℕ) → Slots → Shown
-shot kind d count r = given (timer kind d count false r)
+shot kind d count r = shown (timer kind d count false r)
 
 pulsed : (kind d count : ℕ) → Bool → Slots → Shown
-pulsed kind d count pulse r = given (timer kind d count pulse r)
+pulsed kind d count pulse r = shown (timer kind d count pulse r)
 
 -- what is high in the tick: X is the trigger, Y the clock, Z the reset, F the other trigger of types 16 and 17
 abbrev nothing : Slots
@@ -78,5 +78,5 @@ table =
     ∷ []
 
 one-table : map (λ (e : Shown × Shown). e .0) table ≡ map (λ (e : Shown × Shown). e .1) table
-unfolding timer given shot pulsed rowOf taken workAs workOut
+unfolding timer shown shot pulsed rowOf taken workAs workOut
 one-table = refl

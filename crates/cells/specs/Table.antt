@@ -18,7 +18,7 @@ abbrev pub slots : Bool → Bool → Bool → Bool → Slots
 slots x y z f = record { x = x; y = y; z = z; f = f }
 
 -- a line of the table: its types, each with what it does; the slots used; the edge slots; the largest configuration, none where there is none
-pub record Line : Type 0 where
+pub record ChartLine : Type 0 where
   pub types : List (ℕ × Class)
   pub used : Slots
   pub edge : Slots
@@ -57,24 +57,24 @@ retriggerable = true
 abbrev pub not-retriggerable : Bool
 not-retriggerable = false
 
-abbrev pub line : List (ℕ × Class) → Slots → Slots → Option ℕ → Line
-line types used edge config = record { types = types; used = used; edge = edge; config = config }
+abbrev pub chartLine : List (ℕ × Class) → Slots → Slots → Option ℕ → ChartLine
+chartLine types used edge config = record { types = types; used = used; edge = edge; config = config }
 
 -- the table of "Cells", in its order
-abbrev pub lines : List Line
-lines =
-    line ((0, Constant) ∷ []) no-slot no-slot (some largestConfig)
-    ∷ line ((1, Flop DFlop) ∷ (12, Flop SyncDFlop) ∷ []) XYZF only-Y none
-    ∷ line ((2, Gate Lookup) ∷ []) XY no-slot (some 15)
-    ∷ line ((3, Gate Lookup) ∷ []) XYZ no-slot (some 255)
-    ∷ line ((4, Gate Lookup) ∷ []) XYZF no-slot (some largestConfig)
-    ∷ line ((5, Gate And2) ∷ (6, Gate Or2) ∷ (7, Gate Xor2) ∷ []) XY no-slot none
-    ∷ line ((8, OneShot retriggerable) ∷ (14, OneShot not-retriggerable) ∷ []) XYZ XY (some largestConfig)
-    ∷ line ((9, Delay retriggerable) ∷ (15, Delay not-retriggerable) ∷ []) XYZ XY (some largestConfig)
-    ∷ line ((10, Gate And4) ∷ (11, Gate Or4) ∷ []) XYZF no-slot none
-    ∷ line ((13, Flop Jk) ∷ []) XYZ only-Z none
-    ∷ line ((16, OneShot not-retriggerable) ∷ (17, Delay not-retriggerable) ∷ []) XYZF XYF (some largestConfig)
-    ∷ line ((18, Flop ClearDFlop) ∷ []) XYZF only-Y none
+abbrev pub chart : List ChartLine
+chart =
+    chartLine ((0, Constant) ∷ []) no-slot no-slot (some largestConfig)
+    ∷ chartLine ((1, Flop DFlop) ∷ (12, Flop SyncDFlop) ∷ []) XYZF only-Y none
+    ∷ chartLine ((2, Gate Lookup) ∷ []) XY no-slot (some 15)
+    ∷ chartLine ((3, Gate Lookup) ∷ []) XYZ no-slot (some 255)
+    ∷ chartLine ((4, Gate Lookup) ∷ []) XYZF no-slot (some largestConfig)
+    ∷ chartLine ((5, Gate And2) ∷ (6, Gate Or2) ∷ (7, Gate Xor2) ∷ []) XY no-slot none
+    ∷ chartLine ((8, OneShot retriggerable) ∷ (14, OneShot not-retriggerable) ∷ []) XYZ XY (some largestConfig)
+    ∷ chartLine ((9, Delay retriggerable) ∷ (15, Delay not-retriggerable) ∷ []) XYZ XY (some largestConfig)
+    ∷ chartLine ((10, Gate And4) ∷ (11, Gate Or4) ∷ []) XYZF no-slot none
+    ∷ chartLine ((13, Flop Jk) ∷ []) XYZ only-Z none
+    ∷ chartLine ((16, OneShot not-retriggerable) ∷ (17, Delay not-retriggerable) ∷ []) XYZF XYF (some largestConfig)
+    ∷ chartLine ((18, Flop ClearDFlop) ∷ []) XYZF only-Y none
     ∷ []
 
 -- the number of cell types: the table has 0 to 18
@@ -99,7 +99,7 @@ keptBy (OneShot t) = Count
 keptBy (Delay t) = Count
 
 -- what a line says of a type that does k
-abbrev pub rowAs : Line → Class → Row
+abbrev pub rowAs : ChartLine → Class → Row
 rowAs l k = record { used = l .used; edge = l .edge; configured = hasConfig (l .config); largest = configLimit (l .config); class = k; kept = keptBy k }
 
 -- a number past the table: no slots, and nothing done
@@ -107,17 +107,17 @@ abbrev pub no-row : Row
 no-row = record { used = no-slot; edge = no-slot; configured = false; largest = 0; class = Nothing; kept = Stateless }
 
 -- a line's row for type n, if n is one of its types, else what the other lines say
-abbrev pub rowAmong : ℕ → Line → List (ℕ × Class) → Row → Row
+abbrev pub rowAmong : ℕ → ChartLine → List (ℕ × Class) → Row → Row
 rowAmong n l [] other = other
 rowAmong n l (t ∷ ts) other = cond (eqb n (t .0)) (rowAs l (t .1)) (rowAmong n l ts other)
 
-abbrev pub rowIn : ℕ → List Line → Row
+abbrev pub rowIn : ℕ → List ChartLine → Row
 rowIn n [] = no-row
 rowIn n (l ∷ ls) = rowAmong n l (l .types) (rowIn n ls)
 
 -- what the table says of type n
 unfoldable pub rowOf : ℕ → Row
-rowOf n = rowIn n lines
+rowOf n = rowIn n chart
 
 -- the readings of the slots of a set; a slot outside it reads low
 abbrev pub masked : Slots → Slots → Slots

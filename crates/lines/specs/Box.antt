@@ -21,7 +21,7 @@ use Rattle.card.specs.Edits.{bitState, move, currentCell, currentConnector, put
 use Rattle.card.specs.Edits.{wired, setSlots, setSource}
 use Rattle.card.specs.Change.{changed}
 use Rattle.card.specs.Fresh.{clearState, fresh}
-use Rattle.card.specs.Presets.{numbers, table, settingOf, offered}
+use Rattle.card.specs.Presets.{numbers, presetTable, settingOf, offered}
 use Rattle.card.specs.Valid.{permittedBase, badPlace, badCellType, badConfig, unusedSlot, badAddress}
 use Rattle.ticks.specs.Reading.{levelAt, readsLevels, reads, slotsRead, mixed, view}
 use Rattle.ticks.specs.Levels.{linesOf}
@@ -167,5 +167,5 @@ box =
     ∷ []
 
 one-table : map (λ (e : Entry × Entry). e .0) box ≡ map (λ (e : Entry × Entry). e .1) box
-unfolding low high read lookup jk11 triggered clocked taking offeredOf line quick run accepted ran bytesOf ones onesIn withBit wordOf bitAt listed valueBy isDigit digitsOf leads plain numberIn numberAt rowOf slotsOf taken workAs workOut stirredAs stirred disagree wakes levelAt readsLevels reads slotsRead mixed view linesOf move currentCell currentConnector putCell putConnector typed setType configuredState configured setConfig wired setSlots setSource fresh table settingOf offered readNow readLast named turnAt outputsBelow turned tick permittedBase badPlace badCellType badConfig unusedSlot badAddress isWord isWhole toEnd slotOf gave give stepped pairsOf writeOf ccaWrite ccaRead ccaForm slotForm ccbForm readOf readForm cardForm plainForm addressed parse alone refusal changed changeFor responseTo decision decisionFor lineDecision lineOutcome replyOf Line.lineReply savedBytes after answer answers
+unfolding low high read lookup jk11 triggered clocked taking offeredOf line quick run accepted ran bytesOf ones onesIn withBit wordOf bitAt listed valueBy isDigit digitsOf leads plain numberIn numberAt rowOf slotsOf taken workAs workOut stirredAs stirred disagree wakes levelAt readsLevels reads slotsRead mixed view linesOf move currentCell currentConnector putCell putConnector typed setType configuredState configured setConfig wired setSlots setSource fresh presetTable settingOf offered readNow readLast named turnAt outputsBelow turned tick permittedBase badPlace badCellType badConfig unusedSlot badAddress isWord isWhole toEnd slotOf gave give stepped pairsOf writeOf ccaWrite ccaRead ccaForm slotForm ccbForm readOf readForm cardForm plainForm addressed parse alone refusal changed changeFor responseTo decision decisionFor lineDecision lineOutcome replyOf Line.lineReply savedBytes after answer answers
 one-table = refl

@@ -16,7 +16,7 @@ use Rattle.card.specs.declared.card.Card.{Card}
 use Rattle.console.specs.Console.{longestPrint, entered}
 use Rattle.console.proofs.Long.{entered-long}
 use Rattle.runner.specs.declared.State.{State}
-use Rattle.runner.specs.Run.{RunState, part, kept, cut, after, ended, longer, takes, takesAll, keptOf, stateOf}
+use Rattle.runner.specs.Run.{RunState, part, kept, cut, withEntry, ended, longer, takes, takesAll, keptOf, stateOf}
 
 -- ---- the output
 
@@ -92,7 +92,7 @@ entered-cut c l store = go (decLt kept (length l))
     go (no h) = ap (λ (t : List ℕ). entered c t store) (take-all kept l (omega arith))
 
 ended-kept : (s : RunState) → ended (keptOf s) ≡ ended s
-ended-kept s = ap (after s) (entered-cut (s .card) (s .line) (s .store))
+ended-kept s = ap (withEntry s) (entered-cut (s .card) (s .line) (s .store))
 
 kept-longer : (s : RunState) (more : List ℕ) → keptOf (longer (keptOf s) more) ≡ keptOf (longer s more)
 kept-longer s more = λ i. record { card = s .card; store = s .store; line = cut-cut (s .line) more i; printed = s .printed }

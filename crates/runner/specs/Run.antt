@@ -27,11 +27,11 @@ unfoldable pub startState : RunState
 startState = record { card = fresh; store = replicate (recordLength cellCount configWidth) 0; line = []; printed = [] }
 
 -- LF: the line is entered
-abbrev pub after : RunState → Entry → RunState
-after s e = record { card = e .card; store = e .store; line = []; printed = s .printed ++ e .printed }
+abbrev pub withEntry : RunState → Entry → RunState
+withEntry s e = record { card = e .card; store = e .store; line = []; printed = s .printed ++ e .printed }
 
 abbrev pub ended : RunState → RunState
-ended s = after s (entered (s .card) (s .line) (s .store))
+ended s = withEntry s (entered (s .card) (s .line) (s .store))
 
 abbrev pub longer : RunState → List ℕ → RunState
 longer s more = record { card = s .card; store = s .store; line = s .line ++ more; printed = s .printed }

@@ -10,21 +10,21 @@ use lib.ListN.{drop, getD, length}
 use lib.Seq.{drop-cons, drop-length}
 use Rattle.cells.specs.declared.cell.State.{State}
 use Rattle.cells.specs.Work.{workOut}
-use Rattle.cellchart.specs.Chart.{readingOf, clear, duration, after}
+use Rattle.cellchart.specs.Chart.{readingOf, clear, duration, keptAfter}
 use Rattle.cellchart.proofs.put_course.Statement.{statement}
 use Rattle.cellchart.proofs.put_course.Tie as tie
 
 -- the course from step i on: step i, and then the rest
 next : (kind : ℕ) (s : State) (steps : List ℕ) (i : ℕ) → i < length steps
-    → after kind (workOut kind duration s (readingOf (getD steps i 0)) .state) (drop (i + 1) steps) ≡ after kind s (drop i steps)
+    → keptAfter kind (workOut kind duration s (readingOf (getD steps i 0)) .state) (drop (i + 1) steps) ≡ keptAfter kind s (drop i steps)
 next kind s steps i h = rw (add-one, drop-cons steps i 0)
 
 -- past the last step nothing is left
-done : (kind : ℕ) (s : State) (steps : List ℕ) (i : ℕ) → i ≡ length steps → after kind s (drop i steps) ≡ s
+done : (kind : ℕ) (s : State) (steps : List ℕ) (i : ℕ) → i ≡ length steps → keptAfter kind s (drop i steps) ≡ s
 done kind s steps i e = rw (e, drop-length)
 
 abbrev Inv-loop : tie.InvT-loop
-Inv-loop kind steps s₀ i₀ s i = (i ≤ 6) × (after kind s (drop i steps) ≡ after kind clear steps)
+Inv-loop kind steps s₀ i₀ s i = (i ≤ 6) × (keptAfter kind s (drop i steps) ≡ keptAfter kind clear steps)
 
 abbrev μ-loop : tie.MeasureT-loop
 μ-loop kind steps s₀ i₀ s i = 6 - i

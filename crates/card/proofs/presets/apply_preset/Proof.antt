@@ -14,8 +14,8 @@ use Rattle.card.specs.Address.{cellCount, connectorCount}
 use Rattle.card.specs.Connectors.{noConnector}
 use Rattle.card.specs.Edits.{withSettings}
 use Rattle.card.specs.Fresh.{noCell}
-use Rattle.card.specs.Presets.{has, sourced, cellAfter, connectorAfter, editedAfter, preset}
-use Rattle.card.specs.PresetRows.{sourceIn, covers, cellIn}
+use Rattle.card.specs.Presets.{has, sourced, cellWithPreset, connectorWithPreset, editedWithPreset, preset}
+use Rattle.card.specs.PresetRows.{sourceUnder, covers, cellUnder}
 use Rattle.card.proofs.PresetRows.{has-cell}
 use Rattle.card.proofs.presets.apply_preset.Statement.{statement}
 use Rattle.card.proofs.presets.apply_preset.Tie as tie
@@ -43,14 +43,14 @@ returns c =
     let says = c .before .before .before .before .before .before .cell-row .ensures in
     let cells = c .before .before .before .cells-under .ensures
     ∙ ap (λ (front : List Cell). front ++ drop cellCount (a .card .cells))
-    (listed-same (λ i. Option·getD (cellIn (row .0) (row .1) i) (getD (a .card .cells) i noCell)) (cellAfter (a .card) (a .v)) cellCount
+    (listed-same (λ i. Option·getD (cellUnder (row .0) (row .1) i) (getD (a .card .cells) i noCell)) (cellWithPreset (a .card) (a .v)) cellCount
     (λ i h. ap (λ (o : Option Cell). Option·getD o (getD (a .card .cells) i noCell)) (says i h))) in
     let connectors = c .before .connectors-under .ensures
-    ∙ listed-same (λ k. sourced (sourceIn (c .before .before .source-row .result) k) (getD (a .card .connectors) k noConnector))
-    (connectorAfter (a .card) (a .v)) connectorCount
+    ∙ listed-same (λ k. sourced (sourceUnder (c .before .before .source-row .result) k) (getD (a .card .connectors) k noConnector))
+    (connectorWithPreset (a .card) (a .v)) connectorCount
     (λ k h. ap (λ (o : Option ℕ). sourced o (getD (a .card .connectors) k noConnector)) (c .before .before .source-row .ensures k h)) in
     let edited = c .edited-under .ensures
-    ∙ built-same (λ i. bitAt (a .card .edited) i || covers (row .0) i) (editedAfter (a .card) (a .v)) cellCount
+    ∙ built-same (λ i. bitAt (a .card .edited) i || covers (row .0) i) (editedWithPreset (a .card) (a .v)) cellCount
     (λ i h. ap (λ (b : Bool). bitAt (a .card .edited) i || b) (sym (has-cell (row .0) (row .1) i) ∙ ap (λ (o : Option Cell). has o) (says i h))) in
     λ k. withSettings (a .card) (a .card .trigger) (cells k) (connectors k) (edited k)
 

@@ -4,7 +4,7 @@ use mathlib.Core.Bool.{not}
 use borrow.Author.Needs.{needs}
 use Rattle.words.specs.Bits.{bitAt}
 use Rattle.words.specs.Listed.{listed}
-use Rattle.card.specs.Presets.{table, settingOf, offered}
+use Rattle.card.specs.Presets.{presetTable, settingOf, offered}
 use Rattle.card.proofs.PresetRows.{listed-agree, past-offered}
 use Rattle.card.proofs.presets.bad_preset.Statement.{statement}
 use Rattle.card.proofs.presets.bad_preset.Tie as tie
@@ -13,7 +13,7 @@ bit-requires : tie.Need-bit-requires
 bit-requires c κs = search needs
 
 returns : tie.Need-returns
-unfolding bitAt listed table settingOf offered
+unfolding bitAt listed presetTable settingOf offered
 returns c =
     ap not (c .bit .ensures ∙ listed-agree (bitAt _) offered 64 (c .before .before .args .v) refl (search needs))
 

@@ -1,6 +1,6 @@
 -- `card::presets::byte` meets its contract: the shift is a quotient.
 use borrow.Author.Needs.{needs}
-use Rattle.card.specs.PresetRows.{byteAt}
+use Rattle.card.specs.PresetRows.{rowByte}
 use mathlib.Core.Path.{refl}
 use Rattle.card.proofs.presets.byte.Statement.{statement}
 use Rattle.card.proofs.presets.byte.Tie as tie
@@ -18,7 +18,7 @@ cast-result-2 : tie.Need-cast-result-2
 cast-result-2 c = search needs
 
 returns : tie.Need-returns
-unfolding byteAt
+unfolding rowByte
 returns c = refl
 
 pub byte-spec : {M : Type 1} → statement M

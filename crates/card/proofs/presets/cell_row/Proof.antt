@@ -5,7 +5,7 @@ use lib.ListN.{getD}
 use borrow.Author.Needs.{needs}
 use Rattle.card.specs.Address.{cellCount}
 use Rattle.card.specs.Presets.{presetCell}
-use Rattle.card.specs.PresetRows.{cellRows, cellIn, CellRows}
+use Rattle.card.specs.PresetRows.{cellRows, cellUnder, CellRows}
 use Rattle.card.proofs.PresetRows.{row-at, past-cell, zero-row}
 use Rattle.card.proofs.presets.cell_row.Statement.{statement}
 use Rattle.card.proofs.presets.cell_row.Tie as tie
@@ -38,7 +38,7 @@ returns : tie.Need-returns
 unfolding CellRows
 returns c =
     let rows = c .before .cell-rows .result in
-    row-at (λ v. cellIn (getD rows (2 * v) 0) (getD rows (2 * v + 1) 0)) presetCell cellRows cellCount
+    row-at (λ v. cellUnder (getD rows (2 * v) 0) (getD rows (2 * v + 1) 0)) presetCell cellRows cellCount
     (c .before .cell-rows .ensures) (c .before .before .args .v) (search needs)
 
 returns-2 : tie.Need-returns-2

@@ -1,6 +1,6 @@
 -- `card::presets::cell_under` meets its contract: the rows set the cell where they cover it.
 use borrow.Author.Needs.{needs}
-use Rattle.card.specs.PresetRows.{cellIn}
+use Rattle.card.specs.PresetRows.{cellUnder}
 use Rattle.card.proofs.presets.cell_under.Statement.{statement}
 use Rattle.card.proofs.presets.cell_under.Tie as tie
 
@@ -32,7 +32,7 @@ wired-cell-requires : tie.Need-wired-cell-requires
 wired-cell-requires c κs = search needs
 
 returns : tie.Need-returns
-unfolding cellIn
+unfolding cellUnder
 returns c =
     rw (
       ← c .before .before .before .before .before .covers .ensures,
@@ -44,7 +44,7 @@ returns c =
     )
 
 returns-2 : tie.Need-returns-2
-unfolding cellIn
+unfolding cellUnder
 returns-2 c = rw (← c .before .covers .ensures, c .if1 .left)
 
 pub cell-under-spec : {M : Type 1} → statement M

@@ -11,13 +11,13 @@ use Rattle.words.proofs.Listed.{listed-next}
 use Rattle.cells.specs.declared.cell.Cell.{Cell}
 use Rattle.card.specs.Address.{cellCount}
 use Rattle.card.specs.Fresh.{noCell}
-use Rattle.card.specs.PresetRows.{cellIn}
+use Rattle.card.specs.PresetRows.{cellUnder}
 use Rattle.card.proofs.presets.cells_under.Statement.{statement}
 use Rattle.card.proofs.presets.cells_under.Tie as tie
 
 -- the cell at an index under the two rows
 abbrev under : ℕ → ℕ → List Cell → ℕ → Cell
-under a b cells i = Option·getD (cellIn a b i) (getD cells i noCell)
+under a b cells i = Option·getD (cellUnder a b i) (getD cells i noCell)
 
 abbrev Inv-loop : tie.InvT-loop
 Inv-loop row cells next₀ i₀ next i = (i ≤ cellCount) × (next ≡ listed (under (row .0) (row .1) cells) i ++ drop i cells)

@@ -1,6 +1,6 @@
 -- `card::presets::connector_under` meets its contract: the bits and the bytes of the row are those of the definition.
 use borrow.Author.Needs.{needs}
-use Rattle.card.specs.PresetRows.{sourceIn}
+use Rattle.card.specs.PresetRows.{sourceUnder}
 use Rattle.card.proofs.presets.connector_under.Statement.{statement}
 use Rattle.card.proofs.presets.connector_under.Tie as tie
 
@@ -28,19 +28,19 @@ address-requires c κs = search needs
 bit-requires-3 : tie.Need-bit-requires-3
 bit-requires-3 c κs = search needs
 
-cast-stepped : tie.Need-cast-stepped
-cast-stepped c = search needs
+cast-offset-address : tie.Need-cast-offset-address
+cast-offset-address c = search needs
 
-stepped-requires : tie.Need-stepped-requires
-stepped-requires c κs = search needs
+offset-address-requires : tie.Need-offset-address-requires
+offset-address-requires c κs = search needs
 
 returns : tie.Need-returns
-unfolding sourceIn
+unfolding sourceUnder
 returns c =
     rw (
       ← c .before .before .before .before .before .before .before .bit .ensures,
       c .before .before .before .before .before .before .if1 .taken,
-      c .stepped .ensures,
+      c .offset-address .ensures,
       c .before .before .address .ensures,
       c .before .before .before .before .byte .ensures,
       c .before .before .before .byte2 .ensures,
@@ -49,7 +49,7 @@ returns c =
     )
 
 returns-2 : tie.Need-returns-2
-unfolding sourceIn
+unfolding sourceUnder
 returns-2 c = rw (← c .before .bit .ensures, c .if1 .left)
 
 pub connector-under-spec : {M : Type 1} → statement M
@@ -64,7 +64,7 @@ connector-under-spec =
     byte-requires-2
     address-requires
     bit-requires-3
-    cast-stepped
-    stepped-requires
+    cast-offset-address
+    offset-address-requires
     returns
     returns-2)

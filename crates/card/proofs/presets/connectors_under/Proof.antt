@@ -11,13 +11,13 @@ use Rattle.card.specs.declared.card.Connector.{Connector}
 use Rattle.card.specs.Address.{connectorCount}
 use Rattle.card.specs.Connectors.{noConnector}
 use Rattle.card.specs.Presets.{sourced}
-use Rattle.card.specs.PresetRows.{sourceIn}
+use Rattle.card.specs.PresetRows.{sourceUnder}
 use Rattle.card.proofs.presets.connectors_under.Statement.{statement}
 use Rattle.card.proofs.presets.connectors_under.Tie as tie
 
 -- the connector at an index under the row
 abbrev under : ℕ → List Connector → ℕ → Connector
-under w connectors k = sourced (sourceIn w k) (getD connectors k noConnector)
+under w connectors k = sourced (sourceUnder w k) (getD connectors k noConnector)
 
 abbrev Inv-loop : tie.InvT-loop
 Inv-loop row connectors next₀ k₀ next k = (k ≤ connectorCount) × (next ≡ listed (under row connectors) k ++ drop k connectors)

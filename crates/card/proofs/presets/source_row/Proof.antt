@@ -6,7 +6,7 @@ use borrow.Author.Needs.{needs}
 use Rattle.words.proofs.Laws.{bit-zero}
 use Rattle.card.specs.Address.{connectorCount}
 use Rattle.card.specs.Presets.{presetSource}
-use Rattle.card.specs.PresetRows.{sourceRows, sourceIn, SourceRows}
+use Rattle.card.specs.PresetRows.{sourceRows, sourceUnder, SourceRows}
 use Rattle.card.proofs.PresetRows.{row-at, past-source}
 use Rattle.card.proofs.presets.source_row.Statement.{statement}
 use Rattle.card.proofs.presets.source_row.Tie as tie
@@ -23,11 +23,11 @@ array-read-result c = search needs
 returns : tie.Need-returns
 unfolding SourceRows
 returns c =
-    row-at (λ v. sourceIn (getD (c .before .source-rows .result) v 0)) presetSource sourceRows connectorCount
+    row-at (λ v. sourceUnder (getD (c .before .source-rows .result) v 0)) presetSource sourceRows connectorCount
     (c .before .source-rows .ensures) (c .before .before .args .v) (search needs)
 
 returns-2 : tie.Need-returns-2
-unfolding sourceIn
+unfolding sourceUnder
 returns-2 c k h = rw (bit-zero (32 + k)) (sym (past-source (c .before .before .args .v) k (search needs)))
 
 pub source-row-spec : {M : Type 1} → statement M

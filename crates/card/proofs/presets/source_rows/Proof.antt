@@ -2,13 +2,13 @@
 use mathlib.Core.Path.{refl}
 use Rattle.words.specs.Bits.{bitAt}
 use Rattle.words.specs.Listed.{listed}
-use Rattle.card.specs.PresetRows.{byteAt, sourceIn, SourceRows}
-use Rattle.card.specs.Presets.{table, settingOf, presetSource}
+use Rattle.card.specs.PresetRows.{rowByte, sourceUnder, SourceRows}
+use Rattle.card.specs.Presets.{presetTable, settingOf, presetSource}
 use Rattle.card.proofs.presets.source_rows.Statement.{statement}
 use Rattle.card.proofs.presets.source_rows.Tie as tie
 
 returns : tie.Need-returns
-unfolding bitAt listed byteAt sourceIn SourceRows table settingOf presetSource
+unfolding bitAt listed rowByte sourceUnder SourceRows presetTable settingOf presetSource
 returns c = refl
 
 pub source-rows-spec : {M : Type 1} → statement M

@@ -7,14 +7,14 @@ use Rattle.card.proofs.presets.wired_cell.Tie as tie
 byte-requires : tie.Need-byte-requires
 byte-requires c κs = search needs
 
-stepped-requires : tie.Need-stepped-requires
-stepped-requires c κs = search needs
+offset-address-requires : tie.Need-offset-address-requires
+offset-address-requires c κs = search needs
 
 byte-requires-2 : tie.Need-byte-requires-2
 byte-requires-2 c κs = search needs
 
-stepped-requires-2 : tie.Need-stepped-requires-2
-stepped-requires-2 c κs = search needs
+offset-address-requires-2 : tie.Need-offset-address-requires-2
+offset-address-requires-2 c κs = search needs
 
 byte-requires-3 : tie.Need-byte-requires-3
 byte-requires-3 c κs = search needs
@@ -35,8 +35,8 @@ returns : tie.Need-returns
 unfolding wiredCell
 returns c =
     rw (
-      c .before .before .before .before .before .before .stepped .ensures,
-      c .before .before .before .before .stepped2 .ensures,
+      c .before .before .before .before .before .before .offset-address .ensures,
+      c .before .before .before .before .offset-address2 .ensures,
       c .before .before .before .before .before .before .before .byte .ensures,
       c .before .before .before .before .before .byte2 .ensures,
       c .before .before .before .byte3 .ensures,
@@ -50,9 +50,9 @@ wired-cell-spec =
     tie.close
     (tie.spec
     byte-requires
-    stepped-requires
+    offset-address-requires
     byte-requires-2
-    stepped-requires-2
+    offset-address-requires-2
     byte-requires-3
     byte-requires-4
     byte-requires-5
