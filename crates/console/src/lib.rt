@@ -106,9 +106,7 @@ fn put_load(out: &mut [u8], k: u8) -> usize
     if k == 0 {
         return text::copy(out, 0, b":A\n");
     }
-    let at = text::copy(out, 0, b":N-");
-    let end = text::put_decimal(out, at, k as u32);
-    text::copy(out, end, b"\n")
+    text::put_numbered(out, b":N-", k as u32, b"\n")
 }
 
 // n less m, and 0 where m is more.
