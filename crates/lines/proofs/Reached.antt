@@ -31,7 +31,7 @@ use Rattle.lines.specs.declared.grammar.Parsed.the-variants.{Malformed, 
 use Rattle.lines.specs.Grammar.{parse}
 use Rattle.lines.specs.Refusal.{when, orElse, judged, anyGiven, anyTooLarge, anyBadAddress, refusal}
 use Rattle.lines.specs.Line.{wireOf, wiresOf, changeFor, decision, decisionFor, refused, shortestReply, lineDecision, lineOutcome}
-use Rattle.lines.specs.Calls.{Call, after, end}
+use Rattle.lines.specs.Calls.{Call, afterCall, end}
 use Rattle.lines.specs.Calls.Call.{line, load, tick}
 use Rattle.lines.proofs.Decisions.{none-of, when-none, judged-none, last-none}
 
@@ -132,8 +132,8 @@ load-valid c bytes ok = go (eqb (loadNumber cellCount configWidth bytes) 0) refl
     go false e = rw (load-refused cellCount configWidth c bytes e) ok
 
 -- every call keeps a card valid
-pub call-valid : (c : Card) (call : Call) → validCard cellCount c ≡ true → validCard cellCount (after cellCount c call) ≡ true
-unfolding after
+pub call-valid : (c : Card) (call : Call) → validCard cellCount c ≡ true → validCard cellCount (afterCall cellCount c call) ≡ true
+unfolding afterCall
 call-valid c (line text reply store) ok = line-valid c text (length reply) (length store) ok
 call-valid c (load bytes) ok = load-valid c bytes ok
 call-valid c (tick full input) ok = valid-tick cellCount c ok full input
@@ -142,7 +142,7 @@ call-valid c (tick full input) ok = valid-tick cellCount c ok full input
 pub reached-valid : (c : Card) (calls : List Call) → validCard cellCount c ≡ true → validCard cellCount (end cellCount c calls) ≡ true
 unfolding end
 reached-valid c [] ok = ok
-reached-valid c (call ∷ calls) ok = reached-valid (after cellCount c call) calls (call-valid c call ok)
+reached-valid c (call ∷ calls) ok = reached-valid (afterCall cellCount c call) calls (call-valid c call ok)
 
 pub fresh-reached-valid : (calls : List Call) → validCard cellCount (end cellCount fresh calls) ≡ true
 fresh-reached-valid calls = reached-valid fresh calls fresh-valid

@@ -13,7 +13,7 @@ use Rattle.card.specs.Record.{configWidth, loadNumber, loaded}
 use Rattle.card.specs.Valid.{valid, validCard}
 use Rattle.card.proofs.Records.{valid-cleared, loaded-valid}
 use Rattle.lines.specs.Line.{shortestReply, lineOutcome}
-use Rattle.lines.specs.Calls.{after, end}
+use Rattle.lines.specs.Calls.{afterCall, end}
 use Rattle.lines.specs.Wiring.{wiringLines}
 use Rattle.lines.specs.Settable.{fed, lineCalls, SetByLines, Settable, ValidIsSettable}
 use Rattle.lines.proofs.Reached.{fresh-reached-valid}
@@ -21,7 +21,7 @@ use Rattle.lines.proofs.Wired.{settable}
 
 -- lines as calls leave what the lines leave
 end-fed : (c : Card) (texts : List (List ℕ)) → end cellCount c (lineCalls texts) ≡ fed cellCount shortestReply 0 c texts
-unfolding end after fed
+unfolding end afterCall fed
 end-fed c [] = refl
 end-fed c (text ∷ texts) = end-fed (lineOutcome cellCount c text shortestReply 0 .card) texts
 

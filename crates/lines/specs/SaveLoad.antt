@@ -30,9 +30,9 @@ pub record Restored (c d : Card) : Type 0 where
 
 -- what a save of c wrote: as many bytes as a record has, at the front of the store, which is as it was beyond; a load takes them, on any card, and
 -- gives the settings back
-pub record Written (c : Card) (bytes store stored : List ℕ) : Type 0 where
+pub record Written (c : Card) (bytes store written : List ℕ) : Type 0 where
   pub sized : length bytes ≡ wholeRecord
-  pub front : stored ≡ bytes ++ drop wholeRecord store
+  pub front : written ≡ bytes ++ drop wholeRecord store
   pub loads : loadNumber cellCount configWidth bytes ≡ 0
   pub restored : (d : Card) → Restored c (loaded cellCount configWidth d bytes)
 

@@ -16,7 +16,7 @@ use Rattle.text.proofs.Stores.{front}
 use Rattle.console.specs.Console.{longestPrint, entered}
 use Rattle.console.proofs.Long.{entered-long}
 use Rattle.runner.specs.declared.State.{State}
-use Rattle.runner.specs.Run.{RunState, part, kept, cut, after, ended, longer, takes, takesAll, keptOf, stateOf}
+use Rattle.runner.specs.Run.{RunState, part, kept, cut, afterEntry, ended, longer, takes, takesAll, keptOf, stateOf}
 
 -- ---- the output
 
@@ -92,7 +92,7 @@ entered-cut n c l store = go (decLt kept (length l))
     go (no h) = ap (λ (t : List ℕ). entered n c t store) (take-all kept l (omega arith))
 
 ended-kept : (n : ℕ) (s : RunState) → ended n (keptOf s) ≡ ended n s
-ended-kept n s = ap (after s) (entered-cut n (s .card) (s .line) (s .store))
+ended-kept n s = ap (afterEntry s) (entered-cut n (s .card) (s .line) (s .store))
 
 kept-longer : (s : RunState) (more : List ℕ) → keptOf (longer (keptOf s) more) ≡ keptOf (longer s more)
 kept-longer s more = λ i. record { card = s .card; store = s .store; line = cut-cut (s .line) more i; printed = s .printed }

@@ -26,11 +26,11 @@ unfoldable pub startState : ℕ → RunState
 startState n = record { card = freshOf n; store = replicate (recordLength n configWidth) 0; line = []; printed = [] }
 
 -- LF: the line is entered
-abbrev pub after : RunState → Entry → RunState
-after s e = record { card = e .card; store = e .store; line = []; printed = s .printed ++ e .printed }
+abbrev pub afterEntry : RunState → Entry → RunState
+afterEntry s e = record { card = e .card; store = e .store; line = []; printed = s .printed ++ e .printed }
 
 abbrev pub ended : ℕ → RunState → RunState
-ended n s = after s (entered n (s .card) (s .line) (s .store))
+ended n s = afterEntry s (entered n (s .card) (s .line) (s .store))
 
 abbrev pub longer : RunState → List ℕ → RunState
 longer s more = record { card = s .card; store = s .store; line = s .line ++ more; printed = s .printed }

@@ -62,9 +62,9 @@ loop-again c =
     let h : i < length bytes = search needs in
     let place : a .at + 2 * i ≡ a .at + i * 2 = omega arith in
     let next = field-next digitPair 2 (a .at) i bytes 0 pair h (made .ensures) (inv .3) (a .out .now) (l .loop .out) _ (inv .2) place in
-    let stored = c .before .before .copy .ensures .0 ∙ next in
+    let last = c .before .before .copy .ensures .0 ∙ next in
     let longer = field-longer digitPair 2 (a .at) i bytes 0 pair h (made .ensures) (inv .3) (search needs) in
-    (search needs, refl, stored, longer, ap length stored ∙ simp length-sets)
+    (search needs, refl, last, longer, ap length last ∙ simp length-sets)
 
 mul-result : tie.Need-mul-result Inv-loop μ-loop
 mul-result c = search needs

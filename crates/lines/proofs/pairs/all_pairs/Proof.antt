@@ -1,28 +1,28 @@
 -- `lines::pairs::all_pairs` meets its contract: four steps, and the end of the line.
 use mathlib.Core.Path.{_≡_}
-use Rattle.lines.specs.Grammar.{begun, stepped, pairsOf}
+use Rattle.lines.specs.Grammar.{begun, pairRead, pairsOf}
 use borrow.Author.Needs.{needs}
 use Rattle.lines.proofs.pairs.all_pairs.Statement.{statement}
 use Rattle.lines.proofs.pairs.all_pairs.Tie as tie
 
-step-requires : tie.Need-step-requires
-step-requires c κs = search needs
+read-pair-requires : tie.Need-read-pair-requires
+read-pair-requires c κs = search needs
 
-step-requires-2 : tie.Need-step-requires-2
-step-requires-2 c κs = search needs
+read-pair-requires-2 : tie.Need-read-pair-requires-2
+read-pair-requires-2 c κs = search needs
 
-step-requires-3 : tie.Need-step-requires-3
-step-requires-3 c κs = search needs
+read-pair-requires-3 : tie.Need-read-pair-requires-3
+read-pair-requires-3 c κs = search needs
 
-step-requires-4 : tie.Need-step-requires-4
-step-requires-4 c κs = search needs
+read-pair-requires-4 : tie.Need-read-pair-requires-4
+read-pair-requires-4 c κs = search needs
 
 any-requires : tie.Need-any-requires
 any-requires c κs = search needs
 
 -- the reading that four steps give
-four : (c : tie.After-step4) → let a = c .before .before .before .before .before .args in
-    c .step4 .result ≡ stepped (a .text .now) (stepped (a .text .now) (stepped (a .text .now) (stepped (a .text .now) (begun (a .at)))))
+four : (c : tie.After-read-pair4) → let a = c .before .before .before .before .before .args in
+    c .read-pair4 .result ≡ pairRead (a .text .now) (pairRead (a .text .now) (pairRead (a .text .now) (pairRead (a .text .now) (begun (a .at)))))
 four c = cc
 
 returns : tie.Need-returns
@@ -37,10 +37,10 @@ pub all-pairs-spec : {M : Type 1} → statement M
 all-pairs-spec =
     tie.close
     (tie.spec
-    step-requires
-    step-requires-2
-    step-requires-3
-    step-requires-4
+    read-pair-requires
+    read-pair-requires-2
+    read-pair-requires-3
+    read-pair-requires-4
     any-requires
     returns
     returns-2)
