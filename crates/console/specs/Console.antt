@@ -7,7 +7,6 @@ use lib.ListN.{length, getD, take}
 use Rattle.text.specs.Decimal.{isDigit, decimal}
 use Rattle.text.specs.Hex.{hex4, hexAt}
 use Rattle.card.specs.declared.card.Card.{Card}
-use Rattle.card.specs.Address.{cellCount}
 use Rattle.ticks.specs.declared.tick.Answer.{Answer}
 use Rattle.ticks.specs.declared.tick.Ticked.{Ticked}
 use Rattle.ticks.specs.Tick.{tick}
@@ -60,14 +59,14 @@ loadText k = cond (eqb k 0) (58 ∷ 65 ∷ 10 ∷ []) ((58 ∷ 78 ∷ 45 ∷ [])
 unfoldable pub plainReply : List ℕ → List ℕ
 plainReply r = take (length r - 2) r ++ (10 ∷ [])
 
--- ---- one line of input
+-- ---- one line of input, to a card of n cells
 
 -- the room that a line asks for; nothing printed is longer
 abbrev pub longestPrint : ℕ
 longestPrint = 32
 
-abbrev pub ticked : Card → List ℕ → Ticked
-ticked c t = tick cellCount (tickLine t .full) c (tickLine t .input)
+abbrev pub ticked : ℕ → Card → List ℕ → Ticked
+ticked n c t = tick n (tickLine t .full) c (tickLine t .input)
 
 -- what a line leaves: the card, the store, and the bytes that it prints
 pub record Entry : Type 0 where
@@ -75,20 +74,20 @@ pub record Entry : Type 0 where
   pub store : List ℕ
   pub printed : List ℕ
 
-abbrev pub byTick : Card → List ℕ → List ℕ → Entry
-byTick c t store = record { card = ticked c t .card; store = store; printed = tickText (ticked c t .answer) }
+abbrev pub byTick : ℕ → Card → List ℕ → List ℕ → Entry
+byTick n c t store = record { card = ticked n c t .card; store = store; printed = tickText (ticked n c t .answer) }
 
-abbrev pub byLoad : Card → List ℕ → Entry
-byLoad c store = record { card = loaded cellCount configWidth c store; store = store; printed = loadText (loadNumber cellCount configWidth store) }
+abbrev pub byLoad : ℕ → Card → List ℕ → Entry
+byLoad n c store = record { card = loaded n configWidth c store; store = store; printed = loadText (loadNumber n configWidth store) }
 
-abbrev pub byLine : Card → List ℕ → List ℕ → Entry
-byLine c t store =
+abbrev pub byLine : ℕ → Card → List ℕ → List ℕ → Entry
+byLine n c t store =
     record {
-      card = lineOutcome cellCount c t shortestReply (length store) .card;
-      store = storeAfter cellCount c t shortestReply store;
-      printed = plainReply (lineReply cellCount c t shortestReply (length store));
+      card = lineOutcome n c t shortestReply (length store) .card;
+      store = storeAfter n c t shortestReply store;
+      printed = plainReply (lineReply n c t shortestReply (length store));
     }
 
 -- a tick, a load, or a card line; a malformed T line is no card line either, and so prints `:N-2`
-unfoldable pub entered : Card → List ℕ → List ℕ → Entry
-entered c t store = cond (tickLine t .ok) (byTick c t store) (cond (isLoadLine t) (byLoad c store) (byLine c t store))
+unfoldable pub entered : ℕ → Card → List ℕ → List ℕ → Entry
+entered n c t store = cond (tickLine t .ok) (byTick n c t store) (cond (isLoadLine t) (byLoad n c store) (byLine n c t store))

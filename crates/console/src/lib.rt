@@ -106,9 +106,7 @@ fn put_load(out: &mut [u8], k: u8) -> usize
     if k == 0 {
         return text::copy(out, 0, b":A\n");
     }
-    let at = text::copy(out, 0, b":N-");
-    let end = text::put_decimal(out, at, k as u32);
-    text::copy(out, end, b"\n")
+    text::put_numbered(out, b":N-", k as u32, b"\n")
 }
 
 // n less m, and 0 where m is more.
@@ -156,10 +154,10 @@ fn do_tick(card: Card, t: TickLine) -> Ticked
 // A card line, with its reply in the place of the output.
 fn enter_line(card: Card, text: &[u8], store: &mut [u8], out: &mut [u8]) -> Entered
     requires { ⌜ longestPrint ≤ length (now out) ⌝ }
-    ensures { λ r. ⌜ r .card ≡ byLine card (now (text .entry)) (now (store .entry)) .card ⌝ }
-    ensures { λ r. ⌜ now (store .exit) ≡ byLine card (now (text .entry)) (now (store .entry)) .store ⌝ }
-    ensures { λ r. ⌜ now (out .exit) ≡ sets (now (out .entry)) 0 (byLine card (now (text .entry)) (now (store .entry)) .printed) ⌝ }
-    ensures { λ r. ⌜ r .len ≡ length (byLine card (now (text .entry)) (now (store .entry)) .printed) ⌝ }
+    ensures { λ r. ⌜ r .card ≡ byLine cellCount card (now (text .entry)) (now (store .entry)) .card ⌝ }
+    ensures { λ r. ⌜ now (store .exit) ≡ byLine cellCount card (now (text .entry)) (now (store .entry)) .store ⌝ }
+    ensures { λ r. ⌜ now (out .exit) ≡ sets (now (out .entry)) 0 (byLine cellCount card (now (text .entry)) (now (store .entry)) .printed) ⌝ }
+    ensures { λ r. ⌜ r .len ≡ length (byLine cellCount card (now (text .entry)) (now (store .entry)) .printed) ⌝ }
     ensures { λ r. ⌜ r .len ≤ longestPrint ⌝ }
 {
     let mut reply = [0u8; SHORTEST_REPLY];
@@ -177,10 +175,10 @@ fn enter_line(card: Card, text: &[u8], store: &mut [u8], out: &mut [u8]) -> Ente
 // the longest print, and `len` says how many bytes that is.
 pub fn enter(card: Card, text: &[u8], store: &mut [u8], out: &mut [u8]) -> Entered
     requires { ⌜ longestPrint ≤ length (now out) ⌝ }
-    ensures { λ r. ⌜ r .card ≡ entered card (now (text .entry)) (now (store .entry)) .card ⌝ }
-    ensures { λ r. ⌜ now (store .exit) ≡ entered card (now (text .entry)) (now (store .entry)) .store ⌝ }
-    ensures { λ r. ⌜ now (out .exit) ≡ sets (now (out .entry)) 0 (entered card (now (text .entry)) (now (store .entry)) .printed) ⌝ }
-    ensures { λ r. ⌜ r .len ≡ length (entered card (now (text .entry)) (now (store .entry)) .printed) ⌝ }
+    ensures { λ r. ⌜ r .card ≡ entered cellCount card (now (text .entry)) (now (store .entry)) .card ⌝ }
+    ensures { λ r. ⌜ now (store .exit) ≡ entered cellCount card (now (text .entry)) (now (store .entry)) .store ⌝ }
+    ensures { λ r. ⌜ now (out .exit) ≡ sets (now (out .entry)) 0 (entered cellCount card (now (text .entry)) (now (store .entry)) .printed) ⌝ }
+    ensures { λ r. ⌜ r .len ≡ length (entered cellCount card (now (text .entry)) (now (store .entry)) .printed) ⌝ }
     ensures { λ r. ⌜ r .len ≤ longestPrint ⌝ }
 {
     let t = tick_line(text);

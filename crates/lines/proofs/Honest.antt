@@ -21,7 +21,7 @@ use Rattle.ticks.specs.Tick
 use Rattle.ticks.proofs.Sleep.{quick-set, remembers, recalls, started-low}
 use Rattle.saved.specs.Record.{configWidth, loadNumber, loaded}
 use Rattle.lines.specs.Line.{lineChange, lineOutcome}
-use Rattle.lines.specs.Calls.{Call, after, end}
+use Rattle.lines.specs.Calls.{Call, afterCall, end}
 use Rattle.lines.specs.Calls.Call.{line, load, tick}
 use Rattle.lines.specs.History.{editedNext, editedSince, Readings, lowReadings, readNext, readSince, WhoWakes, lastNext, lastSince}
 use Rattle.lines.proofs.Lists.{line-edit}
@@ -30,8 +30,8 @@ module _ (n : ℕ) where
   -- ---- edits
 
   -- after a call a cell is edited as the calls say
-  pub call-edited : (c : Card) (call : Call) (i : ℕ) → i < n → bitAt (after n c call .edited) i ≡ editedNext n c call i (bitAt (c .edited) i)
-  unfolding after editedNext lineOutcome loaded Tick.tick
+  pub call-edited : (c : Card) (call : Call) (i : ℕ) → i < n → bitAt (afterCall n c call .edited) i ≡ editedNext n c call i (bitAt (c .edited) i)
+  unfolding afterCall editedNext lineOutcome loaded Tick.tick
   call-edited c (line text reply store) i h = changed-bit n c (lineChange n c text (length reply) (length store)) i h
   call-edited c (load bytes) i h = go (eqb (loadNumber n configWidth bytes) 0) _ refl
     where
@@ -50,7 +50,7 @@ module _ (n : ℕ) where
   unfolding end editedSince
   edited-honest c [] i h = refl
   edited-honest c (call ∷ calls) i h =
-      edited-honest (after n c call) calls i h ∙ ap (editedSince n (after n c call) calls i) (call-edited c call i h)
+      edited-honest (afterCall n c call) calls i h ∙ ap (editedSince n (afterCall n c call) calls i) (call-edited c call i h)
 
   -- from a fresh card, where none is edited
   pub edited-from-fresh : (calls : List Call) (i : ℕ) → i < n → bitAt (end n (freshOf n) calls .edited) i ≡ editedSince n (freshOf n) calls i false
@@ -59,8 +59,8 @@ module _ (n : ℕ) where
   -- ---- words
 
   -- after a call the memory is what the calls say
-  pub call-last : (c : Card) (call : Call) → after n c call .memory ≡ lastNext n c call (c .memory)
-  unfolding after lastNext loaded Tick.tick
+  pub call-last : (c : Card) (call : Call) → afterCall n c call .memory ≡ lastNext n c call (c .memory)
+  unfolding afterCall lastNext loaded Tick.tick
   call-last c (line text reply store) = line-edit n c text (length reply) (length store) .memory
   call-last c (load bytes) = go (eqb (loadNumber n configWidth bytes) 0) _ refl
     where
@@ -79,7 +79,7 @@ module _ (n : ℕ) where
   pub last-honest : (c : Card) (calls : List Call) → end n c calls .memory ≡ lastSince n c calls (c .memory)
   unfolding end lastSince
   last-honest c [] = refl
-  last-honest c (call ∷ calls) = last-honest (after n c call) calls ∙ ap (lastSince n (after n c call) calls) (call-last c call)
+  last-honest c (call ∷ calls) = last-honest (afterCall n c call) calls ∙ ap (lastSince n (afterCall n c call) calls) (call-last c call)
 
   -- ---- readings
 
@@ -90,8 +90,8 @@ module _ (n : ℕ) where
 
   -- after a call the memory says what the last tick that ran read, as the calls say it
   pub call-read : (c : Card) (call : Call) (i : ℕ) → i ≤ n
-      → remembered n i (after n c call .memory) ≡ readNext n c call i (remembered n i (c .memory))
-  unfolding after readNext lowReadings loaded Tick.tick
+      → remembered n i (afterCall n c call .memory) ≡ readNext n c call i (remembered n i (c .memory))
+  unfolding afterCall readNext lowReadings loaded Tick.tick
   call-read c (line text reply store) i h = ap (remembered n i) (line-edit n c text (length reply) (length store) .memory)
   call-read c (load bytes) i h = go (eqb (loadNumber n configWidth bytes) 0) _ (started-low n i)
     where
@@ -111,7 +111,7 @@ module _ (n : ℕ) where
       → remembered n i (end n c calls .memory) ≡ readSince n c calls i (remembered n i (c .memory))
   unfolding end readSince
   read-honest c [] i h = refl
-  read-honest c (call ∷ calls) i h = read-honest (after n c call) calls i h ∙ ap (readSince n (after n c call) calls i) (call-read c call i h)
+  read-honest c (call ∷ calls) i h = read-honest (afterCall n c call) calls i h ∙ ap (readSince n (afterCall n c call) calls i) (call-read c call i h)
 
   -- from a fresh card
   pub read-from-fresh : (calls : List Call) (i : ℕ) → i ≤ n → remembered n i (end n (freshOf n) calls .memory) ≡ readSince n (freshOf n) calls i lowReadings

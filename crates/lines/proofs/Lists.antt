@@ -23,7 +23,7 @@ use Rattle.lines.specs.declared.grammar.Parsed.{Parsed}
 use Rattle.lines.specs.declared.grammar.Parsed.the-variants.{Malformed, Elsewhere, Here}
 use Rattle.lines.specs.Grammar.{parse}
 use Rattle.lines.specs.Line.{decision, decisionFor, refused, shortestReply, lineDecision, lineChange, lineOutcome}
-use Rattle.lines.specs.Calls.{Call, after, answer, end, answers}
+use Rattle.lines.specs.Calls.{Call, afterCall, answer, end, answers}
 use Rattle.lines.specs.Calls.Call.{line, load, tick}
 use Rattle.lines.specs.Demand3.{SameCall, SameCalls, AlikeReply, AlikeReplies, Demand3}
 use Rattle.lines.specs.Demand3.SameCall.{same-line, same-load, same-tick}
@@ -61,8 +61,8 @@ module _ (n : ℕ) where
   load-settled c false d p q = q
 
   -- every call keeps a card settled
-  pub call-settled : (c : Card) (call : Call) → Settled n c → Settled n (after n c call)
-  unfolding after loaded
+  pub call-settled : (c : Card) (call : Call) → Settled n c → Settled n (afterCall n c call)
+  unfolding afterCall loaded
   call-settled c (line text reply store) s = edit-settled n c _ (line-edit n c text (length reply) (length store)) s
   call-settled c (load bytes) s = load-settled c (eqb (loadNumber n configWidth bytes) 0) _ (powered-settled n _ _ _) s
   call-settled c (tick full input) s = tick-settled n full c input s
@@ -77,8 +77,8 @@ module _ (n : ℕ) where
       let a = same-ticks n c input s in
       record { card = sym (a .card); ran = sym (a .ran); driven = sym (a .driven); cells = sym (a .cells) }
 
-  same-after : (c : Card) {a b : Call} → SameCall a b → Settled n c → after n c a ≡ after n c b
-  unfolding after
+  same-after : (c : Card) {a b : Call} → SameCall a b → Settled n c → afterCall n c a ≡ afterCall n c b
+  unfolding afterCall
   same-after c (same-line text reply other store another p q) s = λ i. lineOutcome n c text (p i) (q i) .card
   same-after c (same-load bytes) s = refl
   same-after c (same-tick full quick input) s = ticks-alike c full quick input s .card
@@ -100,9 +100,9 @@ module _ (n : ℕ) where
   same-lists c no-calls s = (refl, no-replies)
   same-lists c (more-calls {a = a} {b = b} {s = before} {t = t} p ps) s =
       let e = same-after c p s in
-      let rest = same-lists (after n c a) ps (call-settled c a s) in (
+      let rest = same-lists (afterCall n c a) ps (call-settled c a s) in (
         rest .0 ∙ ap (λ (d : Card). end n d t) e,
-        more-replies (same-answer c p s) (subst (λ (d : Card). AlikeReplies (answers n (after n c a) before) (answers n d t)) e (rest .1)),
+        more-replies (same-answer c p s) (subst (λ (d : Card). AlikeReplies (answers n (afterCall n c a) before) (answers n d t)) e (rest .1)),
       )
 
   pub demand3 : Demand3 n
@@ -113,4 +113,4 @@ module _ (n : ℕ) where
   pub reached-settled : (c : Card) (calls : List Call) → Settled n c → Settled n (end n c calls)
   unfolding end
   reached-settled c [] s = s
-  reached-settled c (call ∷ calls) s = reached-settled (after n c call) calls (call-settled c call s)
+  reached-settled c (call ∷ calls) s = reached-settled (afterCall n c call) calls (call-settled c call s)

@@ -23,7 +23,7 @@ use Rattle.lines.specs.declared.grammar.Command.{Command}
 use Rattle.lines.specs.declared.grammar.Command.the-variants.{Move, Where, Trigger, Home, Preset, SetKind, SetConfig, SetState, GetKind, GetConfig}
 use Rattle.lines.specs.declared.grammar.Command.the-variants.{GetState, SetSlots, GetSlot, Front, Back, Cells, Save}
 use Rattle.lines.specs.declared.grammar.Parsed.the-variants.{Here}
-use Rattle.lines.specs.Grammar.{byteAt, isWord, isWhole, toEnd, slotOf, noPairs, gave, give, begun, stepped, finished, pairsOf, writeOf, ccaWrite}
+use Rattle.lines.specs.Grammar.{charAt, isWord, isWhole, toEnd, slotOf, noPairs, gave, give, begun, pairRead, finished, pairsOf, writeOf, ccaWrite}
 use Rattle.lines.specs.Grammar.{ccaRead, ccaForm, slotForm, ccbForm, readOf, readForm, cardForm, plainForm, addressed, longestLine, parse, equals}
 use Rattle.lines.specs.Grammar.{blank, CCA, CCB, M-E=, PM-E=}
 use Rattle.lines.specs.Wiring.{letterOf, cardLine, ccaText, givenPair, givenPairs, pairsText, commandText, printable, printableSlot, printableSlots}
@@ -57,7 +57,7 @@ letter-read NoSlot = refl
 abbrev Sized : List ℕ → Type 0
 Sized t = (1 ≤ length t) × (length t ≤ longestLine)
 
-parse-plain : (t : List ℕ) → Sized t → isDigit (byteAt t 0) ≡ false → parse t ≡ plainForm t
+parse-plain : (t : List ℕ) → Sized t → isDigit (charAt t 0) ≡ false → parse t ≡ plainForm t
 unfolding parse
 parse-plain t size letter = rw (le-leb 1 (length t) (size .0), le-leb (length t) longestLine (size .1), letter)
 
@@ -108,7 +108,7 @@ pairs-stop (pair ∷ pairs) = refl
 -- one step takes one pair
 module _ (t : List ℕ) (p : Pairs) (at : ℕ) (s : Slot) (v : ℕ) (rest : List ℕ) (there : drop at t ≡ blank ∷ letterOf s ∷ equals ∷ decimal v ++ rest)
     (stops : digitsOf rest ≡ []) (first : gave p s ≡ false) (h : printable v ≡ true) where
-  byte-there : (i : ℕ) → byteAt t (at + i) ≡ byteAt (blank ∷ letterOf s ∷ equals ∷ decimal v ++ rest) i
+  byte-there : (i : ℕ) → charAt t (at + i) ≡ charAt (blank ∷ letterOf s ∷ equals ∷ decimal v ++ rest) i
   byte-there i = sym (getD-drop at t i 0) ∙ ap (λ (l : List ℕ). getD l i 0) there
 
   rest-there : drop (at + 3) t ≡ decimal v ++ rest
@@ -119,21 +119,21 @@ module _ (t : List ℕ) (p : Pairs) (at : ℕ) (s : Slot) (v : ℕ) (rest : List
       let left = sym (length-drop at t) ∙ ap length there in
       omega arith
 
-  takes-one : stepped t (read p at) ≡ read (give p s v) (at + 3 + length (decimal v))
-  unfolding stepped
+  takes-one : pairRead t (read p at) ≡ read (give p s v) (at + 3 + length (decimal v))
+  unfolding pairRead
   takes-one =
       let number = print-reads-at t (at + 3) v rest (ltb-true v (10 ^ maxDigits) h) rest-there stops in
-      let start : byteAt t at ≡ blank = ap (byteAt t) (sym (add-zero at)) ∙ byte-there 0 in
+      let start : charAt t at ≡ blank = ap (charAt t) (sym (add-zero at)) ∙ byte-there 0 in
       rw (lt-ltb at (length t) (omega (arith, within)), start, byte-there 1, byte-there 2, letter-read s, first, number)
 
 -- k steps
 steps : ℕ → List ℕ → Reading → Reading
 steps zero t r = r
-steps (suc k) t r = steps k t (stepped t r)
+steps (suc k) t r = steps k t (pairRead t r)
 
 -- the end of the line stays
 steps-end : (k : ℕ) (t : List ℕ) (p : Pairs) → steps k t (read p (length t)) ≡ read p (length t)
-unfolding steps stepped
+unfolding steps pairRead
 steps-end zero t p = refl
 steps-end (suc k) t p = rw (le-ltb (length t) (length t) (omega arith)) (steps-end k t p)
 

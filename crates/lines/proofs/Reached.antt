@@ -33,7 +33,7 @@ use Rattle.lines.specs.declared.grammar.Parsed.the-variants.{Malformed, 
 use Rattle.lines.specs.Grammar.{parse}
 use Rattle.lines.specs.Refusal.{when, orElse, judged, anyGiven, anyTooLarge, anyBadAddress, refusal}
 use Rattle.lines.specs.Line.{wireOf, wiresOf, changeFor, decision, decisionFor, refused, shortestReply, lineDecision, lineOutcome}
-use Rattle.lines.specs.Calls.{Call, after, end}
+use Rattle.lines.specs.Calls.{Call, afterCall, end}
 use Rattle.lines.specs.Calls.Call.{line, load, tick}
 use Rattle.lines.proofs.Decisions.{none-of, when-none, judged-none, last-none}
 
@@ -136,8 +136,8 @@ module _ (n : ℕ) (more : cellCount ≤ n) where
       go false e = rw (load-refused n configWidth c bytes e) ok
 
   -- every call keeps a card valid
-  pub call-valid : (c : Card) (call : Call) → validCard n c ≡ true → validCard n (after n c call) ≡ true
-  unfolding after
+  pub call-valid : (c : Card) (call : Call) → validCard n c ≡ true → validCard n (afterCall n c call) ≡ true
+  unfolding afterCall
   call-valid c (line text reply store) ok = line-valid c text (length reply) (length store) ok
   call-valid c (load bytes) ok = load-valid c bytes ok
   call-valid c (tick full input) ok = valid-tick n c ok full input
@@ -146,7 +146,7 @@ module _ (n : ℕ) (more : cellCount ≤ n) where
   pub reached-valid : (c : Card) (calls : List Call) → validCard n c ≡ true → validCard n (end n c calls) ≡ true
   unfolding end
   reached-valid c [] ok = ok
-  reached-valid c (call ∷ calls) ok = reached-valid (after n c call) calls (call-valid c call ok)
+  reached-valid c (call ∷ calls) ok = reached-valid (afterCall n c call) calls (call-valid c call ok)
 
   pub fresh-reached-valid : (calls : List Call) → validCard n (end n (freshOf n) calls) ≡ true
   fresh-reached-valid calls = reached-valid (freshOf n) calls (fresh-valid n)

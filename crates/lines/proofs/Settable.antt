@@ -15,7 +15,7 @@ use Rattle.card.proofs.Settings.{valid-cleared}
 use Rattle.saved.specs.Record.{configWidth, loadNumber, loaded}
 use Rattle.saved.proofs.Records.{loaded-valid}
 use Rattle.lines.specs.Line.{shortestReply, lineOutcome}
-use Rattle.lines.specs.Calls.{after, end}
+use Rattle.lines.specs.Calls.{afterCall, end}
 use Rattle.lines.specs.Wiring.{wiringLines}
 use Rattle.lines.specs.Settable.{fed, lineCalls, SetByLines, Settable, ValidIsSettable}
 use Rattle.lines.proofs.Reached.{fresh-reached-valid}
@@ -23,7 +23,7 @@ use Rattle.lines.proofs.Wired.{settable}
 
 -- lines as calls leave what the lines leave
 end-fed : (n : ℕ) (c : Card) (texts : List (List ℕ)) → end n c (lineCalls texts) ≡ fed n shortestReply 0 c texts
-unfolding end after fed
+unfolding end afterCall fed
 end-fed n c [] = refl
 end-fed n c (text ∷ texts) = end-fed n (lineOutcome n c text shortestReply 0 .card) texts
 

@@ -211,9 +211,9 @@ module _ (n store : ℕ) (apart : firstCell + n ≤ firstConnector) where
         unfolding changed changeFor wired
         slots-obeyed =
             let used = rowOf (cell .kind) .used in
-            let given = wiresOf (pairsIn cell) in
+            let wires = wiresOf (pairsIn cell) in
             rw (wired-given old used (cell .slots))
-            (slots-written n c i within there old d w used (given .x ∷ given .y ∷ given .z ∷ given .f ∷ []))
+            (slots-written n c i within there old d w used (wires .x ∷ wires .y ∷ wires .z ∷ wires .f ∷ []))
 
       -- one of two
       either-written : (test : Bool) (cell : Cell) (e : Card) → CellWritten c i cell e → CellWritten c i (cond test cell old) (cond test e d)

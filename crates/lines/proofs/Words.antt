@@ -11,11 +11,11 @@ use lib.ListN.{length, getD, drop, drop-of-length-le}
 use lib.Seq.{drop-cons}
 use Rattle.text.specs.Decimal.{digitsOf, leads, plain, numberIn, numberAt}
 use Rattle.text.proofs.DecimalLaws.{digits-within}
-use Rattle.lines.specs.Grammar.{byteAt, isWord}
+use Rattle.lines.specs.Grammar.{charAt, isWord}
 
 -- one byte more of the word
 pub word-next : (word t : List ℕ) (at i : ℕ) → i < length word
-    → isWord (drop i word) (at + i) t ≡ (eqb (byteAt t (at + i)) (getD word i 0) && isWord (drop (i + 1) word) (at + (i + 1)) t)
+    → isWord (drop i word) (at + i) t ≡ (eqb (charAt t (at + i)) (getD word i 0) && isWord (drop (i + 1) word) (at + (i + 1)) t)
 unfolding isWord
 word-next word t at i h = rw (drop-cons word i 0 h, add-one, add-suc)
 

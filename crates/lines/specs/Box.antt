@@ -26,13 +26,13 @@ use Rattle.card.specs.Valid.{permittedBase, badPlace, badCellType, badConfig, u
 use Rattle.ticks.specs.Reading.{levelAt, readsLevels, reads, slotsRead, mixed, view}
 use Rattle.ticks.specs.Levels.{linesOf}
 use Rattle.ticks.specs.Tick.{readNow, readLast, named, turnAt, outputsBelow, turned, tick}
-use Rattle.lines.specs.Grammar.{isWord, isWhole, toEnd, slotOf, gave, give, stepped, pairsOf, writeOf, ccaWrite, ccaRead, ccaForm, slotForm, ccbForm}
+use Rattle.lines.specs.Grammar.{isWord, isWhole, toEnd, slotOf, gave, give, pairRead, pairsOf, writeOf, ccaWrite, ccaRead, ccaForm, slotForm, ccbForm}
 use Rattle.lines.specs.Grammar.{readOf, readForm, cardForm, plainForm, addressed, parse}
 use Rattle.lines.specs.Refusal.{alone, refusal}
 use Rattle.lines.specs.Line
 use Rattle.lines.specs.Line.{shortestReply, changeFor, responseTo, decision, decisionFor, lineDecision, lineOutcome, replyOf}
 use Rattle.lines.specs.Calls
-use Rattle.lines.specs.Calls.{Call, Reply, savedBytes, after, answer, answers}
+use Rattle.lines.specs.Calls.{Call, Reply, savedBytes, afterCall, answer, answers}
 use Rattle.lines.specs.Calls.Reply.{lineReply, tickReply}
 
 -- an entry is about a level, the presets that are offered, or the answers to a list of calls
@@ -167,5 +167,5 @@ box =
     ∷ []
 
 one-table : map (λ (e : Entry × Entry). e .0) box ≡ map (λ (e : Entry × Entry). e .1) box
-unfolding low high read lookup jk11 triggered clocked taking offeredOf line quick run accepted ran bytesOf ones onesIn withBit wordOf bitAt listed valueBy isDigit digitsOf leads plain numberIn numberAt rowOf slotsOf taken workAs workOut stirredAs stirred disagree wakes levelAt readsLevels reads slotsRead mixed view linesOf move currentCell currentConnector putCell putConnector typed setType configuredState configured setConfig wired setSlots setSource fresh presetTable settingOf offered readNow readLast named turnAt outputsBelow turned tick permittedBase badPlace badCellType badConfig unusedSlot badAddress isWord isWhole toEnd slotOf gave give stepped pairsOf writeOf ccaWrite ccaRead ccaForm slotForm ccbForm readOf readForm cardForm plainForm addressed parse alone refusal changed changeFor responseTo decision decisionFor lineDecision lineOutcome replyOf Line.lineReply savedBytes after answer answers
+unfolding low high read lookup jk11 triggered clocked taking offeredOf line quick run accepted ran bytesOf ones onesIn withBit wordOf bitAt listed valueBy isDigit digitsOf leads plain numberIn numberAt rowOf slotsOf taken workAs workOut stirredAs stirred disagree wakes levelAt readsLevels reads slotsRead mixed view linesOf move currentCell currentConnector putCell putConnector typed setType configuredState configured setConfig wired setSlots setSource fresh presetTable settingOf offered readNow readLast named turnAt outputsBelow turned tick permittedBase badPlace badCellType badConfig unusedSlot badAddress isWord isWhole toEnd slotOf gave give pairRead pairsOf writeOf ccaWrite ccaRead ccaForm slotForm ccbForm readOf readForm cardForm plainForm addressed parse alone refusal changed changeFor responseTo decision decisionFor lineDecision lineOutcome replyOf Line.lineReply savedBytes afterCall answer answers
 one-table = refl

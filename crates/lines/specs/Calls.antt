@@ -33,10 +33,10 @@ module _ (n : ℕ) where
       cond (eqb (lineOutcome n c text reply store .k) 0 && lineOutcome n c text reply store .response .saves) (recordOf n configWidth c) []
 
   -- the card after a call, and the call's answer
-  unfoldable pub after : Card → Call → Card
-  after c (line text reply store) = lineOutcome n c text (length reply) (length store) .card
-  after c (load bytes) = loaded n configWidth c bytes
-  after c (tick full input) = Tick.tick n full c input .card
+  unfoldable pub afterCall : Card → Call → Card
+  afterCall c (line text reply store) = lineOutcome n c text (length reply) (length store) .card
+  afterCall c (load bytes) = loaded n configWidth c bytes
+  afterCall c (tick full input) = Tick.tick n full c input .card
 
   unfoldable pub answer : Card → Call → Reply
   answer c (line text reply store) =
@@ -48,8 +48,8 @@ module _ (n : ℕ) where
   -- a list of calls: the card at its end, and the answers
   unfoldable pub end : Card → List Call → Card
   end c [] = c
-  end c (call ∷ calls) = end (after c call) calls
+  end c (call ∷ calls) = end (afterCall c call) calls
 
   unfoldable pub answers : Card → List Call → List Reply
   answers c [] = []
-  answers c (call ∷ calls) = answer c call ∷ answers (after c call) calls
+  answers c (call ∷ calls) = answer c call ∷ answers (afterCall c call) calls

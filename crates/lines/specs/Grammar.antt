@@ -20,13 +20,13 @@ use Rattle.lines.specs.declared.grammar.Parsed.the-variants.{Malformed, 
 -- ---- bytes and words
 
 -- the byte at a place; past the end 0, which is no letter of a form
-abbrev pub byteAt : List ℕ → ℕ → ℕ
-byteAt t at = getD t at 0
+abbrev pub charAt : List ℕ → ℕ → ℕ
+charAt t at = getD t at 0
 
 -- a word stands at a place of the line
 unfoldable pub isWord : List ℕ → ℕ → List ℕ → Bool
 isWord [] at t = true
-isWord (w ∷ ws) at t = eqb (byteAt t at) w && isWord ws (suc at) t
+isWord (w ∷ ws) at t = eqb (charAt t at) w && isWord ws (suc at) t
 
 -- the line is a word and no more
 unfoldable pub isWhole : List ℕ → List ℕ → Bool
@@ -69,16 +69,16 @@ begun at = record { ok = true; pairs = noPairs; at = at }
 -- a blank, a letter not given before, `=` and a number: the next pair
 abbrev pub isPair : List ℕ → Reading → Bool
 isPair t r =
-    ((eqb (byteAt t (r .at)) 32 && eqb (byteAt t (r .at + 2)) 61) && not (gave (r .pairs) (slotOf (byteAt t (r .at + 1)))))
+    ((eqb (charAt t (r .at)) 32 && eqb (charAt t (r .at + 2)) 61) && not (gave (r .pairs) (slotOf (charAt t (r .at + 1)))))
     && numberAt t (r .at + 3) .ok
 
 -- one pair more, unless the line has ended or a fault was found
-unfoldable pub stepped : List ℕ → Reading → Reading
-stepped t r =
+unfoldable pub pairRead : List ℕ → Reading → Reading
+pairRead t r =
     cond (r .ok && ltb (r .at) (length t))
     (record {
       ok = isPair t r;
-      pairs = give (r .pairs) (slotOf (byteAt t (r .at + 1))) (numberAt t (r .at + 3) .value);
+      pairs = give (r .pairs) (slotOf (charAt t (r .at + 1))) (numberAt t (r .at + 3) .value);
       at = numberAt t (r .at + 3) .next;
     })
     r
@@ -91,7 +91,7 @@ finished t r =
 
 -- there are four letters, so four steps reach the end of any well-formed line
 unfoldable pub pairsOf : List ℕ → ℕ → Parsed
-pairsOf t at = finished t (stepped t (stepped t (stepped t (stepped t (begun at)))))
+pairsOf t at = finished t (pairRead t (pairRead t (pairRead t (pairRead t (begun at)))))
 
 -- ---- the forms
 
@@ -127,8 +127,8 @@ blank = 32
 -- after `36CCA `, at place 6
 unfoldable pub ccaForm : List ℕ → Parsed
 ccaForm t =
-    cond (eqb (byteAt t 7) equals) (ccaWrite (slotOf (byteAt t 6)) (toEnd t 8))
-    (cond (eqb (byteAt t 7) query && eqb (length t) 8) (ccaRead (slotOf (byteAt t 6))) Malformed)
+    cond (eqb (charAt t 7) equals) (ccaWrite (slotOf (charAt t 6)) (toEnd t 8))
+    (cond (eqb (charAt t 7) query && eqb (length t) 8) (ccaRead (slotOf (charAt t 6))) Malformed)
 
 -- `36CCB p?`
 unfoldable pub slotForm : Slot → Parsed
@@ -141,7 +141,7 @@ slotForm NoSlot = Malformed
 -- after `36CCB`, at place 5
 unfoldable pub ccbForm : List ℕ → Parsed
 ccbForm t =
-    cond ((eqb (byteAt t 5) blank && eqb (byteAt t 7) query) && eqb (length t) 8) (slotForm (slotOf (byteAt t 6))) (pairsOf t 5)
+    cond ((eqb (charAt t 5) blank && eqb (charAt t 7) query) && eqb (length t) 8) (slotForm (slotOf (charAt t 6))) (pairsOf t 5)
 
 -- `36RDADC X?` front levels, `Y?` backplane, `Z?` cells
 unfoldable pub readOf : Slot → Parsed
@@ -153,7 +153,7 @@ readOf NoSlot = Malformed
 
 -- after `36RDADC `, at place 8
 unfoldable pub readForm : List ℕ → Parsed
-readForm t = cond (eqb (byteAt t 9) query && eqb (length t) 10) (readOf (slotOf (byteAt t 8))) Malformed
+readForm t = cond (eqb (charAt t 9) query && eqb (length t) 10) (readOf (slotOf (charAt t 8))) Malformed
 
 -- the words of the forms: `CCA `, `CCB`, `RDADC `, `SS Z`; `M E=`, `PM E=`, `W E`, `HOME E`, `! E`
 abbrev pub CCA : List ℕ
@@ -215,5 +215,5 @@ longestLine = 80
 unfoldable pub parse : List ℕ → Parsed
 parse t =
     cond (leb 1 (length t) && leb (length t) longestLine)
-    (cond (isDigit (byteAt t 0) && isDigit (byteAt t 1)) (addressed (eqb (byteAt t 0) 51 && eqb (byteAt t 1) 54) (cardForm t)) (plainForm t))
+    (cond (isDigit (charAt t 0) && isDigit (charAt t 1)) (addressed (eqb (charAt t 0) 51 && eqb (charAt t 1) 54) (cardForm t)) (plainForm t))
     Malformed

@@ -20,7 +20,7 @@ use Rattle.ticks.specs.Tick
 use Rattle.ticks.specs.Tick.{moved, readIn}
 use Rattle.saved.specs.Record.{configWidth, loadNumber}
 use Rattle.lines.specs.Line.{lineChange}
-use Rattle.lines.specs.Calls.{Call, after, end}
+use Rattle.lines.specs.Calls.{Call, afterCall, end}
 use Rattle.lines.specs.Calls.Call.{line, load, tick}
 
 -- the readings of four slots by their addresses: slots may be wired anew after the tick
@@ -45,7 +45,7 @@ module _ (n : ℕ) where
   -- whether cell i was edited since the last tick that ran, or since the start of the list
   unfoldable pub editedSince : Card → List Call → ℕ → Bool → Bool
   editedSince c [] i was = was
-  editedSince c (call ∷ calls) i was = editedSince (after n c call) calls i (editedNext c call i was)
+  editedSince c (call ∷ calls) i was = editedSince (afterCall n c call) calls i (editedNext c call i was)
 
   -- ---- what the last tick that ran read
 
@@ -58,7 +58,7 @@ module _ (n : ℕ) where
   -- what a reader in position i read in the last tick that ran
   unfoldable pub readSince : Card → List Call → ℕ → Readings → Readings
   readSince c [] i was = was
-  readSince c (call ∷ calls) i was = readSince (after n c call) calls i (readNext c call i was)
+  readSince c (call ∷ calls) i was = readSince (afterCall n c call) calls i (readNext c call i was)
 
   -- ---- "Who wakes", said of a list
 
@@ -86,4 +86,4 @@ module _ (n : ℕ) where
   -- the cell words of the last three ticks that ran, the levels of the last two, and the driven word of the last
   unfoldable pub lastSince : Card → List Call → Memory → Memory
   lastSince c [] was = was
-  lastSince c (call ∷ calls) was = lastSince (after n c call) calls (lastNext c call was)
+  lastSince c (call ∷ calls) was = lastSince (afterCall n c call) calls (lastNext c call was)

@@ -29,9 +29,9 @@ pub record Restored (n : ℕ) (c d : Card) : Type 0 where
 
 -- what a save of c wrote: as many bytes as a record has, at the front of the store, which is as it was beyond; a load takes them, on any card, and
 -- gives the settings back
-pub record Written (n : ℕ) (c : Card) (bytes store stored : List ℕ) : Type 0 where
+pub record Written (n : ℕ) (c : Card) (bytes store written : List ℕ) : Type 0 where
   pub sized : length bytes ≡ wholeRecord n
-  pub front : stored ≡ bytes ++ drop (wholeRecord n) store
+  pub front : written ≡ bytes ++ drop (wholeRecord n) store
   pub loads : loadNumber n configWidth bytes ≡ 0
   pub restored : (d : Card) → Restored n c (loaded n configWidth d bytes)
 

@@ -37,8 +37,8 @@ pub record Has (n t : ℕ) (cs : List Cell) (ks : List Connector) (c : Card) : T
 -- valid settings are set by their lines on a fresh card, of any number of cells whose places end before those of the connectors
 unfoldable pub Settable : Type 0
 Settable = (n reply store trigger : ℕ) (cells : List Cell) (connectors : List Connector) → firstCell + n ≤ firstConnector → shortestReply ≤ reply
-    → valid n trigger cells connectors ≡ true → let lines = wiringLines trigger (take n cells) connectors in
-    (allAccepted n reply store (freshOf n) lines ≡ true) × Has n trigger cells connectors (fed n reply store (freshOf n) lines)
+    → valid n trigger cells connectors ≡ true → let texts = wiringLines trigger (take n cells) connectors in
+    (allAccepted n reply store (freshOf n) texts ≡ true) × Has n trigger cells connectors (fed n reply store (freshOf n) texts)
 
 -- lines as calls, each with room for its reply and no store
 abbrev pub lineCalls : List (List ℕ) → List Call

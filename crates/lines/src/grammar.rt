@@ -3,7 +3,7 @@ ghost use mathlib.Core.Path.{_≡_};
 ghost use Prim.Native.Nat.{_≤_};
 ghost use lib.ListN.{length};
 ghost use Rattle.lines.specs.Grammar;
-ghost use Rattle.lines.specs.Grammar.{longestLine, byteAt, isWord, isWhole, toEnd, slotOf};
+ghost use Rattle.lines.specs.Grammar.{longestLine, charAt, isWord, isWhole, toEnd, slotOf};
 ghost use Rattle.lines.specs.Grammar.{writeOf, ccaWrite, ccaRead, ccaForm, slotForm, ccbForm, readOf, readForm};
 ghost use Rattle.lines.specs.Grammar.{cardForm, numbered, plainForm, parse};
 use crate::pairs::all_pairs;
@@ -75,8 +75,8 @@ pub struct Ending {
 }
 
 // The byte at a place; past the end 0, which no form has.
-pub fn byte_at(text: &[u8], at: usize) -> u8
-    ensures { λ b. ⌜ b ≡ byteAt (now (text .entry)) at ⌝ }
+pub fn char_at(text: &[u8], at: usize) -> u8
+    ensures { λ b. ⌜ b ≡ charAt (now (text .entry)) at ⌝ }
 {
     if at < text.len() { text[at] } else { 0 }
 }
@@ -89,7 +89,7 @@ fn is_word(text: &[u8], at: usize, word: &[u8]) -> bool
 {
     let mut i: usize = 0;
     while i < word.len() {
-        if byte_at(text, at + i) != word[i] {
+        if char_at(text, at + i) != word[i] {
             return false;
         }
         i += 1;
@@ -183,8 +183,8 @@ fn cca_read(p: Slot) -> Parsed
 fn cca_form(text: &[u8]) -> Parsed
     ensures { λ q. ⌜ q ≡ ccaForm (now (text .entry)) ⌝ }
 {
-    let p = slot_of(byte_at(text, 6));
-    let sign = byte_at(text, 7);
+    let p = slot_of(char_at(text, 6));
+    let sign = char_at(text, 7);
     if sign == b'=' {
         return cca_write(p, to_end(text, 8));
     }
@@ -212,9 +212,9 @@ fn ccb_form(text: &[u8]) -> Parsed
     requires { ⌜ length (now text) ≤ longestLine ⌝ }
     ensures { λ q. ⌜ q ≡ ccbForm (now (text .entry)) ⌝ }
 {
-    let framed = (byte_at(text, 5) == b' ') & (byte_at(text, 7) == b'?');
+    let framed = (char_at(text, 5) == b' ') & (char_at(text, 7) == b'?');
     if framed & (text.len() == 8) {
-        slot_form(slot_of(byte_at(text, 6)))
+        slot_form(slot_of(char_at(text, 6)))
     } else {
         all_pairs(text, 5)
     }
@@ -237,8 +237,8 @@ fn read_of(p: Slot) -> Parsed
 fn read_form(text: &[u8]) -> Parsed
     ensures { λ q. ⌜ q ≡ readForm (now (text .entry)) ⌝ }
 {
-    if (byte_at(text, 9) == b'?') & (text.len() == 10) {
-        read_of(slot_of(byte_at(text, 8)))
+    if (char_at(text, 9) == b'?') & (text.len() == 10) {
+        read_of(slot_of(char_at(text, 8)))
     } else {
         Parsed::Malformed
     }
@@ -330,8 +330,8 @@ pub fn parse_line(text: &[u8]) -> Parsed
     if LONGEST_LINE < n {
         return Parsed::Malformed;
     }
-    let a = byte_at(text, 0);
-    let b = byte_at(text, 1);
+    let a = char_at(text, 0);
+    let b = char_at(text, 1);
     if text::is_digit(a) & text::is_digit(b) {
         addressed((a == b'3') & (b == b'6'), card_form(text))
     } else {

@@ -35,9 +35,7 @@ fn put_number(reply: &mut [u8], word: &[u8], v: Number) -> usize
     ensures { λ r. ⌜ r ≡ length (now (word .entry) ++ (decimal v ++ ending)) ⌝ }
     ensures { λ r. ⌜ r ≤ shortestReply ⌝ }
 {
-    let at = text::copy(reply, 0, word);
-    let end = text::put_decimal(reply, at, v);
-    text::copy(reply, end, b"\r\n")
+    text::put_numbered(reply, word, v, b"\r\n")
 }
 
 // The reply to a line.

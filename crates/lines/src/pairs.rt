@@ -5,14 +5,14 @@ ghost use lib.ListN.{length};
 ghost use Rattle.text.specs.Decimal.{numberAt};
 ghost use Rattle.cells.specs.Table.{anySlot};
 ghost use Rattle.lines.specs.Grammar;
-ghost use Rattle.lines.specs.Grammar.{longestLine, stepped, pairsOf};
+ghost use Rattle.lines.specs.Grammar.{longestLine, pairRead, pairsOf};
 use crate::grammar::Command;
 use crate::grammar::Number;
 use crate::grammar::Pairs;
 use crate::grammar::Parsed;
 use crate::grammar::Reading;
 use crate::grammar::Slot;
-use crate::grammar::byte_at;
+use crate::grammar::char_at;
 use crate::grammar::slot_of;
 use cells::table::Slots;
 
@@ -73,17 +73,17 @@ fn number_from(text: &[u8], at: usize) -> text::Number
 }
 
 // One pair more: a blank, a letter not given before, `=` and a number.
-fn step(text: &[u8], r: Reading) -> Reading
+fn read_pair(text: &[u8], r: Reading) -> Reading
     requires { ⌜ r .at ≤ longestLine + 3 ⌝ }
     requires { ⌜ length (now text) ≤ longestLine ⌝ }
-    ensures { λ q. ⌜ (q ≡ stepped (now (text .entry)) r) × (q .at ≤ longestLine + 3) ⌝ }
+    ensures { λ q. ⌜ (q ≡ pairRead (now (text .entry)) r) × (q .at ≤ longestLine + 3) ⌝ }
 {
     let at = r.at;
     if r.ok & (at < text.len()) {
         let so = r.pairs;
-        let letter = slot_of(byte_at(text, at + 1));
+        let letter = slot_of(char_at(text, at + 1));
         let number = number_from(text, at + 3);
-        let framed = (byte_at(text, at) == b' ') & (byte_at(text, at + 2) == b'=');
+        let framed = (char_at(text, at) == b' ') & (char_at(text, at + 2) == b'=');
         let ok = (framed & !gave(so, letter)) & number.ok;
         let pairs = give(so, letter, number.value);
         Reading {
@@ -126,7 +126,10 @@ pub fn all_pairs(text: &[u8], at: usize) -> Parsed
         },
         at: at,
     };
-    let r = step(text, step(text, step(text, step(text, start))));
+    let r = read_pair(
+        text,
+        read_pair(text, read_pair(text, read_pair(text, start))),
+    );
     let all = r.pairs;
     let end = r.at;
     if (r.ok & (end == text.len())) & any(all.given) {

@@ -30,11 +30,11 @@ unfoldable pub isRow : List ℕ → Bool
 isRow row = isDash row || (leb (length row) longestRow && (eqb (length row % 2) 0 && every isHex row))
 
 -- the byte that two digits say, and all of them; none for `-`
-abbrev pub hexByte : List ℕ → ℕ → ℕ
-hexByte row k = hexValue (getD row (2 * k) 0) * 16 + hexValue (getD row (2 * k + 1) 0)
+abbrev pub hexByteAt : List ℕ → ℕ → ℕ
+hexByteAt row k = hexValue (getD row (2 * k) 0) * 16 + hexValue (getD row (2 * k + 1) 0)
 
 unfoldable pub bytesIn : List ℕ → List ℕ
-bytesIn row = listed (hexByte row) (length row / 2)
+bytesIn row = listed (hexByteAt row) (length row / 2)
 
 -- ---- what it prints
 

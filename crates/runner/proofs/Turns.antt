@@ -8,8 +8,7 @@ use native.Mathlib.Omega.{arith}
 use lib.Dec.{eqb, ltb}
 use lib.ListN.{length, take, replicate, length-append}
 use lib.Seq.{length-take-le}
-use Rattle.card.specs.Address.{cellCount}
-use Rattle.card.specs.Fresh.{fresh}
+use Rattle.card.specs.Fresh.{freshOf}
 use Rattle.saved.specs.Record.{configWidth, recordLength}
 use Rattle.console.specs.Console.{longestPrint, Entry, entered}
 use Rattle.runner.specs.Run.{RunState, startState, ended, longer, takes, takesAll, kept, keptOf, flushed}
@@ -22,15 +21,15 @@ behind : List ℕ → RunState → RunState
 behind p s = record { card = s .card; store = s .store; line = s .line; printed = p ++ s .printed }
 
 -- what was printed before changes nothing
-takes-behind : (p : List ℕ) (s : RunState) (bs : List ℕ) → takesAll (behind p s) bs ≡ behind p (takesAll s bs)
+takes-behind : (n : ℕ) (p : List ℕ) (s : RunState) (bs : List ℕ) → takesAll n (behind p s) bs ≡ behind p (takesAll n s bs)
 unfolding takesAll behind
-takes-behind p s [] = refl
-takes-behind p s (b ∷ bs) = ap (λ (x : RunState). takesAll x bs) (go (eqb b 10)) ∙ takes-behind p (takes s b) bs
+takes-behind n p s [] = refl
+takes-behind n p s (b ∷ bs) = ap (λ (x : RunState). takesAll n x bs) (go (eqb b 10)) ∙ takes-behind n p (takes n s b) bs
   where
     e : Entry
-    e = entered (s .card) (s .line) (s .store)
+    e = entered n (s .card) (s .line) (s .store)
 
-    go : (lf : Bool) → cond lf (ended (behind p s)) (longer (behind p s) (b ∷ [])) ≡ behind p (cond lf (ended s) (longer s (b ∷ [])))
+    go : (lf : Bool) → cond lf (ended n (behind p s)) (longer (behind p s) (b ∷ [])) ≡ behind p (cond lf (ended n s) (longer s (b ∷ [])))
     go true = λ i. record { card = e .card; store = e .store; line = []; printed = append-assoc p (s .printed) (e .printed) i }
     go false = refl
 
@@ -39,27 +38,27 @@ unfolding behind
 behind-flushed s = λ i. record { card = s .card; store = s .store; line = s .line; printed = append-nil (s .printed) i }
 
 -- a run stands at x, with these totals of bytes taken and printed
-pub record Reached (x : RunState) (taken printed : ℕ) : Type 0 where
+pub record Reached (n : ℕ) (x : RunState) (taken printed : ℕ) : Type 0 where
   pub input : List ℕ
-  pub stands : flushed x ≡ flushed (keptOf (takesAll startState input))
+  pub stands : flushed x ≡ flushed (keptOf (takesAll n (startState n) input))
   pub bytes : length input ≡ taken
-  pub prints : length (takesAll startState input .printed) ≡ printed
+  pub prints : length (takesAll n (startState n) input .printed) ≡ printed
 
-pub reached-start : (r : Run) (line out : List ℕ) → r .card ≡ fresh → r .len ≡ 0 → r .taken ≡ 0 → r .printed ≡ 0
-    → Reached (runStateOf r (replicate (recordLength cellCount configWidth) 0) line out) (r .taken) (r .printed)
+pub reached-start : (n : ℕ) (r : Run) (line out : List ℕ) → r .card ≡ freshOf n → r .len ≡ 0 → r .taken ≡ 0 → r .printed ≡ 0
+    → Reached n (runStateOf r (replicate (recordLength n configWidth) 0) line out) (r .taken) (r .printed)
 unfolding takesAll startState
-reached-start r line out card len taken printed =
+reached-start n r line out card len taken printed =
     record {
       input = [];
-      stands = λ i. record { card = card i; store = replicate (recordLength cellCount configWidth) 0; line = take (len i) line; printed = [] };
+      stands = λ i. record { card = card i; store = replicate (recordLength n configWidth) 0; line = take (len i) line; printed = [] };
       bytes = sym taken;
       prints = sym printed;
     }
 
-pub reached-turn : (x y : RunState) (bs : List ℕ) (t p t′ p′ : ℕ) → Reached x t p → y ≡ keptOf (takesAll (flushed x) bs) → t′ ≡ t + length bs
-    → p′ ≡ p + length (y .printed) → Reached y t′ p′
+pub reached-turn : (n : ℕ) (x y : RunState) (bs : List ℕ) (t p t′ p′ : ℕ) → Reached n x t p → y ≡ keptOf (takesAll n (flushed x) bs) → t′ ≡ t + length bs
+    → p′ ≡ p + length (y .printed) → Reached n y t′ p′
 unfolding behind
-reached-turn x y bs t p t′ p′ r e et ep =
+reached-turn n x y bs t p t′ p′ r e et ep =
     record {
       input = r .input ++ bs;
       stands = sym (ap flushed whole);
@@ -68,18 +67,18 @@ reached-turn x y bs t p t′ p′ r e et ep =
     }
   where
     before : RunState
-    before = keptOf (takesAll startState (r .input))
+    before = keptOf (takesAll n (startState n) (r .input))
 
     old : List ℕ
     old = before .printed
 
     -- the whole input brings the run to y, behind what was printed before
-    whole : keptOf (takesAll startState (r .input ++ bs)) ≡ behind old y
+    whole : keptOf (takesAll n (startState n) (r .input ++ bs)) ≡ behind old y
     whole =
-        sym (block-by-block startState (r .input) bs)
-        ∙ ap (λ (s : RunState). keptOf (takesAll s bs)) (sym (behind-flushed before))
-        ∙ ap keptOf (takes-behind old (flushed before) bs)
-        ∙ ap (λ (s : RunState). behind old (keptOf (takesAll s bs))) (sym (r .stands))
+        sym (block-by-block n (startState n) (r .input) bs)
+        ∙ ap (λ (s : RunState). keptOf (takesAll n s bs)) (sym (behind-flushed before))
+        ∙ ap keptOf (takes-behind n old (flushed before) bs)
+        ∙ ap (λ (s : RunState). behind old (keptOf (takesAll n s bs))) (sym (r .stands))
         ∙ ap (behind old) (sym e)
 
 -- ---- between two turns
@@ -88,17 +87,17 @@ pub counted-turn : (r q : Run) → Counted r → q .taken ≡ r .taken + q .got 
     → q .got ≤ blockLength → q .used ≤ longestPrint * q .got → Counted q
 counted-turn r q c taken printed left got used = record { by-reads = omega (arith, c .by-reads); by-bytes = omega (arith, c .by-bytes) }
 
-pub record Underway (r : Run) (store line out : List ℕ) : Type 0 where
+pub record Underway (n : ℕ) (r : Run) (store line out : List ℕ) : Type 0 where
   pub short : r .len ≤ kept
   pub whole : length line ≡ kept
   pub counted : Counted r
-  pub reached : Reached (runStateOf r store line out) (r .taken) (r .printed)
+  pub reached : Reached n (runStateOf r store line out) (r .taken) (r .printed)
   -- it goes on until a read or a write says otherwise
   pub first : r .left ≡ mostReads → r .going ≡ true
   pub later : r .left < mostReads → r .going ≡ (ltb 0 (r .got) && r .wrote)
 
-module _ {r : Run} {store line out : List ℕ} (u : Underway r store line out) where
-  pub ran : (input : List ℕ) × Ran r input
+module _ {n : ℕ} {r : Run} {store line out : List ℕ} (u : Underway n r store line out) where
+  pub ran : (input : List ℕ) × Ran n r input
   ran =
       let x = u .reached in
       let fits : r .len ≤ length line = omega (arith, u .short, u .whole) in (

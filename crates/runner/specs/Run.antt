@@ -6,14 +6,13 @@ use mathlib.Core.List.{List, [], _∷_, _++_}
 use lib.Dec.{eqb}
 use lib.ListN.{length, take, drop, replicate}
 use Rattle.card.specs.declared.card.Card.{Card}
-use Rattle.card.specs.Address.{cellCount}
-use Rattle.card.specs.Fresh.{fresh}
+use Rattle.card.specs.Fresh.{freshOf}
 use Rattle.saved.specs.Record.{configWidth, recordLength}
 use Rattle.console.specs.Console.{longestPrint, Entry, entered}
 use Rattle.runner.specs.declared.State.{State}
 use Rattle.runner.specs.declared.Run.{Run}
 
--- ---- what bytes of input do
+-- ---- what bytes of input do, to a card of n cells
 
 -- after some bytes of input: the card, the store, the line that has not ended, and all that has been printed
 pub record RunState : Type 0 where
@@ -23,26 +22,26 @@ pub record RunState : Type 0 where
   pub printed : List ℕ
 
 -- "Fresh: ...", and "the store, 276 zeros at start"
-unfoldable pub startState : RunState
-startState = record { card = fresh; store = replicate (recordLength cellCount configWidth) 0; line = []; printed = [] }
+unfoldable pub startState : ℕ → RunState
+startState n = record { card = freshOf n; store = replicate (recordLength n configWidth) 0; line = []; printed = [] }
 
 -- LF: the line is entered
-abbrev pub withEntry : RunState → Entry → RunState
-withEntry s e = record { card = e .card; store = e .store; line = []; printed = s .printed ++ e .printed }
+abbrev pub afterEntry : RunState → Entry → RunState
+afterEntry s e = record { card = e .card; store = e .store; line = []; printed = s .printed ++ e .printed }
 
-abbrev pub ended : RunState → RunState
-ended s = withEntry s (entered (s .card) (s .line) (s .store))
+abbrev pub ended : ℕ → RunState → RunState
+ended n s = afterEntry s (entered n (s .card) (s .line) (s .store))
 
 abbrev pub longer : RunState → List ℕ → RunState
 longer s more = record { card = s .card; store = s .store; line = s .line ++ more; printed = s .printed }
 
 -- a byte of input, and all of them
-abbrev pub takes : RunState → ℕ → RunState
-takes s b = cond (eqb b 10) (ended s) (longer s (b ∷ []))
+abbrev pub takes : ℕ → RunState → ℕ → RunState
+takes n s b = cond (eqb b 10) (ended n s) (longer s (b ∷ []))
 
-unfoldable pub takesAll : RunState → List ℕ → RunState
-takesAll s [] = s
-takesAll s (b ∷ bs) = takesAll (takes s b) bs
+unfoldable pub takesAll : ℕ → RunState → List ℕ → RunState
+takesAll n s [] = s
+takesAll n s (b ∷ bs) = takesAll n (takes n s b) bs
 
 -- ---- what the program keeps
 
@@ -89,8 +88,8 @@ pub record Counted (r : Run) : Type 0 where
 
 -- a run that has taken this input: as many bytes as its reads gave have brought card and line where they stand, and what they print is as long as what
 -- was handed to write
-pub record Ran (r : Run) (input : List ℕ) : Type 0 where
+pub record Ran (n : ℕ) (r : Run) (input : List ℕ) : Type 0 where
   pub taken : length input ≡ r .taken
-  pub card : r .card ≡ takesAll startState input .card
-  pub len : r .len ≡ length (cut (takesAll startState input .line))
-  pub printed : r .printed ≡ length (takesAll startState input .printed)
+  pub card : r .card ≡ takesAll n (startState n) input .card
+  pub len : r .len ≡ length (cut (takesAll n (startState n) input .line))
+  pub printed : r .printed ≡ length (takesAll n (startState n) input .printed)

@@ -14,6 +14,7 @@ ghost use mathlib.Core.Path.{_≡_};
 ghost use Prim.Native.Nat.{ℕ, _≤_, _<_, _+_, _-_, _*_, min};
 ghost use lib.Dec.{ltb};
 ghost use lib.ListN.{length, take, getD};
+ghost use Rattle.card.specs.Address.{cellCount};
 ghost use Rattle.card.specs.Fresh.{fresh};
 ghost use Rattle.console.specs.Console.{longestPrint, entered};
 ghost use Rattle.runner.specs.Run.{part, takesAll, kept, cut, keptOf, flushed, blockLength, outputLength, mostReads, stateOf, runStateOf, Counted, Ran};
@@ -117,9 +118,9 @@ fn keep(line: &mut [u8; LINE], text: &[u8]) -> usize
 // A line has ended: it is entered, and what it prints goes behind what is printed already.
 fn enter(state: State, text: &[u8], store: &mut [u8], out: &mut [u8]) -> State
     requires { ⌜ state .used + longestPrint ≤ length (now out) ⌝ }
-    ensures { λ r. ⌜ r .card ≡ entered (state .card) (now (text .entry)) (now (store .entry)) .card ⌝ }
-    ensures { λ r. ⌜ now (store .exit) ≡ entered (state .card) (now (text .entry)) (now (store .entry)) .store ⌝ }
-    ensures { λ r. ⌜ take (r .used) (now (out .exit)) ≡ take (state .used) (now (out .entry)) ++ entered (state .card) (now (text .entry)) (now (store .entry)) .printed ⌝ }
+    ensures { λ r. ⌜ r .card ≡ entered cellCount (state .card) (now (text .entry)) (now (store .entry)) .card ⌝ }
+    ensures { λ r. ⌜ now (store .exit) ≡ entered cellCount (state .card) (now (text .entry)) (now (store .entry)) .store ⌝ }
+    ensures { λ r. ⌜ take (r .used) (now (out .exit)) ≡ take (state .used) (now (out .entry)) ++ entered cellCount (state .card) (now (text .entry)) (now (store .entry)) .printed ⌝ }
     ensures { λ r. ⌜ r .used ≤ state .used + longestPrint ⌝ }
 {
     let card = state.card;
@@ -146,7 +147,7 @@ fn take_block(
     requires { ⌜ state .len ≤ n ⌝ }
     requires { ⌜ n ≤ length (now block) ⌝ }
     requires { ⌜ state .used + longestPrint * (n - state .len) ≤ outputLength ⌝ }
-    ensures { λ r. ⌜ stateOf r (now (store .exit)) (now (line .exit)) (now (out .exit)) ≡ keptOf (takesAll (stateOf state (now (store .entry)) (now (block .entry)) (now (out .entry))) (part (state .len) n (now (block .entry)))) ⌝ }
+    ensures { λ r. ⌜ stateOf r (now (store .exit)) (now (line .exit)) (now (out .exit)) ≡ keptOf (takesAll cellCount (stateOf state (now (store .entry)) (now (block .entry)) (now (out .entry))) (part (state .len) n (now (block .entry)))) ⌝ }
     ensures { λ r. ⌜ r .len ≤ kept ⌝ }
     ensures { λ r. ⌜ length (now (line .exit)) ≡ kept ⌝ }
     ensures { λ r. ⌜ r .used ≤ state .used + longestPrint * (n - state .len) ⌝ }
@@ -218,7 +219,7 @@ fn turn(
     requires { ⌜ 0 < run .left ⌝ }
     requires { ⌜ Counted run ⌝ }
     ensures { λ r. ⌜ r .got ≤ blockLength ⌝ }
-    ensures { λ r. ⌜ runStateOf r (now (store .exit)) (now (line .exit)) (now (out .exit)) ≡ keptOf (takesAll (flushed (runStateOf run (now (store .entry)) (now (line .entry)) (now (out .entry)))) (part (run .len) (run .len + r .got) (now (block .exit)))) ⌝ }
+    ensures { λ r. ⌜ runStateOf r (now (store .exit)) (now (line .exit)) (now (out .exit)) ≡ keptOf (takesAll cellCount (flushed (runStateOf run (now (store .entry)) (now (line .entry)) (now (out .entry)))) (part (run .len) (run .len + r .got) (now (block .exit)))) ⌝ }
     ensures { λ r. ⌜ r .going ≡ (ltb 0 (r .got) && r .wrote) ⌝ }
     ensures { λ r. ⌜ r .len ≤ kept ⌝ }
     ensures { λ r. ⌜ length (now (line .exit)) ≡ kept ⌝ }
@@ -275,7 +276,7 @@ fn start() -> Run
 
 // A fresh card and a store of zeros, fed with the lines of an input to its end.
 pub fn run_from(input: i32) -> Run
-    ensures { λ r. ⌜ ((bytes : List ℕ) × Ran r bytes) ⌝ }
+    ensures { λ r. ⌜ ((bytes : List ℕ) × Ran cellCount r bytes) ⌝ }
     ensures { λ r. ⌜ r .left < mostReads ⌝ }
     ensures { λ r. ⌜ r .going ≡ (ltb 0 (r .got) && r .wrote) ⌝ }
     ensures { λ r. ⌜ (r .going ≡ true → r .left ≡ 0) ⌝ }

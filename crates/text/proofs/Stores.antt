@@ -57,8 +57,8 @@ pub record Stored (l a : List ℕ) (x : List ℕ) (at : ℕ) : Type 0 where
   pub at-end : at ≡ length x
 
 -- the first part
-pub stored : (l x : List ℕ) {a : List ℕ} {at : ℕ} → (a ≡ sets l 0 x) × (at ≡ 0 + length x) → Stored l a x at
-stored l x e = record { bytes = e .0; at-end = e .1 ∙ zero-add (length x) }
+pub stored-first : (l x : List ℕ) {a : List ℕ} {at : ℕ} → (a ≡ sets l 0 x) × (at ≡ 0 + length x) → Stored l a x at
+stored-first l x e = record { bytes = e .0; at-end = e .1 ∙ zero-add (length x) }
 
 -- one part more
 pub behind : {l a x : List ℕ} {at : ℕ} → Stored l a x at → (y : List ℕ) {r : List ℕ} {end : ℕ}

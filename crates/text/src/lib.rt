@@ -1,6 +1,7 @@
 // Numbers in text: decimal and hexadecimal, read from bytes and written as bytes.
 ghost use mathlib.Core.Path.{_≡_};
 ghost use mathlib.Core.Bool.{true};
+ghost use mathlib.Core.List.{_++_};
 ghost use Prim.Native.Nat.{_+_, _^_, _≤_, _<_};
 ghost use lib.ListN.{length, drop};
 ghost use lib.Seq.{sets};
@@ -125,6 +126,19 @@ pub fn put_decimal(out: &mut [u8], at: usize, n: u32) -> usize
     }
     out[place] = b'0' + ((n % 10) as u8);
     place + 1
+}
+
+// Writes a word, a number and an ending to the front, and returns the place behind them.
+pub fn put_numbered(out: &mut [u8], word: &[u8], n: u32, ending: &[u8]) -> usize
+    requires { ⌜ n < 10 ^ maxDigits ⌝ }
+    requires { ⌜ length (now word) + maxDigits + length (now ending) ≤ length (now out) ⌝ }
+    ensures { λ _. ⌜ now (out .exit) ≡ sets (now (out .entry)) 0 (now (word .entry) ++ (decimal n ++ now (ending .entry))) ⌝ }
+    ensures { λ r. ⌜ r ≡ length (now (word .entry) ++ (decimal n ++ now (ending .entry))) ⌝ }
+    ensures { λ r. ⌜ r ≤ length (now (word .entry)) + maxDigits + length (now (ending .entry)) ⌝ }
+{
+    let at = copy(out, 0, word);
+    let end = put_decimal(out, at, n);
+    copy(out, end, ending)
 }
 
 // The byte of a hexadecimal digit, in lower case.

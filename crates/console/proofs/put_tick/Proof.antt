@@ -5,7 +5,7 @@ use lib.Dec.{lit≤}
 use borrow.Author.Tests.{not-true, not-false}
 use Rattle.text.specs.Decimal.{decimal, maxDigits}
 use Rattle.text.proofs.DecimalLaws.{decimal-length}
-use Rattle.text.proofs.Stores.{stored, behind, six}
+use Rattle.text.proofs.Stores.{stored-first, behind, six}
 use Rattle.console.proofs.Chains.{word-behind, within, tick-short}
 use Rattle.console.specs.Console.{word, tickText}
 use borrow.Author.Needs.{needs}
@@ -95,7 +95,7 @@ returns-2 c =
     let ran = t .before .before .before in
     let s = ran .before .before .before in
     let a = s .args .a in
-    let head = stored (s .args .out .now) (84 ∷ 32 ∷ []) (t .copy2 .ensures) in
+    let head = stored-first (s .args .out .now) (84 ∷ 32 ∷ []) (t .copy2 .ensures) in
     let driven = word-behind head (a .driven) (w1 .put-word .ensures) in
     let cells = word-behind driven (a .cells) (w2 .put-word2 .ensures) in
     let woken = word-behind cells (a .woken) (w3 .put-word3 .ensures) in

@@ -7,7 +7,7 @@ use lib.ListN.{take, drop, length, length-set}
 use lib.Seq.{take-at}
 use Rattle.words.specs.Listed.{listed}
 use Rattle.words.proofs.Listed.{listed-next, length-listed}
-use Rattle.loads.specs.Rows.{hexByte, bytesIn}
+use Rattle.loads.specs.Rows.{hexByteAt, bytesIn}
 use Rattle.loads.proofs.Rows.{row-short, row-hex}
 use borrow.Author.Needs.{needs}
 use Rattle.loads.proofs.bytes_in.Statement.{statement}
@@ -18,7 +18,7 @@ Inv-loop row out₀ n k₀ out k =
     (k ≤ n)
     × (n ≡ length row / 2)
     × (n ≤ length out₀)
-    × (out ≡ listed (hexByte row) k ++ drop k out₀)
+    × (out ≡ listed (hexByteAt row) k ++ drop k out₀)
     × (length out ≡ length out₀)
 
 abbrev μ-loop : tie.MeasureT-loop
@@ -71,7 +71,7 @@ loop-again c =
     let inv = l .loop .inv in
     let k = l .loop .k in
     let made = c .byte-of in
-    let next = listed-next (hexByte (a .row .now)) k (a .out .now) (l .loop .out) (made .result) 0 (inv .3) (made .ensures) (search needs) in
+    let next = listed-next (hexByteAt (a .row .now)) k (a .out .now) (l .loop .out) (made .result) 0 (inv .3) (made .ensures) (search needs) in
     (search needs, refl, inv .2, next, length-set (l .loop .out) k (made .result) ∙ inv .4)
 
 same-length : tie.Need-same-length Inv-loop μ-loop
@@ -86,8 +86,8 @@ returns c =
     let n = length row / 2 in
     let end : l .k ≡ n = search needs in
     let few = row-short row (a .pre .0) in
-    let filled : l .out ≡ listed (hexByte row) n ++ drop n (a .args .out .now) = rw end at (l .inv .3) in
-    (ap (take n) filled ∙ take-at (listed (hexByte row) n) (drop n (a .args .out .now)) n (length-listed (hexByte row) n), omega (arith, few))
+    let filled : l .out ≡ listed (hexByteAt row) n ++ drop n (a .args .out .now) = rw end at (l .inv .3) in
+    (ap (take n) filled ∙ take-at (listed (hexByteAt row) n) (drop n (a .args .out .now)) n (length-listed (hexByteAt row) n), omega (arith, few))
 
 pub bytes-in-spec : {M : Type 1} → statement M
 bytes-in-spec =

@@ -6,7 +6,7 @@ use native.Mathlib.Omega.{arith}
 use lib.Dec.{lit≤}
 use Rattle.text.specs.Decimal.{decimal, maxDigits}
 use Rattle.text.proofs.DecimalLaws.{decimal-length}
-use Rattle.text.proofs.Stores.{stored, behind}
+use Rattle.text.proofs.Stores.{stored-first, behind}
 use Rattle.loads.specs.Rows.{refusedText}
 use borrow.Author.Needs.{needs}
 use Rattle.loads.proofs.put_refused.Statement.{statement}
@@ -35,7 +35,7 @@ returns c =
     let text = decimal (a .args .k) in
     let few = decimal-length (a .args .k) maxDigits (lit≤ tt) (search needs) in
     let none : List ℕ = 32 ∷ 45 ∷ 10 ∷ [] in
-    let all = behind (stored (a .args .out .now) text (d .put-decimal .ensures)) none (c .before .before .copy .ensures) in
+    let all = behind (stored-first (a .args .out .now) text (d .put-decimal .ensures)) none (c .before .before .copy .ensures) in
     (all .bytes, (all .at-end, omega (arith, all .at-end, few, length-append text none)))
 
 pub put-refused-spec : {M : Type 1} → statement M

@@ -4,6 +4,8 @@ use mathlib.Core.Path.{_≡_, refl}
 use mathlib.Core.Bool.{true}
 use native.Mathlib.Omega.{arith}
 use lib.Seq.{length-take-le}
+use Rattle.card.specs.Address.{cellCount}
+use Rattle.card.specs.Fresh.{fresh}
 use Rattle.runner.specs.Run.{part, mostReads, runStateOf}
 use Rattle.runner.proofs.Runs.{part-length}
 use Rattle.runner.proofs.Turns.{reached-start, reached-turn, Underway, ran, has-read}
@@ -12,7 +14,7 @@ use Rattle.runner.proofs.run_from.Statement.{statement}
 use Rattle.runner.proofs.run_from.Tie as tie
 
 abbrev Inv-loop : tie.InvT-loop
-Inv-loop input block₀ out₀ line₀ store₀ r₀ block out line store r = Underway r store line out
+Inv-loop input block₀ out₀ line₀ store₀ r₀ block out line store r = Underway cellCount r store line out
 
 abbrev μ-loop : tie.MeasureT-loop
 μ-loop input block₀ out₀ line₀ store₀ r₀ block out line store r = r .left
@@ -24,6 +26,7 @@ start-requires : tie.Need-start-requires Inv-loop μ-loop
 start-requires c κs = search needs
 
 loop-holds : tie.Need-loop-holds Inv-loop μ-loop
+unfolding fresh
 loop-holds c =
     let s = c .start .ensures in
     let n = s .1 .1 .1 in
@@ -31,7 +34,7 @@ loop-holds c =
       short = omega (arith, s .1 .0);
       whole = refl;
       counted = record { by-reads = omega (arith, n); by-bytes = omega (arith, n) };
-      reached = reached-start (c .start .result) _ _ (s .0) (s .1 .0) (n .0) (n .1);
+      reached = reached-start cellCount (c .start .result) _ _ (s .0) (s .1 .0) (n .0) (n .1);
       first = λ _. s .1 .1 .0;
       later = λ h. absurd (omega (arith, n, h));
     }
@@ -62,8 +65,8 @@ loop-again c =
       whole = e .1 .1 .1 .1 .0;
       counted = totals .1 .1 .1 .0;
       reached =
-          reached-turn (runStateOf (l .r) (l .store) (l .line) (l .out)) _ (part (l .r .len) (l .r .len + q .got) block) (l .r .taken) (l .r .printed) _ _
-          (u .reached) (e .1 .0) (omega (arith, totals .0, bytes)) (omega (arith, totals .1 .0, printed));
+          reached-turn cellCount (runStateOf (l .r) (l .store) (l .line) (l .out)) _ (part (l .r .len) (l .r .len + q .got) block)
+          (l .r .taken) (l .r .printed) _ _ (u .reached) (e .1 .0) (omega (arith, totals .0, bytes)) (omega (arith, totals .1 .0, printed));
       first = λ h. absurd (omega (arith, h, less));
       later = λ _. e .1 .1 .0;
     }

@@ -1,8 +1,37 @@
--- `lines::grammar::card_form` meets its contract: each way is a case of the definition.
-use Rattle.lines.specs.Grammar.{cardForm}
+-- `lines::grammar::card_form` meets its contract: a test that fails leaves the rest of the definition, and one that holds is its case.
+use Prim.Native.Nat.{ℕ}
+use mathlib.Core.Path.{_≡_, _∙_}
+use mathlib.Core.Bool.{_&&_, cond}
+use mathlib.Core.List.{List}
+use lib.Dec.{eqb}
+use lib.ListN.{length}
+use Rattle.lines.specs.declared.grammar.Command.the-variants.{Save}
+use Rattle.lines.specs.declared.grammar.Parsed.{Parsed}
+use Rattle.lines.specs.declared.grammar.Parsed.the-variants.{Malformed, Here}
+use Rattle.lines.specs.Grammar.{RDADC, SS-Z, isWord, ccbForm, readForm, cardForm}
 use borrow.Author.Needs.{needs}
 use Rattle.lines.proofs.grammar.card_form.Statement.{statement}
 use Rattle.lines.proofs.grammar.card_form.Tie as tie
+
+abbrev Text : tie.After-shared-slice-known → List ℕ
+Text c = c .before .args .text .now
+
+abbrev Fourth : List ℕ → Parsed
+Fourth t = cond (isWord SS-Z 2 t && eqb (length t) 6) (Here Save) Malformed
+
+-- what is left when the first, the second and the third test have failed
+second : (c : tie.After-is-word2) → let t = Text (c .before .before .before .before .before) in
+    cardForm t ≡ cond (c .is-word2 .result) (ccbForm t) (cond (isWord RDADC 2 t) (readForm t) (Fourth t))
+unfolding cardForm
+second c = rw (← c .before .before .before .is-word .ensures, c .before .before .if1 .left, ← c .is-word2 .ensures)
+
+third : (c : tie.After-is-word3) → let t = Text (c .before .before .before .before .before .before .before .before) in
+    cardForm t ≡ cond (c .is-word3 .result) (readForm t) (Fourth t)
+third c = second (c .before .before .before) ∙ rw (c .before .before .if2 .left, ← c .is-word3 .ensures)
+
+fourth : (c : tie.After-is-word4) → let t = Text (c .before .before .before .before .before .before .before .before .before .before .before) in
+    cardForm t ≡ cond (c .is-word4 .result && eqb (length t) 6) (Here Save) Malformed
+fourth c = third (c .before .before .before) ∙ rw (c .before .before .if3 .left, ← c .is-word4 .ensures)
 
 slice-aggregate-is-word : tie.Need-slice-aggregate-is-word
 slice-aggregate-is-word c = search needs
@@ -27,10 +56,7 @@ ccb-form-requires : tie.Need-ccb-form-requires
 ccb-form-requires c κs = search needs
 
 returns-2 : tie.Need-returns-2
-unfolding cardForm
-returns-2 c =
-    let p = c .before .before .before .before in
-    rw (← p .before .is-word .ensures, p .if1 .left, ← c .before .before .is-word2 .ensures, c .before .if2 .taken) cc
+returns-2 c = rw (second (c .before .before), c .before .if2 .taken) (c .ccb-form .ensures)
 
 slice-aggregate-is-word-3 : tie.Need-slice-aggregate-is-word-3
 slice-aggregate-is-word-3 c = search needs
@@ -42,18 +68,7 @@ read-form-requires : tie.Need-read-form-requires
 read-form-requires c κs = search needs
 
 returns-3 : tie.Need-returns-3
-unfolding cardForm
-returns-3 c =
-    let p = c .before .before .before .before in
-    rw (
-      ← p .before .before .before .before .is-word .ensures,
-      p .before .before .before .if1 .left,
-      ← p .before .is-word2 .ensures,
-      p .if2 .left,
-      ← c .before .before .is-word3 .ensures,
-      c .before .if3 .taken,
-      c .read-form .ensures,
-    )
+returns-3 c = rw (third (c .before .before), c .before .if3 .taken) (c .read-form .ensures)
 
 slice-aggregate-is-word-4 : tie.Need-slice-aggregate-is-word-4
 slice-aggregate-is-word-4 c = search needs
@@ -62,34 +77,10 @@ is-word-requires-4 : tie.Need-is-word-requires-4
 is-word-requires-4 c κs = search needs
 
 returns-4 : tie.Need-returns-4
-unfolding cardForm
-returns-4 c =
-    let p = c .before .before .before .before in
-    rw (
-      ← p .before .before .before .before .before .before .is-word .ensures,
-      p .before .before .before .before .before .if1 .left,
-      ← p .before .before .before .is-word2 .ensures,
-      p .before .before .if2 .left,
-      ← p .is-word3 .ensures,
-      c .before .before .before .if3 .left,
-      ← c .before .is-word4 .ensures,
-      c .if4 .taken,
-    )
+returns-4 c = rw (fourth (c .before), c .if4 .taken)
 
 returns-5 : tie.Need-returns-5
-unfolding cardForm
-returns-5 c =
-    let p = c .before .before .before .before in
-    rw (
-      ← p .before .before .before .before .before .before .is-word .ensures,
-      p .before .before .before .before .before .if1 .left,
-      ← p .before .before .before .is-word2 .ensures,
-      p .before .before .if2 .left,
-      ← p .is-word3 .ensures,
-      c .before .before .before .if3 .left,
-      ← c .before .is-word4 .ensures,
-      c .if4 .left,
-    )
+returns-5 c = rw (fourth (c .before), c .if4 .left)
 
 pub card-form-spec : {M : Type 1} → statement M
 card-form-spec =

@@ -5,14 +5,14 @@ use borrow.Author.Needs.{needs}
 use Rattle.lines.proofs.grammar.cca_form.Statement.{statement}
 use Rattle.lines.proofs.grammar.cca_form.Tie as tie
 
-byte-at-requires : tie.Need-byte-at-requires
-byte-at-requires c κs = search needs
+char-at-requires : tie.Need-char-at-requires
+char-at-requires c κs = search needs
 
 slot-of-requires : tie.Need-slot-of-requires
 slot-of-requires c κs = search needs
 
-byte-at-requires-2 : tie.Need-byte-at-requires-2
-byte-at-requires-2 c κs = search needs
+char-at-requires-2 : tie.Need-char-at-requires-2
+char-at-requires-2 c κs = search needs
 
 to-end-requires : tie.Need-to-end-requires
 to-end-requires c κs = search needs
@@ -22,26 +22,26 @@ cca-write-requires c κs = search needs
 
 returns : tie.Need-returns
 unfolding ccaForm
-returns c = rw (← c .before .before .before .byte-at2 .ensures, eq-eqb _ _ (c .before .before .if1 .taken)) cc
+returns c = rw (← c .before .before .before .char-at2 .ensures, eq-eqb _ _ (c .before .before .if1 .taken)) cc
 
 cca-read-requires : tie.Need-cca-read-requires
 cca-read-requires c κs = search needs
 
 returns-2 : tie.Need-returns-2
 unfolding ccaForm
-returns-2 c = rw (← c .before .before .before .byte-at2 .ensures, ne-eqb _ _ (c .before .before .if1 .left), c .before .if2 .taken) cc
+returns-2 c = rw (← c .before .before .before .char-at2 .ensures, ne-eqb _ _ (c .before .before .if1 .left), c .before .if2 .taken) cc
 
 returns-3 : tie.Need-returns-3
 unfolding ccaForm
-returns-3 c = rw (← c .before .before .byte-at2 .ensures, ne-eqb _ _ (c .before .if1 .left), c .if2 .left)
+returns-3 c = rw (← c .before .before .char-at2 .ensures, ne-eqb _ _ (c .before .if1 .left), c .if2 .left)
 
 pub cca-form-spec : {M : Type 1} → statement M
 cca-form-spec =
     tie.close
     (tie.spec
-    byte-at-requires
+    char-at-requires
     slot-of-requires
-    byte-at-requires-2
+    char-at-requires-2
     to-end-requires
     cca-write-requires
     returns

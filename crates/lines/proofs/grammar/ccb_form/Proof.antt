@@ -4,14 +4,14 @@ use borrow.Author.Needs.{needs}
 use Rattle.lines.proofs.grammar.ccb_form.Statement.{statement}
 use Rattle.lines.proofs.grammar.ccb_form.Tie as tie
 
-byte-at-requires : tie.Need-byte-at-requires
-byte-at-requires c κs = search needs
+char-at-requires : tie.Need-char-at-requires
+char-at-requires c κs = search needs
 
-byte-at-requires-2 : tie.Need-byte-at-requires-2
-byte-at-requires-2 c κs = search needs
+char-at-requires-2 : tie.Need-char-at-requires-2
+char-at-requires-2 c κs = search needs
 
-byte-at-requires-3 : tie.Need-byte-at-requires-3
-byte-at-requires-3 c κs = search needs
+char-at-requires-3 : tie.Need-char-at-requires-3
+char-at-requires-3 c κs = search needs
 
 slot-of-requires : tie.Need-slot-of-requires
 slot-of-requires c κs = search needs
@@ -26,19 +26,19 @@ returns : tie.Need-returns
 unfolding ccbForm
 returns c =
     let p = c .before .before .before in
-    rw (← p .before .before .byte-at .ensures, ← p .before .byte-at2 .ensures, p .if1 .taken) cc
+    rw (← p .before .before .char-at .ensures, ← p .before .char-at2 .ensures, p .if1 .taken) cc
 
 returns-2 : tie.Need-returns-2
 unfolding ccbForm
-returns-2 c = rw (c .all-pairs .ensures, ← c .before .before .before .byte-at .ensures, ← c .before .before .byte-at2 .ensures, c .before .if1 .left)
+returns-2 c = rw (c .all-pairs .ensures, ← c .before .before .before .char-at .ensures, ← c .before .before .char-at2 .ensures, c .before .if1 .left)
 
 pub ccb-form-spec : {M : Type 1} → statement M
 ccb-form-spec =
     tie.close
     (tie.spec
-    byte-at-requires
-    byte-at-requires-2
-    byte-at-requires-3
+    char-at-requires
+    char-at-requires-2
+    char-at-requires-3
     slot-of-requires
     slot-form-requires
     all-pairs-requires

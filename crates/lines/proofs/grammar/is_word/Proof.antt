@@ -20,11 +20,11 @@ abbrev μ-loop : tie.MeasureT-loop
 loop-holds : tie.Need-loop-holds Inv-loop μ-loop
 loop-holds c = (zero-le, rw add-zero)
 
-add-byte-at : tie.Need-add-byte-at Inv-loop μ-loop
-add-byte-at c = search needs
+add-char-at : tie.Need-add-char-at Inv-loop μ-loop
+add-char-at c = search needs
 
-byte-at-requires : tie.Need-byte-at-requires Inv-loop μ-loop
-byte-at-requires c κs = search needs
+char-at-requires : tie.Need-char-at-requires Inv-loop μ-loop
+char-at-requires c κs = search needs
 
 shared-slice-read-if1 : tie.Need-shared-slice-read-if1 Inv-loop μ-loop
 shared-slice-read-if1 c = search needs
@@ -33,7 +33,7 @@ returns : tie.Need-returns Inv-loop μ-loop
 returns c =
     let at = c .before .before .before in
     let so = at .before .loop .inv .1 ∙ word-next _ _ _ _ (at .loop-test .taken) in
-    sym (so ∙ rw (← c .before .before .byte-at .ensures, ne-eqb _ _ (c .if1 .taken)))
+    sym (so ∙ rw (← c .before .before .char-at .ensures, ne-eqb _ _ (c .if1 .taken)))
 
 add-i : tie.Need-add-i Inv-loop μ-loop
 add-i c = search needs
@@ -45,7 +45,7 @@ loop-again : tie.Need-loop-again Inv-loop μ-loop
 loop-again c =
     let at = c .before .before .before in
     let so = at .before .loop .inv .1 ∙ word-next _ _ _ _ (at .loop-test .taken) in
-    (omega arith, so ∙ rw (← c .before .before .byte-at .ensures, eq-eqb _ _ (c .if1 .left)))
+    (omega arith, so ∙ rw (← c .before .before .char-at .ensures, eq-eqb _ _ (c .if1 .left)))
 
 returns-2 : tie.Need-returns-2 Inv-loop μ-loop
 returns-2 c = sym (c .before .loop .inv .1 ∙ word-end _ _ _ _ (c .loop-test .left))
@@ -57,8 +57,8 @@ is-word-spec =
     Inv-loop
     μ-loop
     loop-holds
-    add-byte-at
-    byte-at-requires
+    add-char-at
+    char-at-requires
     shared-slice-read-if1
     returns
     add-i

@@ -14,11 +14,11 @@ returns-2 : tie.Need-returns-2
 unfolding parse
 returns-2 c = rw (le-leb 1 _ (c .before .if1 .left), lt-leb _ longestLine (c .if2 .taken))
 
-byte-at-requires : tie.Need-byte-at-requires
-byte-at-requires c κs = search needs
+char-at-requires : tie.Need-char-at-requires
+char-at-requires c κs = search needs
 
-byte-at-requires-2 : tie.Need-byte-at-requires-2
-byte-at-requires-2 c κs = search needs
+char-at-requires-2 : tie.Need-char-at-requires-2
+char-at-requires-2 c κs = search needs
 
 is-digit-requires : tie.Need-is-digit-requires
 is-digit-requires c κs = search needs
@@ -42,8 +42,8 @@ returns-3 c =
     rw (
       le-leb 1 _ (p .before .before .before .before .before .if1 .left),
       le-leb _ longestLine (p .before .before .before .before .if2 .left),
-      ← p .before .before .before .byte-at .ensures,
-      ← p .before .before .byte-at2 .ensures,
+      ← p .before .before .before .char-at .ensures,
+      ← p .before .before .char-at2 .ensures,
       ← p .before .is-digit .ensures,
       ← p .is-digit2 .ensures,
       c .before .before .if3 .taken,
@@ -57,8 +57,8 @@ returns-4 c =
     rw (
       le-leb 1 _ (p .before .before .before .before .if1 .left),
       le-leb _ longestLine (p .before .before .before .if2 .left),
-      ← p .before .before .byte-at .ensures,
-      ← p .before .byte-at2 .ensures,
+      ← p .before .before .char-at .ensures,
+      ← p .before .char-at2 .ensures,
       ← p .is-digit .ensures,
       ← c .before .before .is-digit2 .ensures,
       c .before .if3 .left,
@@ -71,8 +71,8 @@ parse-line-spec =
     (tie.spec
     returns
     returns-2
-    byte-at-requires
-    byte-at-requires-2
+    char-at-requires
+    char-at-requires-2
     is-digit-requires
     is-digit-requires-2
     card-form-requires

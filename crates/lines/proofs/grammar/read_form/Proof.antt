@@ -4,11 +4,11 @@ use borrow.Author.Needs.{needs}
 use Rattle.lines.proofs.grammar.read_form.Statement.{statement}
 use Rattle.lines.proofs.grammar.read_form.Tie as tie
 
-byte-at-requires : tie.Need-byte-at-requires
-byte-at-requires c κs = search needs
+char-at-requires : tie.Need-char-at-requires
+char-at-requires c κs = search needs
 
-byte-at-requires-2 : tie.Need-byte-at-requires-2
-byte-at-requires-2 c κs = search needs
+char-at-requires-2 : tie.Need-char-at-requires-2
+char-at-requires-2 c κs = search needs
 
 slot-of-requires : tie.Need-slot-of-requires
 slot-of-requires c κs = search needs
@@ -18,18 +18,18 @@ read-of-requires c κs = search needs
 
 returns : tie.Need-returns
 unfolding readForm
-returns c = rw (← c .before .before .before .before .byte-at .ensures, c .before .before .before .if1 .taken) cc
+returns c = rw (← c .before .before .before .before .char-at .ensures, c .before .before .before .if1 .taken) cc
 
 returns-2 : tie.Need-returns-2
 unfolding readForm
-returns-2 c = rw (← c .before .byte-at .ensures, c .if1 .left)
+returns-2 c = rw (← c .before .char-at .ensures, c .if1 .left)
 
 pub read-form-spec : {M : Type 1} → statement M
 read-form-spec =
     tie.close
     (tie.spec
-    byte-at-requires
-    byte-at-requires-2
+    char-at-requires
+    char-at-requires-2
     slot-of-requires
     read-of-requires
     returns

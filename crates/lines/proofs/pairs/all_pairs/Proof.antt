@@ -1,51 +1,46 @@
 -- `lines::pairs::all_pairs` meets its contract: four steps, and the end of the line.
-use mathlib.Core.Path.{ap, _∙_}
-use Rattle.lines.specs.Grammar.{stepped, pairsOf}
+use mathlib.Core.Path.{_≡_}
+use Rattle.lines.specs.Grammar.{begun, pairRead, pairsOf}
 use borrow.Author.Needs.{needs}
 use Rattle.lines.proofs.pairs.all_pairs.Statement.{statement}
 use Rattle.lines.proofs.pairs.all_pairs.Tie as tie
 
-step-requires : tie.Need-step-requires
-step-requires c κs = search needs
+read-pair-requires : tie.Need-read-pair-requires
+read-pair-requires c κs = search needs
 
-step-requires-2 : tie.Need-step-requires-2
-step-requires-2 c κs = search needs
+read-pair-requires-2 : tie.Need-read-pair-requires-2
+read-pair-requires-2 c κs = search needs
 
-step-requires-3 : tie.Need-step-requires-3
-step-requires-3 c κs = search needs
+read-pair-requires-3 : tie.Need-read-pair-requires-3
+read-pair-requires-3 c κs = search needs
 
-step-requires-4 : tie.Need-step-requires-4
-step-requires-4 c κs = search needs
+read-pair-requires-4 : tie.Need-read-pair-requires-4
+read-pair-requires-4 c κs = search needs
 
 any-requires : tie.Need-any-requires
 any-requires c κs = search needs
 
+-- the reading that four steps give
+four : (c : tie.After-read-pair4) → let a = c .before .before .before .before .before .args in
+    c .read-pair4 .result ≡ pairRead (a .text .now) (pairRead (a .text .now) (pairRead (a .text .now) (pairRead (a .text .now) (begun (a .at)))))
+four c = cc
+
 returns : tie.Need-returns
 unfolding pairsOf
-returns c =
-    let t = c .before .before .before .before .before .before .before .before .before .args .text .now in
-    let s = c .before .before .before .before in
-    let two = s .before .before .step2 .ensures .0 ∙ ap (stepped t) (s .before .before .before .step .ensures .0) in
-    let e = s .step4 .ensures .0 ∙ ap (stepped t) (s .before .step3 .ensures .0 ∙ ap (stepped t) two) in
-    rw (← e, ← c .before .any .ensures, c .if1 .taken)
+returns c = rw (← four (c .before .before .before .before), ← c .before .any .ensures, c .if1 .taken)
 
 returns-2 : tie.Need-returns-2
 unfolding pairsOf
-returns-2 c =
-    let t = c .before .before .before .before .before .before .before .before .before .args .text .now in
-    let s = c .before .before .before .before in
-    let two = s .before .before .step2 .ensures .0 ∙ ap (stepped t) (s .before .before .before .step .ensures .0) in
-    let e = s .step4 .ensures .0 ∙ ap (stepped t) (s .before .step3 .ensures .0 ∙ ap (stepped t) two) in
-    rw (← e, ← c .before .any .ensures, c .if1 .left)
+returns-2 c = rw (← four (c .before .before .before .before), ← c .before .any .ensures, c .if1 .left)
 
 pub all-pairs-spec : {M : Type 1} → statement M
 all-pairs-spec =
     tie.close
     (tie.spec
-    step-requires
-    step-requires-2
-    step-requires-3
-    step-requires-4
+    read-pair-requires
+    read-pair-requires-2
+    read-pair-requires-3
+    read-pair-requires-4
     any-requires
     returns
     returns-2)

@@ -1,20 +1,20 @@
--- `lines::pairs::step` meets its contract: one pair more where the line goes on, else nothing.
+-- `lines::pairs::read_pair` meets its contract: one pair more where the line goes on, else nothing.
 use Prim.Native.Nat.{_+_}
 use native.Mathlib.Omega.{arith}
 use lib.ListN.{length}
 use borrow.Author.Tests.{ltb-true}
 use Rattle.cells.proofs.Rows.{and-right}
-use Rattle.lines.specs.Grammar.{longestLine, stepped}
+use Rattle.lines.specs.Grammar.{longestLine, pairRead}
 use Rattle.lines.proofs.Words.{next-within}
 use borrow.Author.Needs.{needs}
-use Rattle.lines.proofs.pairs.step.Statement.{statement}
-use Rattle.lines.proofs.pairs.step.Tie as tie
+use Rattle.lines.proofs.pairs.read_pair.Statement.{statement}
+use Rattle.lines.proofs.pairs.read_pair.Tie as tie
 
-add-byte-at : tie.Need-add-byte-at
-add-byte-at c = search needs
+add-char-at : tie.Need-add-char-at
+add-char-at c = search needs
 
-byte-at-requires : tie.Need-byte-at-requires
-byte-at-requires c κs = search needs
+char-at-requires : tie.Need-char-at-requires
+char-at-requires c κs = search needs
 
 slot-of-requires : tie.Need-slot-of-requires
 slot-of-requires c κs = search needs
@@ -25,14 +25,14 @@ add-number-from c = search needs
 number-from-requires : tie.Need-number-from-requires
 number-from-requires c κs = search needs
 
-byte-at-requires-2 : tie.Need-byte-at-requires-2
-byte-at-requires-2 c κs = search needs
+char-at-requires-2 : tie.Need-char-at-requires-2
+char-at-requires-2 c κs = search needs
 
-add-byte-at-2 : tie.Need-add-byte-at-2
-add-byte-at-2 c = search needs
+add-char-at-2 : tie.Need-add-char-at-2
+add-char-at-2 c = search needs
 
-byte-at-requires-3 : tie.Need-byte-at-requires-3
-byte-at-requires-3 c κs = search needs
+char-at-requires-3 : tie.Need-char-at-requires-3
+char-at-requires-3 c κs = search needs
 
 gave-requires : tie.Need-gave-requires
 gave-requires c κs = search needs
@@ -41,7 +41,7 @@ give-requires : tie.Need-give-requires
 give-requires c κs = search needs
 
 returns : tie.Need-returns
-unfolding stepped
+unfolding pairRead
 returns c =
     let n = c .before .before .before .before .before in
     let t = n .before .before .before .before .if1 .taken in
@@ -54,21 +54,21 @@ returns c =
     )
 
 returns-2 : tie.Need-returns-2
-unfolding stepped
+unfolding pairRead
 returns-2 c = (rw (c .if1 .left), search needs)
 
-pub step-spec : {M : Type 1} → statement M
-step-spec =
+pub read-pair-spec : {M : Type 1} → statement M
+read-pair-spec =
     tie.close
     (tie.spec
-    add-byte-at
-    byte-at-requires
+    add-char-at
+    char-at-requires
     slot-of-requires
     add-number-from
     number-from-requires
-    byte-at-requires-2
-    add-byte-at-2
-    byte-at-requires-3
+    char-at-requires-2
+    add-char-at-2
+    char-at-requires-3
     gave-requires
     give-requires
     returns
