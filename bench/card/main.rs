@@ -2,7 +2,7 @@
 //
 //     card CARD KIND N [show]
 //
-// CARD is fresh, counter, busy or still; KIND is full, quick, idle (full, at a clock code that is not the card's) or none (the loop without ticks).
+// CARD is fresh, counter, busy, still or wakeN (N cells wake in each tick); KIND is full, quick, idle (full, at a clock code that is not the card's) or none (the loop without ticks).
 // It prints a checksum of the driven and the cell words, and how many cells all ticks woke. With `show` it prints what plrun is to be given for the
 // same wiring and ticks, and on standard error what plrun must answer to the ticks.
 use std::hint::black_box;
@@ -52,12 +52,12 @@ mod trigger {
     #[repr(C)]
     #[derive(Clone, Copy)]
     pub struct Card {
-        pub pointer: u8,
-        pub trigger: u8,
         pub cells: [Cell; 16],
         pub connectors: [Connector; 16],
-        pub edited: u16,
+        pub edited: u64,
         pub memory: Memory,
+        pub pointer: u8,
+        pub trigger: u8,
     }
 
     #[repr(C)]
@@ -95,6 +95,7 @@ mod trigger {
         pub fn trigger_fresh() -> Card;
         pub fn trigger_full_tick(card: Card, input: Input) -> Ticked;
         pub fn trigger_quick_tick(card: Card, input: Input) -> Ticked;
+        pub fn trigger_at_rest(card: Card, input: Input) -> bool;
         pub fn trigger_line(
             card: Card,
             text: *const u8,
@@ -185,6 +186,23 @@ fn still() -> Vec<String> {
     (1..=16).flat_map(cell).collect()
 }
 
+// As `still`, but the first n cells toggle in every tick.
+fn waking(n: usize) -> Vec<String> {
+    let cell = |i| {
+        let (kind, slots) = if i <= n {
+            (13, "36CCB X=64 Y=64 Z=192")
+        } else {
+            (10, "36CCB X=41 Y=42 Z=43 F=44")
+        };
+        [
+            format!("M E={i}"),
+            format!("36CCA Y={kind}"),
+            slots.into(),
+        ]
+    };
+    (1..=16).flat_map(cell).collect()
+}
+
 fn show(answer: &Answer, Input { code, sample }: Input, kind: &str) {
     println!(
         "T {code} {sample:04x} {}",
@@ -225,7 +243,10 @@ fn main() {
         "counter" => vec!["36CCA X=4".into(), "36CCA X=19".into()],
         "busy" => busy(&mut random),
         "still" => still(),
-        _ => panic!("fresh, counter, busy or still"),
+        _ => match name.strip_prefix("wake").and_then(|n| n.parse().ok()) {
+            Some(n) => waking(n),
+            None => panic!("fresh, counter, busy, still or wakeN"),
+        },
     };
     if shown {
         lines.iter().for_each(|text| println!("{text}"));

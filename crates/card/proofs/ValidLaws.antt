@@ -6,7 +6,7 @@ use mathlib.Core.List.{List, [], _∷_, map}
 use native.Mathlib.Decide.{ℕ-discrete}
 use native.Mathlib.Omega.{arith}
 use lib.Dec.{leb, ltb, eqb}
-use lib.ListN.{length, getD, set, take, replicate, length-take, length-map, length-set, length-replicate}
+use lib.ListN.{length, getD, set, take, replicate, length-map, length-set, length-replicate}
 use lib.Seq.{getD-set-same, getD-set-other, take-at, take-all, length-take-le}
 use borrow.Author.Tests.{ltb-true, ltb-false, not-true, le-leb, le-ltb, eq-eqb, ne-eqb}
 use Rattle.cells.specs.declared.table.Slots.{Slots}
@@ -175,10 +175,6 @@ module _ (n : ℕ) (c : Card) (ok : validCard n c ≡ true) where
         cells-pass = first-pass (validCell n) n cells noCell long pass;
         connectors-pass = sound .connectors-pass;
       })
-
-  -- with other cells, n of them
-  pub other-cells : (cells : List Cell) → length cells ≡ n → every (validCell n) cells ≡ true → valid n (c .trigger) cells (c .connectors) ≡ true
-  other-cells cells count pass = first-cells cells (omega arith) (λ i h. every-at (validCell n) cells i noCell pass (omega arith))
 
   -- with another trigger, and the connector at k replaced
   other-connector : (trigger k : ℕ) (connector : Connector) → badClock trigger ≡ false → validConnector n connector ≡ true

@@ -4,6 +4,7 @@ ghost use Rattle.card.specs.Fresh;
 use crate::limits::CELLS;
 use crate::limits::CONNECTORS;
 use crate::limits::CellWord;
+use crate::limits::EditedSet;
 use crate::limits::FIRST_CELL;
 use crate::limits::INPUT;
 use crate::limits::PUSH_PULL;
@@ -33,12 +34,12 @@ pub struct Memory {
 // The card.
 #[repr(C)]
 pub struct Card {
-    pub pointer: u8,
-    pub trigger: u8,
     pub cells: [Cell; CELLS],
     pub connectors: [Connector; CONNECTORS],
-    pub edited: CellWord,
+    pub edited: EditedSet,
     pub memory: Memory,
+    pub pointer: u8,
+    pub trigger: u8,
 }
 
 // A card that powers up with settings: all else is fresh.
@@ -46,7 +47,7 @@ pub fn started(
     trigger: u8,
     cells: [Cell; CELLS],
     connectors: [Connector; CONNECTORS],
-    edited: CellWord,
+    edited: EditedSet,
 ) -> Card
     ensures { λ c. ⌜ c ≡ Fresh.started trigger cells connectors edited ⌝ }
 {
@@ -59,12 +60,12 @@ pub fn started(
         levels2: 0,
     };
     Card {
-        pointer: FIRST_CELL,
-        trigger: trigger,
         cells: cells,
         connectors: connectors,
         edited: edited,
         memory: memory,
+        pointer: FIRST_CELL,
+        trigger: trigger,
     }
 }
 

@@ -7,7 +7,7 @@ ghost use Rattle.card.specs.Edits.{atCell, currentCell, currentConnector
 ghost use Rattle.card.specs.Edits.{setType, setConfig, setState, wiredSlots, setSlots, setConnectorType, setSource, blankSlot};
 use crate::card::Card;
 use crate::card::Connector;
-use crate::limits::ALL_CELLS;
+use crate::limits::ALL_EDITED;
 use crate::limits::CELLS;
 use crate::limits::EDGES;
 use crate::limits::FIRST_CELL;
@@ -82,7 +82,7 @@ fn put_cell(card: Card, cell: Cell) -> Card
         let at = i as usize;
         let mut next = card;
         next.cells[at] = cell;
-        next.edited = words::with_set16(card.edited, i);
+        next.edited = words::with_set(card.edited, i);
         next
     } else {
         card
@@ -149,7 +149,7 @@ pub fn home(card: Card) -> Card
     let after = cleared(cells);
     let mut next = card;
     next.cells = after;
-    next.edited = ALL_CELLS;
+    next.edited = ALL_EDITED;
     next
 }
 

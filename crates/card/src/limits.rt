@@ -18,10 +18,13 @@ pub const BASES: u32 = 64;
 
 pub const LARGEST_ADDRESS: u32 = 255;
 
-// A word with a bit for each cell, and the one with all of them.
+// A word with a bit for each cell.
 pub type CellWord = u16;
 
-pub const ALL_CELLS: CellWord = 65535;
+// A set of edited cells, a bit for each, and the one with all of them. It has 64 bits, so that a card is aligned to 8 bytes and copied by whole words.
+pub type EditedSet = u64;
+
+pub const ALL_EDITED: EditedSet = 65535;
 
 // The types of a connector.
 pub const INPUT: u8 = 0;

@@ -17,7 +17,7 @@ use crate::card::Card;
 use crate::card::Connector;
 use crate::limits::CELLS;
 use crate::limits::CONNECTORS;
-use crate::limits::CellWord;
+use crate::limits::EditedSet;
 use crate::limits::FIRST_CELL;
 use crate::limits::PUSH_PULL;
 use cells::cell::Cell;
@@ -349,13 +349,13 @@ fn cells_under(row: CellRow, cells: [Cell; CELLS]) -> [Cell; CELLS]
     next
 }
 
-fn edited_under(row: u64, edited: CellWord) -> CellWord
+fn edited_under(row: u64, edited: EditedSet) -> EditedSet
     ensures { λ r. ⌜ r ≡ wordOf (λ i. bitAt edited i || PresetRows.covers row i) cellCount ⌝ }
 {
-    let mut next: CellWord = 0;
+    let mut next: EditedSet = 0;
     for i in 0..CELLS as u32 {
-        let old = words::bit(edited as u64, i);
-        next = words::pushed16(next, i, old | covers(row, i));
+        let old = words::bit(edited, i);
+        next = words::pushed(next, i, old | covers(row, i));
     }
     next
 }

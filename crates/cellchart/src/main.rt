@@ -3,16 +3,20 @@
 // A chart line: the type, the used slots, the edge slots, the largest configuration; `-` for none.
 // A line of a course: the readings X Y Z, then the count, pulse and output that they lead to.
 ghost use mathlib.Core.Path.{_≡_};
+ghost use Rattle.cells.specs.Effect.{workedBy};
+ghost use Rattle.cells.specs.Reading.{slotsFrom};
 ghost use Rattle.cells.specs.Work.{workOut};
 ghost use Rattle.cellchart.specs.Chart.{digitOf, readingOf, clear, duration, keptAfter};
 use cells::cell::Config;
 use cells::cell::Pulses;
 use cells::cell::State;
 use cells::cell::Worked;
+use cells::reading::QUARTERS;
 use cells::table::Row;
 use cells::table::Slots;
 use cells::table::TYPES;
 use cells::table::packed;
+use cells::work::Effect;
 
 // Of both timers.
 const DURATION: Config = 2;
@@ -129,11 +133,34 @@ fn put_step(r: Slots, w: Worked) {
     put(b'\n');
 }
 
+// Words of which the addresses 0 to 3 read these four.
+fn levels(r: Slots) -> [u64; QUARTERS]
+    ensures { λ q. ⌜ slotsFrom q 0 1 2 3 ≡ r ⌝ }
+{
+    let p = packed(r.x, r.y, r.z, r.f);
+    [p as u64, 0, 0, 0]
+}
+
+// What a cell of state s keeps and puts out.
+fn worked(s: State, e: Effect) -> Worked
+    ensures { λ w. ⌜ w ≡ workedBy s e ⌝ }
+{
+    match e {
+        Effect::Same(out) => Worked { state: s, out: out },
+        Effect::Next(next, out) => Worked {
+            state: next,
+            out: out,
+        },
+    }
+}
+
 // Works out a timer and prints the step. The result is the state that the timer keeps.
 fn step(kind: u8, s: State, r: Slots) -> State
     ensures { λ t. ⌜ t ≡ workOut kind duration s r .state ⌝ }
 {
-    let w = cells::work::work(kind, DURATION, s, packed(r.x, r.y, r.z, r.f));
+    let q = levels(r);
+    let e = cells::work::work(kind, DURATION, s, 0, 1, 2, 3, &q);
+    let w = worked(s, e);
     put_step(r, w);
     w.state
 }

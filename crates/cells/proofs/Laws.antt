@@ -1,7 +1,7 @@
 -- Laws of a cell that the card uses: a cell that is not stirred and whose level slots agree may sleep; only edges stir it; when a cell wakes.
 use Prim.Native.Nat.{ℕ, _≤_}
 use mathlib.Core.Path.{_≡_, refl, sym, ap, _∙_}
-use mathlib.Core.Bool.{Bool, true, false, not, _&&_, _||_, cond, true≢false}
+use mathlib.Core.Bool.{Bool, true, false, not, _&&_, _||_, Bool·beq, cond, true≢false}
 use native.Mathlib.Omega.{arith}
 use lib.Dec.{ltb}
 use borrow.Author.Tests.{not-true, ltb-false}
@@ -15,7 +15,7 @@ use Rattle.cells.specs.declared.cell.State.{State}
 use Rattle.cells.specs.Table.{rowOf, masked, levelSlots, anySlot, slots}
 use Rattle.cells.specs.Work.{constantOut, gateOut, flopNext, trigger, taken, nextCount, nextPulse, countAfter, pulseAfter}
 use Rattle.cells.specs.Work.{keeping, holding, counting, workAs, workOut}
-use Rattle.cells.specs.Wake.{timerStirred, flopClock, stirredAs, stirred, hasEdges, NeverStirred, differ, disagreeOn, disagree, wakes}
+use Rattle.cells.specs.Wake.{timerStirred, flopClock, stirredAs, stirred, hasEdges, NeverStirred, differ, disagreeOn, disagree, moved, wakes}
 use Rattle.cells.proofs.Rows.{every-row}
 
 pub or-left : (a b : Bool) → (a || b) ≡ false → a ≡ false
@@ -341,3 +341,14 @@ disagree-trans kind a b c p q =
 pub constant-works : (config : ℕ) (s : State) (r : Slots) → workOut 0 config s r ≡ keeping s (constantOut config)
 unfolding workOut workAs rowOf
 constant-works config s r = refl
+
+-- ---- the slots that read otherwise
+
+-- the slots in which two readings have other values
+abbrev pub changes : Slots → Slots → Slots
+changes a b = slots (not (Bool·beq (a .x) (b .x))) (not (Bool·beq (a .y) (b .y))) (not (Bool·beq (a .z) (b .z))) (not (Bool·beq (a .f) (b .f)))
+
+-- two readings disagree where a level slot is among them
+pub moved-disagree : (kind : ℕ) (a b : Slots) → moved kind (changes a b) ≡ disagree kind a b
+unfolding moved disagree
+moved-disagree kind a b = refl

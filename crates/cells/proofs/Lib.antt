@@ -1,3 +1,4 @@
 pub mod Rows
 pub mod Packed
+pub mod Tests
 pub mod Laws

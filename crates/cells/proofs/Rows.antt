@@ -1,5 +1,5 @@
 -- Laws of the table by cell type: a test that holds of every row, columns that follow from others, and the row of a number past the table.
-use Prim.Native.Nat.{ℕ, _≤_, _<_}
+use Prim.Native.Nat.{ℕ, zero, suc, _≤_, _<_}
 use mathlib.Core.Path.{_≡_, refl, _∙_}
 use mathlib.Core.Bool.{Bool, true, false, _&&_, Bool·beq, cond, false≢true}
 use mathlib.Core.List.{List, [], _∷_}
@@ -106,3 +106,19 @@ past-lines m n (l ∷ ls) a h =
 pub past-table : (n : ℕ) → typeCount ≤ n → rowOf n ≡ no-row
 unfolding rowOf belowAll belowLines
 past-table n h = past-lines typeCount n chart refl h
+
+-- what the last arm of a match by type tells: the number is none of the first k
+abbrev pub Missed : ℕ → ℕ → Type 0
+Missed n zero = Unit {0}
+Missed n (suc k) = Missed n k × (n ≡ k → ⊥)
+
+missed : (n k : ℕ) → Missed n k → k ≤ n
+missed n zero m = omega arith
+missed n (suc k) m =
+    let h : k ≤ n = missed n k (m .0) in
+    let other : n ≡ k → ⊥ = m .1 in
+    omega arith
+
+-- so with all types named before it, it is past the table
+pub past-types : (n : ℕ) → Missed n typeCount → rowOf n ≡ no-row
+past-types n m = past-table n (missed n typeCount m)

@@ -2,4 +2,6 @@
 pub mod Table
 pub mod Work
 pub mod Wake
+pub mod Reading
+pub mod Effect
 pub mod Examples

@@ -54,6 +54,10 @@ disagreeOn s a b = (differ (s .x) (a .x) (b .x) || differ (s .y) (a .y) (b .y)) 
 unfoldable pub disagree : ℕ → Slots → Slots → Bool
 disagree kind now last = disagreeOn (levelSlots (rowOf kind)) now last
 
+-- a level slot of the type is among these
+unfoldable pub moved : ℕ → Slots → Bool
+moved kind m = anySlot (masked (levelSlots (rowOf kind)) m)
+
 -- a cell wakes: "it was edited since the last tick that ran", or is stirred, or a level slot disagrees with that tick
 unfoldable pub wakes : ℕ → State → Bool → Slots → Slots → Bool
 wakes kind s edited now last = edited || (stirred kind s now || disagree kind now last)

@@ -2,7 +2,7 @@
 ghost use mathlib.Core.Path.{_≡_};
 ghost use Prim.Native.Nat.{_<_, _≤_};
 ghost use Rattle.words.specs.Bits.{bitNumber};
-ghost use Rattle.cells.specs.Table.{slots, keptBy, rowOf, levelSlots};
+ghost use Rattle.cells.specs.Table.{slots, keptBy, rowOf};
 ghost use Rattle.cells.specs.Work.{placeOf, slotsOf};
 use crate::cell::Config;
 
@@ -233,7 +233,7 @@ pub fn used_of(kind: u8) -> u32
 }
 
 // Its edge slots, packed; past the table none.
-pub fn edge_of(kind: u8) -> u32
+fn edge_of(kind: u8) -> u32
     ensures { λ e. ⌜ (e ≡ placeOf (rowOf kind .edge)) × (e < 16) ⌝ }
 {
     let n = kind as usize;
@@ -265,12 +265,4 @@ pub fn row_of(kind: u8) -> Row
         class: class,
         kept: kept,
     }
-}
-
-// The used slots of a type that are no edge slots, packed.
-pub fn level_slots(kind: u8) -> u32
-    ensures { λ m. ⌜ (m ≡ placeOf (levelSlots (rowOf kind))) × (m < 16) ⌝ }
-{
-    let used = used_of(kind);
-    used & (edge_of(kind) ^ 15)
 }

@@ -1,15 +1,19 @@
 // Whether a quick tick works out a cell.
+ghost use mathlib.Core.Bool.{_||_};
 ghost use mathlib.Core.Path.{_≡_};
+ghost use Rattle.cells.specs.Table.{masked, anySlot};
+ghost use Rattle.cells.specs.Reading.{readFrom, slotsFrom};
 ghost use Rattle.cells.specs.Wake;
-ghost use Rattle.cells.specs.Wake.{timerStirred, flopClock, stirredAs, hasEdges};
-ghost use Rattle.cells.specs.Work.{slotsOf};
+ghost use Rattle.cells.specs.Wake.{timerStirred, flopClock, stirredAs, hasEdges, moved};
 use crate::cell::State;
+use crate::reading::QUARTERS;
+use crate::reading::four;
+use crate::reading::read;
+use crate::reading::two;
 use crate::table::Class;
 use crate::table::FlopKind;
 use crate::table::Slots;
 use crate::table::class_of;
-use crate::table::edge_of;
-use crate::table::level_slots;
 use crate::table::unpacked;
 use crate::table::used_of;
 
@@ -47,31 +51,130 @@ fn stirred_as(class: Class, s: State, r: Slots) -> bool
     }
 }
 
-// Whether a cell of a type is stirred by what its slots read, packed. Slots that the type does not use do not count.
-pub fn stirred(kind: u8, s: State, now: u32) -> bool
-    ensures { λ q. ⌜ q ≡ Wake.stirred kind s (slotsOf now) ⌝ }
+// Whether a cell of a type is stirred by what its slots read. Slots that the type does not use do not count.
+pub fn stirred(kind: u8, s: State, r: Slots) -> bool
+    ensures { λ q. ⌜ q ≡ Wake.stirred kind s r ⌝ }
 {
-    stirred_as(class_of(kind), s, unpacked(used_of(kind) & now))
+    stirred_as(class_of(kind), s, within(unpacked(used_of(kind)), r))
 }
 
-// Whether a type has edge slots. One that has none is never stirred (law `edgeless-still`).
+// The readings of the slots of a set; a slot outside it reads low.
+fn within(set: Slots, r: Slots) -> Slots
+    ensures { λ m. ⌜ m ≡ masked set r ⌝ }
+{
+    Slots {
+        x: set.x & r.x,
+        y: set.y & r.y,
+        z: set.z & r.z,
+        f: set.f & r.f,
+    }
+}
+
+// Whether a type has edge slots, as its row of the table says. One that has none is never stirred (law `edgeless-still`). A tick on a quiet card asks
+// this of every cell, and a `match` of constants is the cheapest test.
 pub fn has_edges(kind: u8) -> bool
     ensures { λ q. ⌜ q ≡ hasEdges kind ⌝ }
 {
-    edge_of(kind) != 0
+    match kind {
+        0 => false,
+        1 => true,
+        2 => false,
+        3 => false,
+        4 => false,
+        5 => false,
+        6 => false,
+        7 => false,
+        8 => true,
+        9 => true,
+        10 => false,
+        11 => false,
+        12 => true,
+        13 => true,
+        14 => true,
+        15 => true,
+        16 => true,
+        17 => true,
+        18 => true,
+        _ => false,
+    }
 }
 
-// Whether two readings differ in a level slot of a type.
-fn disagree(kind: u8, now: u32, last: u32) -> bool
-    ensures { λ q. ⌜ q ≡ Wake.disagree kind (slotsOf now) (slotsOf last) ⌝ }
+// ---- waking where the slots lie
+//
+// Two sets of words are handed in: q, what the addresses read now, and d, which of them read otherwise than in the last tick that ran.
+
+// A level slot of the first two, the first three, or all four reads otherwise.
+fn moved2(d: &[u64; QUARTERS], x: u8, y: u8) -> bool
+    ensures { λ r. ⌜ r ≡ (readFrom (now (d .entry)) x || readFrom (now (d .entry)) y) ⌝ }
 {
-    let set = level_slots(kind);
-    set & (now ^ last) != 0
+    read(d, x) || read(d, y)
 }
 
-// Whether a cell of a type wakes, by what its slots read now and read in the last tick that ran, both packed.
-pub fn wakes(kind: u8, s: State, edited: bool, now: u32, last: u32) -> bool
-    ensures { λ q. ⌜ q ≡ Wake.wakes kind s edited (slotsOf now) (slotsOf last) ⌝ }
+fn moved3(d: &[u64; QUARTERS], x: u8, y: u8, z: u8) -> bool
+    ensures { λ r. ⌜ r ≡ ((readFrom (now (d .entry)) x || readFrom (now (d .entry)) y) || readFrom (now (d .entry)) z) ⌝ }
 {
-    edited | (stirred(kind, s, now) | disagree(kind, now, last))
+    moved2(d, x, y) || read(d, z)
+}
+
+fn moved4(d: &[u64; QUARTERS], x: u8, y: u8, z: u8, f: u8) -> bool
+    ensures { λ r. ⌜ r ≡ anySlot (slotsFrom (now (d .entry)) x y z f) ⌝ }
+{
+    moved2(d, x, y) || moved2(d, z, f)
+}
+
+// A D flip-flop's clock is high, or a level slot of it reads otherwise; a JK's.
+fn flop_wakes(x: u8, y: u8, z: u8, f: u8, q: &[u64; QUARTERS], d: &[u64; QUARTERS]) -> bool
+    ensures { λ r. ⌜ r ≡ (readFrom (now (q .entry)) y || ((readFrom (now (d .entry)) x || readFrom (now (d .entry)) z) || readFrom (now (d .entry)) f)) ⌝ }
+{
+    read(q, y) || moved3(d, x, z, f)
+}
+
+fn jk_wakes(x: u8, y: u8, z: u8, q: &[u64; QUARTERS], d: &[u64; QUARTERS]) -> bool
+    ensures { λ r. ⌜ r ≡ (readFrom (now (q .entry)) z || (readFrom (now (d .entry)) x || readFrom (now (d .entry)) y)) ⌝ }
+{
+    read(q, z) || moved2(d, x, y)
+}
+
+// A timer is stirred, or its reset reads otherwise.
+fn timer_wakes(s: State, r: Slots, z: u8, d: &[u64; QUARTERS]) -> bool
+    ensures { λ q. ⌜ q ≡ (timerStirred s r || readFrom (now (d .entry)) z) ⌝ }
+{
+    timer_stirred(s, r) || read(d, z)
+}
+
+// Whether a cell that is not edited wakes, whose slots hold the addresses x, y, z and f.
+pub fn wakes(
+    kind: u8,
+    s: State,
+    x: u8,
+    y: u8,
+    z: u8,
+    f: u8,
+    q: &[u64; QUARTERS],
+    d: &[u64; QUARTERS],
+) -> bool
+    ensures { λ r. ⌜ r ≡ (Wake.stirred kind s (slotsFrom (now (q .entry)) x y z f) || moved kind (slotsFrom (now (d .entry)) x y z f)) ⌝ }
+{
+    match kind {
+        0 => false,
+        1 => flop_wakes(x, y, z, f, q, d),
+        2 => moved2(d, x, y),
+        3 => moved3(d, x, y, z),
+        4 => moved4(d, x, y, z, f),
+        5 => moved2(d, x, y),
+        6 => moved2(d, x, y),
+        7 => moved2(d, x, y),
+        8 => timer_wakes(s, two(q, x, y), z, d),
+        9 => timer_wakes(s, two(q, x, y), z, d),
+        10 => moved4(d, x, y, z, f),
+        11 => moved4(d, x, y, z, f),
+        12 => flop_wakes(x, y, z, f, q, d),
+        13 => jk_wakes(x, y, z, q, d),
+        14 => timer_wakes(s, two(q, x, y), z, d),
+        15 => timer_wakes(s, two(q, x, y), z, d),
+        16 => timer_wakes(s, four(q, x, y, z, f), z, d),
+        17 => timer_wakes(s, four(q, x, y, z, f), z, d),
+        18 => flop_wakes(x, y, z, f, q, d),
+        _ => false,
+    }
 }

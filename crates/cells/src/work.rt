@@ -1,20 +1,22 @@
 // A cell worked out: one function for each family, and the one that picks among them.
 ghost use mathlib.Core.Path.{_≡_};
+ghost use Rattle.cells.specs.declared.table.Class.the-variants.{Flop, OneShot, Delay};
+ghost use Rattle.cells.specs.Reading.{slotsFrom};
 ghost use Rattle.cells.specs.Work;
-ghost use Rattle.cells.specs.Work.{slotsOf, lookupOut, gateOut, dFlop, syncDFlop, clearDFlop, flopNext, nextCount, nextPulse, pulses};
-ghost use Rattle.cells.specs.Work.{keeping, holding, countAfter, pulseAfter, oneShot, workAs, workOut};
+ghost use Rattle.cells.specs.Work.{lookupOut, gateOut, dFlop, syncDFlop, clearDFlop, flopNext, nextCount, nextPulse, pulses};
+ghost use Rattle.cells.specs.Work.{countAfter, pulseAfter, workAs, workOut};
+ghost use Rattle.cells.specs.Effect.{workedBy};
 use crate::cell::Config;
 use crate::cell::Pulses;
 use crate::cell::State;
-use crate::cell::Worked;
-use crate::table::Class;
+use crate::reading::QUARTERS;
+use crate::reading::four;
+use crate::reading::three;
+use crate::reading::two;
 use crate::table::FlopKind;
 use crate::table::GateKind;
 use crate::table::Slots;
-use crate::table::class_of;
 use crate::table::packed;
-use crate::table::unpacked;
-use crate::table::used_of;
 
 // The bit of the code at the place that the readings choose.
 fn lookup(code: Config, r: Slots) -> bool
@@ -150,25 +152,6 @@ fn next_pulse(reset: bool, taken: bool, clock: bool, d: Pulses, count: Pulses, p
     }
 }
 
-// The state as it was, with an output.
-fn keep(s: State, out: bool) -> Worked
-    ensures { λ w. ⌜ w ≡ keeping s out ⌝ }
-{
-    Worked { state: s, out: out }
-}
-
-// The state with another bit, which is the output.
-fn hold(s: State, bit: bool) -> Worked
-    ensures { λ w. ⌜ w ≡ holding s bit ⌝ }
-{
-    let mut next = s;
-    next.bit = bit;
-    Worked {
-        state: next,
-        out: bit,
-    }
-}
-
 // A timer's count after this tick, of duration `d`.
 fn count_after(retrigger: bool, d: Pulses, s: State, r: Slots) -> Pulses
     ensures { λ n. ⌜ n ≡ pulses (countAfter retrigger (d .0) s r) ⌝ }
@@ -185,49 +168,76 @@ fn pulse_after(retrigger: bool, d: Pulses, s: State, r: Slots) -> bool
     next_pulse(r.z, took, r.y, d, s.count, s.pulse)
 }
 
-fn one_shot(retrigger: bool, config: Config, s: State, r: Slots) -> Worked
-    ensures { λ w. ⌜ w ≡ oneShot retrigger config s r ⌝ }
+// What working a cell out gives: the same state and an output, or a new state and an output. A caller writes back only a new one.
+pub enum Effect {
+    Same(bool),
+    Next(State, bool),
+}
+
+// A flip-flop's next bit is its output.
+fn flop(flop: FlopKind, s: State, r: Slots) -> Effect
+    ensures { λ e. ⌜ workedBy s e ≡ workAs (Flop flop) 0 s r ⌝ }
+{
+    let bit = flop_next(flop, r, s.bit);
+    let mut next = s;
+    next.bit = bit;
+    Effect::Next(next, bit)
+}
+
+fn one_shot(retrigger: bool, config: Config, s: State, r: Slots) -> Effect
+    ensures { λ e. ⌜ workedBy s e ≡ workAs (OneShot retrigger) config s r ⌝ }
 {
     let count = count_after(retrigger, Pulses(config), s, r);
     let mut next = s;
     next.count = count;
-    Worked {
-        state: next,
-        out: 0 < count.0,
-    }
+    Effect::Next(next, 0 < count.0)
 }
 
-fn delay(retrigger: bool, config: Config, s: State, r: Slots) -> Worked
-    ensures { λ w. ⌜ w ≡ Work.delay retrigger config s r ⌝ }
+fn delay(retrigger: bool, config: Config, s: State, r: Slots) -> Effect
+    ensures { λ e. ⌜ workedBy s e ≡ workAs (Delay retrigger) config s r ⌝ }
 {
     let count = count_after(retrigger, Pulses(config), s, r);
     let pulse = pulse_after(retrigger, Pulses(config), s, r);
     let mut next = s;
     next.count = count;
     next.pulse = pulse;
-    Worked {
-        state: next,
-        out: pulse,
-    }
+    Effect::Next(next, pulse)
 }
 
-// What a class makes of the used readings, packed. Each arm unpacks what it needs.
-fn work_as(class: Class, config: Config, s: State, r: u32) -> Worked
-    ensures { λ w. ⌜ w ≡ workAs class config s (slotsOf r) ⌝ }
+// A cell worked out, whose slots hold the addresses x, y, z and f. Each arm reads the slots that its type uses. A number past the table is no type:
+// such a cell does nothing.
+pub fn work(
+    kind: u8,
+    config: Config,
+    s: State,
+    x: u8,
+    y: u8,
+    z: u8,
+    f: u8,
+    q: &[u64; QUARTERS],
+) -> Effect
+    ensures { λ e. ⌜ workedBy s e ≡ workOut kind config s (slotsFrom (now (q .entry)) x y z f) ⌝ }
 {
-    match class {
-        Class::Nothing => keep(s, false),
-        Class::Constant => keep(s, config != 0),
-        Class::Gate(gate) => keep(s, gate_out(gate, config, unpacked(r))),
-        Class::Flop(flop) => hold(s, flop_next(flop, unpacked(r), s.bit)),
-        Class::OneShot(retrigger) => one_shot(retrigger, config, s, unpacked(r)),
-        Class::Delay(retrigger) => delay(retrigger, config, s, unpacked(r)),
+    match kind {
+        0 => Effect::Same(config != 0),
+        1 => flop(FlopKind::DFlop, s, four(q, x, y, z, f)),
+        2 => Effect::Same(lookup(config, two(q, x, y))),
+        3 => Effect::Same(lookup(config, three(q, x, y, z))),
+        4 => Effect::Same(lookup(config, four(q, x, y, z, f))),
+        5 => Effect::Same(gate_out(GateKind::And2, config, two(q, x, y))),
+        6 => Effect::Same(gate_out(GateKind::Or2, config, two(q, x, y))),
+        7 => Effect::Same(gate_out(GateKind::Xor2, config, two(q, x, y))),
+        8 => one_shot(true, config, s, three(q, x, y, z)),
+        9 => delay(true, config, s, three(q, x, y, z)),
+        10 => Effect::Same(gate_out(GateKind::And4, config, four(q, x, y, z, f))),
+        11 => Effect::Same(gate_out(GateKind::Or4, config, four(q, x, y, z, f))),
+        12 => flop(FlopKind::SyncDFlop, s, four(q, x, y, z, f)),
+        13 => flop(FlopKind::Jk, s, three(q, x, y, z)),
+        14 => one_shot(false, config, s, three(q, x, y, z)),
+        15 => delay(false, config, s, three(q, x, y, z)),
+        16 => one_shot(false, config, s, four(q, x, y, z, f)),
+        17 => delay(false, config, s, four(q, x, y, z, f)),
+        18 => flop(FlopKind::ClearDFlop, s, four(q, x, y, z, f)),
+        _ => Effect::Same(false),
     }
-}
-
-// A cell of a type worked out with the readings of its four slots, packed. A slot that is not used reads low.
-pub fn work(kind: u8, config: Config, s: State, r: u32) -> Worked
-    ensures { λ w. ⌜ w ≡ workOut kind config s (slotsOf r) ⌝ }
-{
-    work_as(class_of(kind), config, s, used_of(kind) & r)
 }

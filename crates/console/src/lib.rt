@@ -32,7 +32,7 @@ pub struct Entered {
 }
 
 // The line read as a tick.
-fn tick_line(text: &[u8]) -> TickLine
+pub fn tick_line(text: &[u8]) -> TickLine
     ensures { λ r. ⌜ r ≡ tickLine (now (text .entry)) ⌝ }
 {
     let none = Input { code: 0, sample: 0 };

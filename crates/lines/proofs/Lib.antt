@@ -6,6 +6,7 @@ pub mod Long
 pub mod Printed
 pub mod Reached
 pub mod Replies
+pub mod Rest
 pub mod SaveLoad
 pub mod Settable
 pub mod Wired

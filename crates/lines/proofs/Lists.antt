@@ -68,7 +68,7 @@ module _ (n : ℕ) where
   call-settled c (tick full input) s = tick-settled n full c input s
 
   -- two ticks of any kinds do the same on a settled card
-  ticks-alike : (c : Card) (full quick : Bool) (input : Input) → Settled n c
+  pub ticks-alike : (c : Card) (full quick : Bool) (input : Input) → Settled n c
       → AlikeTicks (Tick.tick n full c input) (Tick.tick n quick c input)
   ticks-alike c true true input s = record { card = refl; ran = refl; driven = refl; cells = refl }
   ticks-alike c false false input s = record { card = refl; ran = refl; driven = refl; cells = refl }

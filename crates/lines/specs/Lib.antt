@@ -5,6 +5,7 @@ pub mod Line
 pub mod Calls
 pub mod Demand3
 pub mod History
+pub mod Rest
 pub mod SaveLoad
 pub mod Settable
 pub mod Box

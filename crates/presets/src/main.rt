@@ -54,7 +54,7 @@ fn put_cells(card: Card) -> bool {
     let cells = card.cells;
     let mut any = false;
     for i in 0..16u32 {
-        if words::bit(card.edited as u64, i) {
+        if words::bit(card.edited, i) {
             put_cell(i + 1, cells[i as usize]);
             any = true;
         }

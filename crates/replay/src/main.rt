@@ -38,6 +38,8 @@ fn main() {
     replay(b"conditional-pulse.lines");
     replay(b"counter.lines");
     replay(b"readout.lines");
+    replay(b"comes-to-rest.lines");
+    replay(b"never-rests.lines");
     replay(b"long.in");
     replay(b"edge.in");
     replay(b"late.in");

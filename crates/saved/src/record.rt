@@ -13,7 +13,7 @@ ghost use Rattle.saved.specs.Record.{cellIn, connectorIn, cellsIn, conne
 use card::card::Card;
 use card::card::Connector;
 use card::card::started;
-use card::limits::ALL_CELLS;
+use card::limits::ALL_EDITED;
 use card::limits::CELLS;
 use card::limits::CONNECTORS;
 use card::limits::FIRST_CELL;
@@ -271,7 +271,7 @@ pub fn load(card: Card, bytes: &[u8]) -> Loaded
     if !same(&again, bytes) {
         return Loaded { card: card, k: 14 };
     }
-    let next = started(trigger, cells, connectors, ALL_CELLS);
+    let next = started(trigger, cells, connectors, ALL_EDITED);
     if !valid_settings(trigger, cells, connectors) {
         return Loaded { card: card, k: 15 };
     }

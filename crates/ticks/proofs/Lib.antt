@@ -1,7 +1,10 @@
 -- Laws of ticks that several functions or the crates above cite.
+pub mod AtRest
 pub mod Counts
 pub mod FastPath
 pub mod Sleep
 pub mod Ticks
+pub mod Turns
 pub mod ValidTicks
 pub mod Views
+pub mod Words

@@ -3,18 +3,18 @@
 use Prim.Native.Nat.{ℕ, zero, suc, _+_, _-_, _*_, _^_, _≤_, _<_}
 use mathlib.Core.Path.{_≡_, refl, sym, ap, ap₂, _∙_}
 use mathlib.Core.Bool.{Bool, true, false, _||_, cond}
-use mathlib.Core.List.{List}
+use mathlib.Core.List.{List, _++_}
 use native.Mathlib.Nat.{le-refl, lt-of-lt-of-le, le-of-lt}
 use native.Mathlib.Decide.{decLt}
 use native.Mathlib.Omega.{arith}
 use lib.Count.{ones}
 use lib.Dec.{ltb, eqb}
-use lib.ListN.{getD, getD-replicate}
+use lib.ListN.{drop, getD, getD-replicate}
 use borrow.Author.Tests.{lt-ltb, le-ltb}
 use Rattle.words.specs.Bits.{bitAt, bitNumber, countOf}
 use Rattle.words.specs.Listed.{listed}
 use Rattle.words.proofs.Laws.{bit-zero, bit-built, built-all, ones-built}
-use Rattle.words.proofs.Listed.{listed-at, listed-same}
+use Rattle.words.proofs.Listed.{front-at, listed-same}
 use Rattle.cells.specs.declared.table.Slots.{Slots}
 use Rattle.cells.specs.declared.cell.Cell.{Cell}
 use Rattle.cells.specs.declared.cell.Worked.{Worked}
@@ -217,7 +217,7 @@ ticked-settled n full c input settled i h edited =
     let b = outputsBelow n full (c .cells) (c .edited) w i in
     let old = getD (c .cells) i noCell in
     rw (
-      listed-at (cellAfter n full (c .cells) (c .edited) w) n i noCell h,
+      front-at (cellAfter n full (c .cells) (c .edited) w) n (c .cells) i noCell h,
       output-bit n full (c .cells) (c .edited) w n i h,
       slots-stay n full old i (c .edited) w b,
       remembers n full c input i (old .slots) (le-of-lt h),
@@ -239,7 +239,7 @@ same-ticks n c input settled = go (eqb (input .code) (c .trigger))
   where
     go : (b : Bool) → AlikeTicks (cond b (ticked n false c input) (idle c)) (cond b (ticked n true c input) (idle c))
     go true =
-        let cells = cells-same n c (lines n c input .levels) settled in
+        let cells = ap (λ (l : List Cell). l ++ drop n (c .cells)) (cells-same n c (lines n c input .levels) settled) in
         let outputs = outputs-same n c (lines n c input .levels) settled n (le-refl n) in
         record {
           card = λ k. cardAfter c (lines n c input) (record { cells = cells k; outputs = outputs k; woken = 0 });

@@ -14,8 +14,6 @@ use lib.Pow.{ones-lt, pow-mono}
 use borrow.Author.Tests.{eq-eqb, ne-eqb, lt-ltb, le-ltb}
 use Rattle.words.specs.Bits.{bitAt, wordOf}
 use Rattle.words.proofs.Laws.{bit-zero, bit-above, bit-ones, bit-low, bit-high, bit-and, bit-or, bit-xor, bit-built, built-same, built-of-bits}
-use Rattle.cells.specs.Work.{placeOf, slotsOf}
-use Rattle.cells.proofs.Packed.{slots-place}
 use Rattle.card.specs.Address.{connectorCount, firstCell, firstConnector, among, baseOf}
 use Rattle.card.proofs.Places.{among-in, among-below, among-above}
 use Rattle.ticks.specs.Reading.{levelAt, readsLevels, reads, slotsRead, mixed, view}
@@ -169,7 +167,7 @@ or-true : (b : Bool) → (b || true) ≡ true
 or-true true = refl
 or-true false = refl
 
-flipped : (w i : ℕ) → i < 64 → bitAt (bitXor w all) i ≡ not (bitAt w i)
+pub flipped : (w i : ℕ) → i < 64 → bitAt (bitXor w all) i ≡ not (bitAt w i)
 flipped w i h = bit-xor w all i ∙ ap (λ (x : Bool). not (Bool·beq (bitAt w i) x)) (bit-ones 64 i h) ∙ flip-true (bitAt w i)
 
 rose : (n b i : ℕ) → i < 64 → bitAt (bitAnd n (bitXor b all)) i ≡ (bitAt n i && not (bitAt b i))
@@ -229,15 +227,6 @@ quarter-reads n b a h = level (decLt a 64)
         rw (q, ne-eqb a 192 e, lt-ltb a 64 k)
     level (no k) = inverse (decLt a 128) (omega arith)
 
--- so the bit that the code picks is what the address reads
-pub picked : (f g : ℕ → Bool) (q : List ℕ) (a k i : ℕ) (r : Bool) → ((a : ℕ) → a < 256 → bitAt (getD q (a / 64) 0) (a % 64) ≡ reads f g a)
-    → (k ≡ a / 64) × (k < 4) → i ≡ a % 64 → r ≡ bitAt (getD q k 0) i → r ≡ reads f g a
-picked f g q a k i r law hk hi hr =
-    let quarter = hk .0 in
-    let four = hk .1 in
-    let h : a < 256 = omega (arith, quarter, four) in
-    hr ∙ ap₂ (λ (x y : ℕ). bitAt (getD q x 0) y) quarter hi ∙ law a h
-
 -- an address looks at one base below 64, so the word of a view reads as the view
 pub reads-built : (f g : ℕ → Bool) (a : ℕ) → reads (bitAt (wordOf f 64)) (bitAt (wordOf g 64)) a ≡ reads f g a
 unfolding reads
@@ -248,9 +237,3 @@ reads-built f g a =
 pub slots-built : (f g : ℕ → Bool) (s : List ℕ) → slotsRead (bitAt (wordOf f 64)) (bitAt (wordOf g 64)) s ≡ slotsRead f g s
 unfolding slotsRead
 slots-built f g s = rw (reads-built f g (getD s 0 0), reads-built f g (getD s 1 0), reads-built f g (getD s 2 0), reads-built f g (getD s 3 0))
-
--- what the code reads by two words of views, packed, is what the views read
-pub read-as : (f g : ℕ → Bool) (a b : ℕ) (s : List ℕ) (p : ℕ) → a ≡ wordOf f 64 → b ≡ wordOf g 64 → p ≡ placeOf (slotsRead (bitAt a) (bitAt b) s)
-    → slotsOf p ≡ slotsRead f g s
-read-as f g a b s p ea eb ep =
-    ap slotsOf ep ∙ slots-place (slotsRead (bitAt a) (bitAt b) s) ∙ ap₂ (λ (x y : ℕ). slotsRead (bitAt x) (bitAt y) s) ea eb ∙ slots-built f g s

@@ -2,7 +2,10 @@
 pub mod Reading
 pub mod Levels
 pub mod Tick
+pub mod Rest
 pub mod Examples
+pub mod RestExamples
 -- Another view of a rule above, or what only proofs use: laws say that they agree.
+pub mod Words
 pub mod FastPath
 pub mod Settled

@@ -1,10 +1,10 @@
 -- Document 01, "One tick" and "Who wakes": a tick of either kind, over the number n of cells.
 use Prim.Native.Nat.{ℕ, zero, suc, _+_, _*_, _^_}
 use mathlib.Core.Bool.{Bool, true, false, _||_, cond}
-use mathlib.Core.List.{List}
+use mathlib.Core.List.{List, _++_}
 use lib.Count.{ones}
 use lib.Dec.{eqb}
-use lib.ListN.{getD}
+use lib.ListN.{drop, getD}
 use Rattle.words.specs.Bits.{bitAt, bitNumber, wordOf}
 use Rattle.words.specs.Listed.{listed}
 use Rattle.cells.specs.declared.table.Slots.{Slots}
@@ -14,11 +14,11 @@ use Rattle.cells.specs.Work.{workOut}
 use Rattle.cells.specs.Wake.{wakes}
 use Rattle.card.specs.declared.card.Card.{Card}
 use Rattle.card.specs.declared.card.Memory.{Memory}
+use Rattle.card.specs.declared.card.Connector.{Connector}
 use Rattle.card.specs.Fresh.{noCell}
 use Rattle.ticks.specs.declared.connectors.Lines.{Lines}
 use Rattle.ticks.specs.declared.tick.Input.{Input}
 use Rattle.ticks.specs.declared.tick.Wires.{Wires}
-use Rattle.ticks.specs.declared.tick.Turn.{Turn}
 use Rattle.ticks.specs.declared.tick.Turned.{Turned}
 use Rattle.ticks.specs.declared.tick.Answer.{Answer}
 use Rattle.ticks.specs.declared.tick.Ticked.{Ticked}
@@ -50,6 +50,12 @@ readLast n i w s = slotsRead (sawLast n i w) (sawEarlier n i w) s
 -- "a cell worked out gets the state and output that "Cells" gives for its state and its slots as read in this tick"
 abbrev pub withState : Cell → Worked → Cell
 withState cell r = record { kind = cell .kind; config = cell .config; slots = cell .slots; state = r .state }
+
+-- what a tick makes of one cell: the cell, its output, and whether it was worked out
+pub record Turn : Type 0 where
+  pub cell : Cell
+  pub out : Bool
+  pub woke : Bool
 
 abbrev pub workedTurn : Cell → Slots → Turn
 workedTurn cell now =
@@ -90,9 +96,9 @@ module _ (n : ℕ) (full : Bool) (cells : List Cell) (edited : ℕ) (w : Wires) 
   abbrev pub wokeAt : ℕ → Bool
   wokeAt i = turnOf i .woke
 
-  -- the new cells, the cell word and the woken set, "bit 0 cell 1"
+  -- the new cells (those past n stay), the cell word and the woken set, "bit 0 cell 1"
   unfoldable pub turned : Turned
-  turned = record { cells = listed cellAfter n; outputs = outputsBelow n; woken = wordOf wokeAt n }
+  turned = record { cells = listed cellAfter n ++ drop n cells; outputs = outputsBelow n; woken = wordOf wokeAt n }
 
 -- ---- a tick
 
@@ -101,10 +107,12 @@ wiresOf m levels =
     record { levels = levels; levels2 = m .levels; levels3 = m .levels2; outputs = m .outputs; outputs2 = m .outputs2; outputs3 = m .outputs3 }
 
 -- connectors are "read from the last tick's cells and levels, with edges against the tick before that": no cell is below position 0
+abbrev pub linesIn : (n : ℕ) → Memory → List Connector → ℕ → Lines
+linesIn n m connectors sample =
+    linesOf (view n 0 (m .outputs) (m .outputs) (m .levels)) (view n 0 (m .outputs2) (m .outputs2) (m .levels2)) connectors sample
+
 abbrev pub lines : (n : ℕ) → Card → Input → Lines
-lines n c input =
-    let m = c .memory in
-    linesOf (view n 0 (m .outputs) (m .outputs) (m .levels)) (view n 0 (m .outputs2) (m .outputs2) (m .levels2)) (c .connectors) (input .sample)
+lines n c input = linesIn n (c .memory) (c .connectors) (input .sample)
 
 -- the memory moved on by a tick with these words
 abbrev pub moved : Memory → (driven outputs levels : ℕ) → Memory
@@ -143,12 +151,11 @@ answerOf l t = record { ran = true; driven = l .driven; cells = t .outputs; woke
 abbrev pub turnedIn : (n : ℕ) → Bool → Card → ℕ → Turned
 turnedIn n full c levels = turned n full (c .cells) (c .edited) (wiresOf (c .memory) levels)
 
+abbrev pub ranWith : Card → Lines → Turned → Ticked
+ranWith c l t = record { card = cardAfter c l t; answer = answerOf l t }
+
 abbrev pub ticked : (n : ℕ) → Bool → Card → Input → Ticked
-ticked n full c input =
-    record {
-      card = cardAfter c (lines n c input) (turnedIn n full c (lines n c input .levels));
-      answer = answerOf (lines n c input) (turnedIn n full c (lines n c input .levels));
-    }
+ticked n full c input = ranWith c (lines n c input) (turnedIn n full c (lines n c input .levels))
 
 -- "idle" and nothing changes; the words of an idle answer are 0
 abbrev pub idle : Card → Ticked

@@ -1,25 +1,37 @@
 // Ticks: full and quick.
-ghost use mathlib.Core.Bool.{true, false, _||_};
+ghost use mathlib.Core.Bool.{Bool, true, false, not, _||_, Bool·beq};
 ghost use mathlib.Core.Path.{_≡_};
-ghost use Prim.Native.Nat.{_<_};
+ghost use Prim.Native.Nat.{ℕ, _<_};
+ghost use lib.Dec.{eqb};
 ghost use Rattle.words.specs.Bits.{bitAt};
-ghost use Rattle.cells.specs.Wake.{stirred, wakes};
-ghost use Rattle.cells.specs.Work.{slotsOf};
+ghost use Rattle.cells.specs.Effect.{workedBy};
+ghost use Rattle.cells.specs.Wake.{wakes};
+ghost use Rattle.cells.specs.Work.{workOut};
 ghost use Rattle.card.specs.Address.{cellCount};
 ghost use Rattle.ticks.specs.Reading.{slotsRead};
-ghost use Rattle.ticks.specs.FastPath.{steadyWires, AllRest, sleptAll};
+ghost use Rattle.ticks.specs.FastPath.{sleptAll};
 ghost use Rattle.ticks.specs.Tick;
-ghost use Rattle.ticks.specs.Tick.{workedTurn, readLast, turnAt, turned, ticked};
+ghost use Rattle.ticks.specs.Tick.{turned, wiresOf, linesIn, ranWith};
+ghost use Rattle.ticks.specs.Words.{ReadsAs, MovesAs, shiftedAt};
 use crate::connectors::Lines;
 use crate::connectors::drive;
-use crate::view::readings;
+use crate::rest::all_rest;
+use crate::rest::unchanged;
 use crate::view::sees;
+use crate::view::words_moved;
+use crate::view::words_now;
 use card::card::Card;
+use card::card::Connector;
 use card::card::Memory;
+use card::limits::ALL_EDITED;
 use card::limits::CELLS;
+use card::limits::CONNECTORS;
 use card::limits::CellWord;
+use card::limits::EditedSet;
 use cells::cell::Cell;
-use cells::cell::Worked;
+use cells::reading::QUARTERS;
+use cells::reading::address;
+use cells::work::Effect;
 
 // What comes in with a tick: the code of its clock, and the word sampled at the connectors.
 #[repr(C)]
@@ -37,13 +49,6 @@ pub struct Wires {
     pub outputs: CellWord,
     pub outputs2: CellWord,
     pub outputs3: CellWord,
-}
-
-// What a tick makes of one cell: the cell, its output, and whether it was worked out.
-pub struct Turn {
-    pub cell: Cell,
-    pub out: bool,
-    pub woke: bool,
 }
 
 // What a tick makes of all cells.
@@ -69,76 +74,89 @@ pub struct Ticked {
     pub answer: Answer,
 }
 
-// A cell that is worked out with its readings, packed.
-fn worked_turn(cell: Cell, now: u32) -> Turn
-    ensures { λ t. ⌜ t ≡ workedTurn cell (slotsOf now) ⌝ }
+// Whether the rules name a cell that is not edited. q holds what the addresses read, d which of them read otherwise than in the last tick.
+fn is_named(cell: Cell, q: &[u64; QUARTERS], d: &[u64; QUARTERS]) -> bool
+    ensures { λ r. ⌜ ((f g h : ℕ → Bool) → ReadsAs (now (q .entry)) f g → MovesAs (now (d .entry)) f g h → r ≡ wakes (cell .kind) (cell .state) false (slotsRead f g (cell .slots)) (slotsRead g h (cell .slots))) ⌝ }
 {
-    let w = cells::work::work(cell.kind, cell.config, cell.state, now);
-    let s = w.state;
-    let mut next = cell;
-    next.state = s;
-    Turn {
-        cell: next,
-        out: w.out,
-        woke: true,
-    }
+    let s = cell.slots;
+    let x = address(s[0]);
+    let y = address(s[1]);
+    let z = address(s[2]);
+    let f = address(s[3]);
+    cells::wake::wakes(cell.kind, cell.state, x, y, z, f, q, d)
 }
 
-// Whether cell i is worked out: in a full tick, or because the rules name it.
-fn is_worked(full: bool, cell: Cell, i: u32, edited: CellWord, w: Wires, now: u32) -> bool
+// A cell worked out with what the addresses read.
+fn worked(cell: Cell, q: &[u64; QUARTERS]) -> Effect
+    ensures { λ e. ⌜ ((f g : ℕ → Bool) → ReadsAs (now (q .entry)) f g → workedBy (cell .state) e ≡ workOut (cell .kind) (cell .config) (cell .state) (slotsRead f g (cell .slots))) ⌝ }
+{
+    let s = cell.slots;
+    let x = address(s[0]);
+    let y = address(s[1]);
+    let z = address(s[2]);
+    let f = address(s[3]);
+    cells::work::work(cell.kind, cell.config, cell.state, x, y, z, f, q)
+}
+
+// The cells that are worked out in any case: all in a full tick, and those that were edited.
+fn due(full: bool, edited: EditedSet) -> EditedSet
+    ensures { λ r. ⌜ ((i : ℕ) → i < cellCount → bitAt r i ≡ (full || bitAt edited i)) ⌝ }
+{
+    if full { ALL_EDITED } else { edited }
+}
+
+// The cells whose output changed in one of the last two ticks.
+fn shifted(w: Wires) -> CellWord
+    ensures { λ r. ⌜ ((i : ℕ) → bitAt r i ≡ shiftedAt i w) ⌝ }
+{
+    (w.outputs ^ w.outputs2) | (w.outputs2 ^ w.outputs3)
+}
+
+// Whether readers above cell i see of it, in this tick or the last two, something else than readers up to it do.
+fn is_moved(i: u32, out: bool, last: CellWord, shifted: CellWord) -> bool
     requires { ⌜ i < 64 ⌝ }
-    ensures { λ q. ⌜ q ≡ (full || wakes (cell .kind) (cell .state) (bitAt edited i) (slotsOf now) (readLast cellCount i w (cell .slots))) ⌝ }
+    ensures { λ r. ⌜ r ≡ (not (Bool·beq out (bitAt last i)) || bitAt shifted i) ⌝ }
 {
-    if full {
-        return true;
-    }
-    let slots = cell.slots;
-    let view = sees(i, w.outputs, w.outputs2, w.levels2);
-    let before = sees(i, w.outputs2, w.outputs3, w.levels3);
-    let last = readings(slots, view, before);
-    cells::wake::wakes(
-        cell.kind,
-        cell.state,
-        words::bit(edited as u64, i),
-        now,
-        last,
-    )
+    (out ^ words::bit(last as u64, i)) | words::bit(shifted as u64, i)
 }
 
-// The turn of cell i, below which this tick's outputs are known.
-fn turn_at(full: bool, cell: Cell, i: u32, edited: CellWord, w: Wires, below: CellWord) -> Turn
-    requires { ⌜ i < 64 ⌝ }
-    ensures { λ t. ⌜ t ≡ turnAt cellCount full cell i edited w below ⌝ }
-{
-    let slots = cell.slots;
-    let view = sees(i, below, w.outputs, w.levels);
-    let before = sees(i, w.outputs, w.outputs2, w.levels2);
-    let now = readings(slots, view, before);
-    if is_worked(full, cell, i, edited, w, now) {
-        worked_turn(cell, now)
-    } else {
-        Turn {
-            cell: cell,
-            out: words::bit(w.outputs as u64, i),
-            woke: false,
-        }
-    }
-}
-
-// The turns of all cells, in order.
-fn turn_each(full: bool, cells: [Cell; CELLS], edited: CellWord, w: Wires) -> Turned
+// The turns of all cells, in order. The words for the next reader are made anew only where the cell's output moved.
+fn turn_each(full: bool, cells: [Cell; CELLS], edited: EditedSet, w: Wires) -> Turned
     ensures { λ t. ⌜ t ≡ turned cellCount full cells edited w ⌝ }
 {
+    let due = due(full, edited);
+    let shifted = shifted(w);
     let mut next = cells;
     let mut outputs: CellWord = 0;
     let mut woken: CellWord = 0;
-    for i in 0..16u32 {
+    let mut q = words_now(0, 0, w);
+    let mut d = words_moved(0, 0, w);
+    for i in 0..CELLS as u32 {
         let at = i as usize;
-        let t = turn_at(full, cells[at], i, edited, w, outputs);
-        let cell = t.cell;
-        next[at] = cell;
-        outputs = words::pushed16(outputs, i, t.out);
-        woken = words::pushed16(woken, i, t.woke);
+        let mut woke = words::bit(due, i);
+        if !woke {
+            woke = is_named(next[at], &q, &d);
+        }
+        let mut out = words::bit(w.outputs as u64, i);
+        if woke {
+            woken = words::pushed16(woken, i, true);
+            match worked(next[at], &q) {
+                Effect::Same(o) => {
+                    out = o;
+                }
+                Effect::Next(s, o) => {
+                    let mut cell = next[at];
+                    cell.state = s;
+                    next[at] = cell;
+                    out = o;
+                }
+            }
+        }
+        outputs = words::pushed16(outputs, i, out);
+        if is_moved(i, out, w.outputs, shifted) {
+            q = words_now(i + 1, outputs, w);
+            d = words_moved(i + 1, outputs, w);
+        }
     }
     Turned {
         cells: next,
@@ -152,42 +170,11 @@ fn turn_each(full: bool, cells: [Cell; CELLS], edited: CellWord, w: Wires) -> Tu
 // While no cell is edited and every word is what it was in the last two ticks, all readers see one view, level slots read as they did, and a cell
 // sleeps unless an edge slot of it is high all the same.
 
-// Whether a cell sleeps under a view that does not change.
-fn rests(cell: Cell, view: u64) -> bool
-    ensures { λ q. ⌜ (q ≡ true → stirred (cell .kind) (cell .state) (slotsRead (bitAt view) (bitAt view) (cell .slots)) ≡ false) ⌝ }
+// Whether a quick tick leaves every cell as it is. It may say no where a closer look would say yes.
+fn is_quiet(cells: [Cell; CELLS], edited: EditedSet, w: Wires) -> bool
+    ensures { λ q. ⌜ (q ≡ true → turned cellCount false cells edited w ≡ sleptAll cells (w .outputs)) ⌝ }
 {
-    if !cells::wake::has_edges(cell.kind) {
-        return true;
-    }
-    let slots = cell.slots;
-    let now = readings(slots, view, view);
-    !cells::wake::stirred(cell.kind, cell.state, now)
-}
-
-fn all_rest(cells: [Cell; CELLS], view: u64) -> bool
-    ensures { λ q. ⌜ (q ≡ true → AllRest cellCount (bitAt view) cells) ⌝ }
-{
-    for i in 0..CELLS {
-        if !rests(cells[i], view) {
-            return false;
-        }
-    }
-    true
-}
-
-// Whether no word has changed in the last two ticks.
-fn unchanged(w: Wires) -> bool
-    ensures { λ q. ⌜ (q ≡ true → w ≡ steadyWires (w .outputs) (w .levels)) ⌝ }
-{
-    ((w.outputs2 == w.outputs) & (w.outputs3 == w.outputs))
-        & ((w.levels2 == w.levels) & (w.levels3 == w.levels))
-}
-
-// Whether a tick leaves every cell as it is. It may say no where a closer look would say yes.
-fn is_quiet(full: bool, cells: [Cell; CELLS], edited: CellWord, w: Wires) -> bool
-    ensures { λ q. ⌜ (q ≡ true → turned cellCount full cells edited w ≡ sleptAll cells (w .outputs)) ⌝ }
-{
-    if full | (edited != 0) {
+    if edited != 0 {
         return false;
     }
     if !unchanged(w) {
@@ -196,40 +183,52 @@ fn is_quiet(full: bool, cells: [Cell; CELLS], edited: CellWord, w: Wires) -> boo
     all_rest(cells, sees(0, w.outputs, w.outputs, w.levels))
 }
 
-// What a tick makes of all cells.
-fn turn_all(full: bool, cells: [Cell; CELLS], edited: CellWord, w: Wires) -> Turned
-    ensures { λ t. ⌜ t ≡ turned cellCount full cells edited w ⌝ }
+// What a quick tick makes of all cells.
+fn quick_turns(cells: [Cell; CELLS], edited: EditedSet, w: Wires) -> Turned
+    ensures { λ t. ⌜ t ≡ turned cellCount false cells edited w ⌝ }
 {
-    if is_quiet(full, cells, edited, w) {
+    if is_quiet(cells, edited, w) {
         return Turned {
             cells: cells,
             outputs: w.outputs,
             woken: 0,
         };
     }
-    turn_each(full, cells, edited, w)
+    turn_each(false, cells, edited, w)
 }
 
-// A tick that runs.
-fn run(full: bool, card: Card, input: Input) -> Ticked
-    ensures { λ t. ⌜ t ≡ ticked cellCount full card input ⌝ }
+// ---- a tick
+//
+// The two kinds stand side by side, since a card in a value that branches meet in is copied once more.
+
+// The connectors, driven from the last tick's words.
+fn lines_in(connectors: [Connector; CONNECTORS], m: Memory, sample: u16) -> Lines
+    ensures { λ l. ⌜ l ≡ linesIn cellCount m connectors sample ⌝ }
 {
-    let connectors = card.connectors;
-    let m = card.memory;
     let now = sees(0, m.outputs, m.outputs, m.levels);
     let before = sees(0, m.outputs2, m.outputs2, m.levels2);
-    let l = drive(connectors, now, before, input.sample);
-    let cells = card.cells;
-    let w = Wires {
-        levels: l.levels,
+    drive(connectors, now, before, sample)
+}
+
+// What the readers of the tick see.
+fn wires_of(m: Memory, levels: u16) -> Wires
+    ensures { λ w. ⌜ w ≡ wiresOf m levels ⌝ }
+{
+    Wires {
+        levels: levels,
         levels2: m.levels,
         levels3: m.levels2,
         outputs: m.outputs,
         outputs2: m.outputs2,
         outputs3: m.outputs3,
-    };
-    let t = turn_all(full, cells, card.edited, w);
-    let after = t.cells;
+    }
+}
+
+// The card after a tick that ran, and its answer.
+fn ran_with(card: Card, l: Lines, t: Turned) -> Ticked
+    ensures { λ r. ⌜ r ≡ ranWith card l t ⌝ }
+{
+    let m = card.memory;
     let memory = Memory {
         driven: l.driven,
         outputs: t.outputs,
@@ -238,10 +237,16 @@ fn run(full: bool, card: Card, input: Input) -> Ticked
         levels: l.levels,
         levels2: m.levels,
     };
-    let mut next = card;
-    next.cells = after;
-    next.edited = 0;
-    next.memory = memory;
+    let cells = t.cells;
+    let connectors = card.connectors;
+    let next = Card {
+        cells: cells,
+        connectors: connectors,
+        edited: 0,
+        memory: memory,
+        pointer: card.pointer,
+        trigger: card.trigger,
+    };
     let woken = t.woken;
     let answer = Answer {
         ran: true,
@@ -256,24 +261,27 @@ fn run(full: bool, card: Card, input: Input) -> Ticked
     }
 }
 
-// A tick of either kind.
-fn tick(full: bool, card: Card, input: Input) -> Ticked
-    ensures { λ t. ⌜ t ≡ Tick.tick cellCount full card input ⌝ }
+// Whether a clock is the card's trigger source.
+fn is_own(code: u8, trigger: u8) -> bool
+    ensures { λ q. ⌜ q ≡ eqb code trigger ⌝ }
 {
-    if input.code == card.trigger {
-        run(full, card, input)
-    } else {
-        let answer = Answer {
-            ran: false,
-            driven: 0,
-            cells: 0,
-            woken: 0,
-            count: 0,
-        };
-        Ticked {
-            card: card,
-            answer: answer,
-        }
+    code == trigger
+}
+
+// A tick whose clock is not the card's.
+fn idle(card: Card) -> Ticked
+    ensures { λ t. ⌜ t ≡ Tick.idle card ⌝ }
+{
+    let answer = Answer {
+        ran: false,
+        driven: 0,
+        cells: 0,
+        woken: 0,
+        count: 0,
+    };
+    Ticked {
+        card: card,
+        answer: answer,
     }
 }
 
@@ -281,12 +289,28 @@ fn tick(full: bool, card: Card, input: Input) -> Ticked
 pub fn full_tick(card: Card, input: Input) -> Ticked
     ensures { λ t. ⌜ t ≡ Tick.tick cellCount true card input ⌝ }
 {
-    tick(true, card, input)
+    if !is_own(input.code, card.trigger) {
+        return idle(card);
+    }
+    let m = card.memory;
+    let connectors = card.connectors;
+    let l = lines_in(connectors, m, input.sample);
+    let cells = card.cells;
+    let t = turn_each(true, cells, card.edited, wires_of(m, l.levels));
+    ran_with(card, l, t)
 }
 
 // The cells that the waking rules name are worked out.
 pub fn quick_tick(card: Card, input: Input) -> Ticked
     ensures { λ t. ⌜ t ≡ Tick.tick cellCount false card input ⌝ }
 {
-    tick(false, card, input)
+    if !is_own(input.code, card.trigger) {
+        return idle(card);
+    }
+    let m = card.memory;
+    let connectors = card.connectors;
+    let l = lines_in(connectors, m, input.sample);
+    let cells = card.cells;
+    let t = quick_turns(cells, card.edited, wires_of(m, l.levels));
+    ran_with(card, l, t)
 }

@@ -1,12 +1,14 @@
-// What a reader sees at each base, as a word with a bit for each base, and what it reads at an address.
+// What a reader sees at each base, as a word with a bit for each base, and the words that addresses are read from.
 ghost use mathlib.Core.Path.{_≡_};
-ghost use Prim.Native.Nat.{ℕ, _<_, _/_, _%_};
-ghost use lib.ListN.{getD};
+ghost use Prim.Native.Nat.{_<_};
 ghost use Rattle.words.specs.Bits.{bitAt, wordOf};
-ghost use Rattle.cells.specs.Work.{placeOf};
 ghost use Rattle.card.specs.Address.{cellCount};
-ghost use Rattle.ticks.specs.Reading.{reads, slotsRead, view};
-use cells::table::packed;
+ghost use Rattle.ticks.specs.Reading.{view};
+ghost use Rattle.ticks.specs.Words.{ReadsAs, MovesAs, Differ};
+ghost use Rattle.ticks.specs.Tick.{seesNow, sawLast, sawEarlier};
+use crate::tick::Wires;
+use card::limits::CellWord;
+use cells::reading::QUARTERS;
 
 // The view of a reader in position i: of the cells below i the bits of `below`, of the others those of `others`.
 pub fn sees(i: u32, below: u16, others: u16, levels: u16) -> u64
@@ -19,44 +21,50 @@ pub fn sees(i: u32, below: u16, others: u16, levels: u16) -> u64
     ((levels as u64) << 33) | (cells << 1)
 }
 
-const ALL: u64 = 0xffff_ffff_ffff_ffff;
+// All bits.
+pub const ALL: u64 = 0xffff_ffff_ffff_ffff;
 
 // The words that addresses are read from, one for each quarter of them: level, inverse, rose, fell. In the last one base 0 is high, for 192.
-fn quarters(now: u64, before: u64) -> [u64; 4]
-    ensures { λ q. ⌜ ((a : ℕ) → a < 256 → bitAt (getD q (a / 64) 0) (a % 64) ≡ reads (bitAt now) (bitAt before) a) ⌝ }
+pub fn quarters(now: u64, before: u64) -> [u64; QUARTERS]
+    ensures { λ q. ⌜ ReadsAs q (bitAt now) (bitAt before) ⌝ }
 {
     let low = now ^ ALL;
     [now, low, now & (before ^ ALL), (low & before) | 1]
 }
 
-fn quarter(address: u8) -> usize
-    ensures { λ n. ⌜ (n ≡ address / 64) × (n < 4) ⌝ }
+// The addresses that read otherwise from one set of words than from another.
+fn differing(a: [u64; QUARTERS], b: [u64; QUARTERS]) -> [u64; QUARTERS]
+    ensures { λ d. ⌜ Differ d a b ⌝ }
 {
-    (address / 64) as usize
+    [a[0] ^ b[0], a[1] ^ b[1], a[2] ^ b[2], a[3] ^ b[3]]
 }
 
-fn base(address: u8) -> u32
-    ensures { λ b. ⌜ (b ≡ address % 64) × (b < 64) ⌝ }
+// What a reader in position i reads in this tick, below which this tick's outputs are known.
+pub fn words_now(i: u32, below: CellWord, w: Wires) -> [u64; QUARTERS]
+    requires { ⌜ i < 64 ⌝ }
+    ensures { λ q. ⌜ ReadsAs q (seesNow cellCount i w below) (sawLast cellCount i w) ⌝ }
 {
-    (address % 64) as u32
+    let now = sees(i, below, w.outputs, w.levels);
+    let before = sees(i, w.outputs, w.outputs2, w.levels2);
+    quarters(now, before)
 }
 
-// What an address reads, by the views now and one tick earlier.
-pub fn read(now: u64, before: u64, address: u8) -> bool
-    ensures { λ q. ⌜ q ≡ reads (bitAt now) (bitAt before) address ⌝ }
+// What it read in the last tick that ran.
+fn words_last(i: u32, w: Wires) -> [u64; QUARTERS]
+    requires { ⌜ i < 64 ⌝ }
+    ensures { λ q. ⌜ ReadsAs q (sawLast cellCount i w) (sawEarlier cellCount i w) ⌝ }
 {
-    let q = quarters(now, before);
-    words::bit(q[quarter(address)], base(address))
+    let last = sees(i, w.outputs, w.outputs2, w.levels2);
+    let earlier = sees(i, w.outputs2, w.outputs3, w.levels3);
+    quarters(last, earlier)
 }
 
-// The readings of a cell's four slots, packed. The words are made once for all four.
-pub fn readings(slots: [u8; 4], now: u64, before: u64) -> u32
-    ensures { λ p. ⌜ p ≡ placeOf (slotsRead (bitAt now) (bitAt before) slots) ⌝ }
+// The addresses that it reads otherwise than in the last tick that ran.
+pub fn words_moved(i: u32, below: CellWord, w: Wires) -> [u64; QUARTERS]
+    requires { ⌜ i < 64 ⌝ }
+    ensures { λ d. ⌜ MovesAs d (seesNow cellCount i w below) (sawLast cellCount i w) (sawEarlier cellCount i w) ⌝ }
 {
-    let q = quarters(now, before);
-    let x = words::bit(q[quarter(slots[0])], base(slots[0]));
-    let y = words::bit(q[quarter(slots[1])], base(slots[1]));
-    let z = words::bit(q[quarter(slots[2])], base(slots[2]));
-    let f = words::bit(q[quarter(slots[3])], base(slots[3]));
-    packed(x, y, z, f)
+    let now = words_now(i, below, w);
+    let last = words_last(i, w);
+    differing(now, last)
 }

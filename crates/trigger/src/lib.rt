@@ -4,6 +4,7 @@ ghost use mathlib.Core.Path.{_≡_};
 ghost use Prim.Native.Nat.{_≤_};
 ghost use Rattle.card.specs.Address.{cellCount};
 ghost use Rattle.card.specs.Fresh;
+ghost use Rattle.ticks.specs.Rest.{Decides, AtRest};
 ghost use Rattle.ticks.specs.Tick.{tick};
 ghost use Rattle.saved.specs.Record.{configWidth, loadNumber, loaded};
 ghost use Rattle.lines.specs.Line.{shortestReply, lineResult, resultOf};
@@ -35,6 +36,14 @@ pub extern "C" fn trigger_quick_tick(card: Card, input: Input) -> Ticked
     ensures { λ t. ⌜ t ≡ tick cellCount false card input ⌝ }
 {
     ticks::tick::quick_tick(card, input)
+}
+
+// Whether a quick tick with the input would name no cell and leave the card as it is. Then every tick with it does, and the clock may stop.
+#[no_mangle]
+pub extern "C" fn trigger_at_rest(card: Card, input: Input) -> bool
+    ensures { λ q. ⌜ Decides q (AtRest cellCount card input) ⌝ }
+{
+    ticks::rest::at_rest(card, input)
 }
 
 // A load of any bytes: the card powers up with them, and a refused load leaves it as it was.

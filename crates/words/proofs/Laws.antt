@@ -295,6 +295,10 @@ pub built-next : (f : ℕ → Bool) (i w r : ℕ) (b : Bool) → w ≡ wordOf f 
 unfolding wordOf
 built-next f i w r b ew eb er = rw (add-one, er, ew, eb)
 
+-- a bit that is low leaves the word as it is
+pub built-passed : (f : ℕ → Bool) (i w : ℕ) → w ≡ wordOf f i → f i ≡ false → w ≡ wordOf f (i + 1)
+built-passed f i w e low = built-next f i w w false e (sym low) (omega arith)
+
 pub built-fits : (f : ℕ → Bool) (i w : ℕ) → w ≡ wordOf f i → w < 2 ^ i
 built-fits f i w e = rw e (built-lt f i)
 

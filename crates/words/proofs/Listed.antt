@@ -3,11 +3,11 @@ use Prim.Native.Nat.{ℕ, zero, suc, _+_, _≤_, _<_}
 use mathlib.Core.Path.{_≡_, refl, sym, ap, ap₂, _∙_}
 use mathlib.Core.List.{List, [], _∷_, _++_, append-nil, map}
 use mathlib.Core.Logic.{_⊎_, inl, inr}
-use native.Mathlib.Nat.{le-refl, le-of-suc-le-suc, eq-or-lt-of-le, not-suc-le-zero, lt-suc-self}
+use native.Mathlib.Nat.{le-of-suc-le-suc, eq-or-lt-of-le, not-suc-le-zero, lt-suc-self}
 use native.Mathlib.Numerals.{add-one}
 use native.Mathlib.Omega.{arith}
 use lib.ListN.{length, getD, set, take, drop, length-append, length-drop, List·getD-append, List·getD-map, drop-of-length-le, length-map}
-use lib.Seq.{drop-cons, set-at, getD-at, append-snoc, ext-getD, take-at, take-all, length-take-le, getD-take}
+use lib.Seq.{drop-cons, set-at, getD-at, append-snoc, ext-getD, take-at, length-take-le, getD-take}
 use Rattle.words.specs.Listed.{listed}
 
 module _ {A : Type 0} where
@@ -62,11 +62,8 @@ module _ {A : Type 0} where
   pub listed-done : (f : ℕ → A) (n : ℕ) (l r : List A) → r ≡ listed f n ++ drop n l → length l ≤ n → r ≡ listed f n
   listed-done f n l r e h = e ∙ ap (λ (t : List A). listed f n ++ t) (drop-of-length-le l h) ∙ append-nil (listed f n)
 
--- the first n entries mapped, entry by entry, and all of them
+-- the first n entries mapped, entry by entry
 pub listed-mapped : {A B : Type 0} (g : A → B) (l : List A) (d : A) (n : ℕ) → n ≤ length l → listed (λ i. g (getD l i d)) n ≡ map g (take n l)
 listed-mapped g l d n h =
     listed-as (λ i. g (getD l i d)) n (map g (take n l)) (g d) (length-map (take n l) g ∙ length-take-le n l h)
     (λ i k. ap g (sym (getD-take n l i d k)) ∙ sym (List·getD-map g (take n l) i d))
-
-pub listed-map : {A B : Type 0} (g : A → B) (l : List A) (d : A) (n : ℕ) → length l ≡ n → listed (λ i. g (getD l i d)) n ≡ map g l
-listed-map g l d n e = listed-mapped g l d n (omega arith) ∙ ap (map g) (take-all n l (omega arith))

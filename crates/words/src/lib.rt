@@ -37,11 +37,3 @@ pub fn with_set(w: u64, i: u32) -> u64
 {
     w | (1 << i)
 }
-
-// The same for a word of 16 bits.
-pub fn with_set16(w: u16, i: u32) -> u16
-    requires { ⌜ i < 16 ⌝ }
-    ensures { λ r. ⌜ r ≡ withBit w i true ⌝ }
-{
-    with_set(w as u64, i) as u16
-}

@@ -1,17 +1,21 @@
--- `cellchart::step` meets its contract: it hands on the state that `cells::work::work` gives for the packed readings.
+-- `cellchart::step` meets its contract: it hands on the state that `cells::work::work` gives for the readings.
 use mathlib.Core.Path.{ap, _∙_}
 use Rattle.cells.specs.declared.cell.Worked.{Worked}
-use Rattle.cells.specs.Work.{slotsOf}
-use Rattle.cells.proofs.Packed.{slots-place}
+use Rattle.cells.specs.declared.table.Slots.{Slots}
+use Rattle.cells.specs.Work.{workOut}
+use Rattle.cellchart.specs.Chart.{duration}
 use borrow.Author.Needs.{needs}
 use Rattle.cellchart.proofs.step.Statement.{statement}
 use Rattle.cellchart.proofs.step.Tie as tie
 
-packed-requires : tie.Need-packed-requires
-packed-requires c κs = search needs
+levels-requires : tie.Need-levels-requires
+levels-requires c κs = search needs
 
 work-requires : tie.Need-work-requires
 work-requires c κs = search needs
+
+worked-requires : tie.Need-worked-requires
+worked-requires c κs = search needs
 
 put-step-requires : tie.Need-put-step-requires
 put-step-requires c κs = search needs
@@ -19,8 +23,12 @@ put-step-requires c κs = search needs
 returns : tie.Need-returns
 returns c =
     let w = c .before .before in
-    let p = w .before in
-    rw (w .work .ensures, p .packed .ensures .0, slots-place (p .before .args .r))
+    let k = w .before in
+    let l = k .before .before in
+    let a = l .before .args in
+    let out = w .worked .ensures ∙ k .work .ensures ∙ ap (λ (r : Slots). workOut (a .kind) duration (a .s) r) (l .levels .ensures) in
+    ap (λ (v : Worked). v .state) out
 
 pub step-spec : {M : Type 1} → statement M
-step-spec = tie.close (tie.spec packed-requires work-requires put-step-requires returns)
+step-spec =
+    tie.close (tie.spec levels-requires work-requires worked-requires put-step-requires returns)

@@ -13,9 +13,6 @@ abbrev μ-loop : tie.MeasureT-loop
 loop-holds : tie.Need-loop-holds Inv-loop μ-loop
 loop-holds c = search needs
 
-cast-bit : tie.Need-cast-bit Inv-loop μ-loop
-cast-bit c = search needs
-
 bit-requires : tie.Need-bit-requires Inv-loop μ-loop
 bit-requires c κs = search needs
 
@@ -53,7 +50,6 @@ put-cells-spec =
     Inv-loop
     μ-loop
     loop-holds
-    cast-bit
     bit-requires
     add-put-cell
     cast-put-cell

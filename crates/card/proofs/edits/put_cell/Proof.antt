@@ -31,14 +31,14 @@ element-set-from-cell c =
     let here = sym (c .before .is-cell .ensures) ∙ c .if1 .taken in
     omega (arith, among-bounds firstCell cellCount (c .before .before .args .card .pointer) here)
 
-with-set16-requires : tie.Need-with-set16-requires
-with-set16-requires c κs =
+with-set-requires : tie.Need-with-set-requires
+with-set-requires c κs =
     let here = sym (c .before .is-cell .ensures) ∙ c .if1 .taken in
     omega (arith, among-bounds firstCell cellCount (c .before .before .args .card .pointer) here)
 
 returns : tie.Need-returns
 unfolding putCell
-returns c = rw (sym (c .before .before .is-cell .ensures) ∙ c .before .if1 .taken, c .with-set16 .ensures)
+returns c = rw (sym (c .before .before .is-cell .ensures) ∙ c .before .if1 .taken, c .with-set .ensures)
 
 returns-2 : tie.Need-returns-2
 unfolding putCell
@@ -55,6 +55,6 @@ put-cell-spec =
     cast-at
     mul-cell
     element-set-from-cell
-    with-set16-requires
+    with-set-requires
     returns
     returns-2)

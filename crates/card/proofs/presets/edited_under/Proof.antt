@@ -27,8 +27,8 @@ bit-requires c κs = search needs
 covers-requires : tie.Need-covers-requires Inv-loop μ-loop
 covers-requires c κs = search needs
 
-pushed16-requires : tie.Need-pushed16-requires Inv-loop μ-loop
-pushed16-requires c κs = (search needs, built-fits _ _ _ (c .before .before .before .loop .inv .1))
+pushed-requires : tie.Need-pushed-requires Inv-loop μ-loop
+pushed-requires c κs = (search needs, built-fits _ _ _ (c .before .before .before .loop .inv .1))
 
 add-i : tie.Need-add-i Inv-loop μ-loop
 add-i c = search needs
@@ -42,7 +42,7 @@ loop-again c =
     let l = c .before .before .before .before .loop in (
       omega arith,
       built-next (λ j. bitAt (a .edited) j || covers (a .row) j) (l .i) (l .next) _ _ (l .inv .1)
-          (ap₂ _||_ (c .before .before .bit .ensures) (c .before .covers .ensures)) (c .pushed16 .ensures),
+          (ap₂ _||_ (c .before .before .bit .ensures) (c .before .covers .ensures)) (c .pushed .ensures),
     )
 
 returns : tie.Need-returns Inv-loop μ-loop
@@ -60,7 +60,7 @@ edited-under-spec =
     loop-holds
     bit-requires
     covers-requires
-    pushed16-requires
+    pushed-requires
     add-i
     loop-less
     loop-again

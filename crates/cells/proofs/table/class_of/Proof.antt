@@ -1,10 +1,9 @@
 -- `cells::table::class_of` meets its contract: at each number of the table antt computes the class, and the rest are past it.
-use Prim.Native.Nat.{ℕ, _+_, _≤_}
+use Prim.Native.Nat.{ℕ}
 use mathlib.Core.Path.{_≡_, sym, ap}
-use native.Mathlib.Omega.{arith}
 use Rattle.cells.specs.declared.table.Row.{Row}
-use Rattle.cells.specs.Table.{rowOf, typeCount}
-use Rattle.cells.proofs.Rows.{past-table}
+use Rattle.cells.specs.Table.{rowOf}
+use Rattle.cells.proofs.Rows.{past-types}
 use Rattle.cells.proofs.table.class_of.Statement.{statement}
 use Rattle.cells.proofs.table.class_of.Tie as tie
 
@@ -87,24 +86,8 @@ returns-19 : tie.Need-returns-19
 unfolding rowOf
 returns-19 c = at _ 18 (c .match .keys19)
 
--- a number that is none of four next ones from k on is past them
-past-four : (n k : ℕ) → k ≤ n → (n ≡ k → ⊥) → (n ≡ k + 1 → ⊥) → (n ≡ k + 2 → ⊥) → (n ≡ k + 3 → ⊥) → k + 4 ≤ n
-past-four n k h a b c d = omega arith
-
 returns-20 : tie.Need-returns-20
-returns-20 c =
-    let n = c .before .args .kind in
-    let r18 = c .match .rest in
-    let r14 = r18 .0 .0 .0 .0 in
-    let r10 = r14 .0 .0 .0 .0 in
-    let r6 = r10 .0 .0 .0 .0 in
-    let r2 = r6 .0 .0 .0 .0 in
-    let h3 : 3 ≤ n = omega (arith, r2 .0 .0 .1, r2 .0 .1, r2 .1) in
-    let h7 = past-four n 3 h3 (r6 .0 .0 .0 .1) (r6 .0 .0 .1) (r6 .0 .1) (r6 .1) in
-    let h11 = past-four n 7 h7 (r10 .0 .0 .0 .1) (r10 .0 .0 .1) (r10 .0 .1) (r10 .1) in
-    let h15 = past-four n 11 h11 (r14 .0 .0 .0 .1) (r14 .0 .0 .1) (r14 .0 .1) (r14 .1) in
-    let past : typeCount ≤ n = past-four n 15 h15 (r18 .0 .0 .0 .1) (r18 .0 .0 .1) (r18 .0 .1) (r18 .1) in
-    sym (ap (λ (r : Row). r .class) (past-table n past))
+returns-20 c = sym (ap (λ (r : Row). r .class) (past-types _ (c .match .rest)))
 
 pub class-of-spec : {M : Type 1} → statement M
 class-of-spec =

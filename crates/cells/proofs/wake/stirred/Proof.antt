@@ -3,9 +3,9 @@ use mathlib.Core.Path.{ap, ap₂, _∙_}
 use Rattle.cells.specs.declared.table.Slots.{Slots}
 use Rattle.cells.specs.declared.table.Class.{Class}
 use Rattle.cells.specs.Table.{rowOf, masked}
-use Rattle.cells.specs.Work.{slotsOf}
-use Rattle.cells.specs.Wake.{stirredAs, stirred}
-use Rattle.cells.proofs.Packed.{slots-and, set-of}
+use Rattle.cells.specs.Wake
+use Rattle.cells.specs.Wake.{stirredAs}
+use Rattle.cells.proofs.Packed.{set-of}
 use borrow.Author.Needs.{needs}
 use Rattle.cells.proofs.wake.stirred.Statement.{statement}
 use Rattle.cells.proofs.wake.stirred.Tie as tie
@@ -19,21 +19,30 @@ used-of-requires c κs = search needs
 unpacked-requires : tie.Need-unpacked-requires
 unpacked-requires c κs = search needs
 
+within-requires : tie.Need-within-requires
+within-requires c κs = search needs
+
 stirred-as-requires : tie.Need-stirred-as-requires
 stirred-as-requires c κs = search needs
 
 returns : tie.Need-returns
-unfolding stirred
+unfolding Wake.stirred
 returns c =
-    let p = c .before in
-    let a = p .before .before .before .args in
-    let used = p .before .used-of in
-    let mask = set-of (rowOf (a .kind) .used) (used .result) (used .ensures .0) in
+    let p = c .before .before .before .before in
+    let a = p .before .args in
+    let used = c .before .before .before .used-of in
+    let set = c .before .before .unpacked .ensures ∙ set-of (rowOf (a .kind) .used) (used .result) (used .ensures .0) in
     c .stirred-as .ensures
-    ∙ ap₂ (λ (k : Class) (r : Slots). stirredAs k (a .s) r) (p .before .before .class-of .ensures)
-    (p .unpacked .ensures ∙ slots-and (used .result) (a .now) ∙ ap (λ (u : Slots). masked u (slotsOf (a .now))) mask)
+    ∙ ap₂ (λ (k : Class) (r : Slots). stirredAs k (a .s) r) (p .class-of .ensures)
+    (c .before .within .ensures ∙ ap (λ (u : Slots). masked u (a .r)) set)
 
 pub stirred-spec : {M : Type 1} → statement M
 stirred-spec =
     tie.close
-    (tie.spec class-of-requires used-of-requires unpacked-requires stirred-as-requires returns)
+    (tie.spec
+    class-of-requires
+    used-of-requires
+    unpacked-requires
+    within-requires
+    stirred-as-requires
+    returns)

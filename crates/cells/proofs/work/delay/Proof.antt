@@ -1,4 +1,5 @@
--- `cells::work::delay` meets its contract: the count and the pulse are its callees' answers.
+-- `cells::work::delay` meets its contract: what is new is its callee's answer.
+use Rattle.cells.specs.Work.{workAs}
 use borrow.Author.Needs.{needs}
 use Rattle.cells.proofs.work.delay.Statement.{statement}
 use Rattle.cells.proofs.work.delay.Tie as tie
@@ -10,7 +11,8 @@ pulse-after-requires : tie.Need-pulse-after-requires
 pulse-after-requires c κs = search needs
 
 returns : tie.Need-returns
-returns c = rw (c .pulse-after .ensures, c .before .count-after .ensures)
+unfolding workAs
+returns c = cc
 
 pub delay-spec : {M : Type 1} → statement M
 delay-spec = tie.close (tie.spec count-after-requires pulse-after-requires returns)

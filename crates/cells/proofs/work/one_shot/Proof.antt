@@ -1,4 +1,5 @@
--- `cells::work::one_shot` meets its contract: the count is its callee's answer, and the output says whether it is above 0.
+-- `cells::work::one_shot` meets its contract: what is new is its callee's answer.
+use Rattle.cells.specs.Work.{workAs}
 use borrow.Author.Needs.{needs}
 use Rattle.cells.proofs.work.one_shot.Statement.{statement}
 use Rattle.cells.proofs.work.one_shot.Tie as tie
@@ -7,6 +8,7 @@ count-after-requires : tie.Need-count-after-requires
 count-after-requires c κs = search needs
 
 returns : tie.Need-returns
+unfolding workAs
 returns c = rw (c .before .count-after .ensures)
 
 pub one-shot-spec : {M : Type 1} → statement M

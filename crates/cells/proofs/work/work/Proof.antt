@@ -1,32 +1,269 @@
--- `cells::work::work` meets its contract: the class and the used slots are those of the type's row.
-use mathlib.Core.Path.{ap, ap₂, _∙_}
+-- `cells::work::work` meets its contract: in each arm the type is known, and antt computes the row; the rest are past the table.
+use Prim.Native.Nat.{ℕ}
+use mathlib.Core.Path.{_≡_, sym, ap, _∙_}
 use Rattle.cells.specs.declared.table.Slots.{Slots}
-use Rattle.cells.specs.declared.table.Class.{Class}
+use Rattle.cells.specs.declared.cell.State.{State}
+use Rattle.cells.specs.declared.cell.Worked.{Worked}
+use Rattle.cells.specs.declared.table.Row.{Row}
 use Rattle.cells.specs.Table.{rowOf, masked}
-use Rattle.cells.specs.Work.{slotsOf, workAs, workOut}
-use Rattle.cells.proofs.Packed.{slots-and, set-of}
+use Rattle.cells.specs.Reading.{slotsFrom}
+use Rattle.cells.specs.Work.{workAs, workOut}
+use Rattle.cells.proofs.Rows.{past-types}
 use borrow.Author.Needs.{needs}
 use Rattle.cells.proofs.work.work.Statement.{statement}
 use Rattle.cells.proofs.work.work.Tie as tie
 
-class-of-requires : tie.Need-class-of-requires
-class-of-requires c κs = search needs
+four-requires : tie.Need-four-requires
+four-requires c κs = search needs
 
-used-of-requires : tie.Need-used-of-requires
-used-of-requires c κs = search needs
+flop-requires : tie.Need-flop-requires
+flop-requires c κs = search needs
 
-work-as-requires : tie.Need-work-as-requires
-work-as-requires c κs = search needs
+two-requires : tie.Need-two-requires
+two-requires c κs = search needs
+
+lookup-requires : tie.Need-lookup-requires
+lookup-requires c κs = search needs
+
+three-requires : tie.Need-three-requires
+three-requires c κs = search needs
+
+lookup-requires-2 : tie.Need-lookup-requires-2
+lookup-requires-2 c κs = search needs
+
+four-requires-2 : tie.Need-four-requires-2
+four-requires-2 c κs = search needs
+
+lookup-requires-3 : tie.Need-lookup-requires-3
+lookup-requires-3 c κs = search needs
+
+two-requires-2 : tie.Need-two-requires-2
+two-requires-2 c κs = search needs
+
+gate-out-requires : tie.Need-gate-out-requires
+gate-out-requires c κs = search needs
+
+two-requires-3 : tie.Need-two-requires-3
+two-requires-3 c κs = search needs
+
+gate-out-requires-2 : tie.Need-gate-out-requires-2
+gate-out-requires-2 c κs = search needs
+
+two-requires-4 : tie.Need-two-requires-4
+two-requires-4 c κs = search needs
+
+gate-out-requires-3 : tie.Need-gate-out-requires-3
+gate-out-requires-3 c κs = search needs
+
+three-requires-2 : tie.Need-three-requires-2
+three-requires-2 c κs = search needs
+
+one-shot-requires : tie.Need-one-shot-requires
+one-shot-requires c κs = search needs
+
+three-requires-3 : tie.Need-three-requires-3
+three-requires-3 c κs = search needs
+
+delay-requires : tie.Need-delay-requires
+delay-requires c κs = search needs
+
+four-requires-3 : tie.Need-four-requires-3
+four-requires-3 c κs = search needs
+
+gate-out-requires-4 : tie.Need-gate-out-requires-4
+gate-out-requires-4 c κs = search needs
+
+four-requires-4 : tie.Need-four-requires-4
+four-requires-4 c κs = search needs
+
+gate-out-requires-5 : tie.Need-gate-out-requires-5
+gate-out-requires-5 c κs = search needs
+
+four-requires-5 : tie.Need-four-requires-5
+four-requires-5 c κs = search needs
+
+flop-requires-2 : tie.Need-flop-requires-2
+flop-requires-2 c κs = search needs
+
+three-requires-4 : tie.Need-three-requires-4
+three-requires-4 c κs = search needs
+
+flop-requires-3 : tie.Need-flop-requires-3
+flop-requires-3 c κs = search needs
+
+three-requires-5 : tie.Need-three-requires-5
+three-requires-5 c κs = search needs
+
+one-shot-requires-2 : tie.Need-one-shot-requires-2
+one-shot-requires-2 c κs = search needs
+
+three-requires-6 : tie.Need-three-requires-6
+three-requires-6 c κs = search needs
+
+delay-requires-2 : tie.Need-delay-requires-2
+delay-requires-2 c κs = search needs
+
+four-requires-6 : tie.Need-four-requires-6
+four-requires-6 c κs = search needs
+
+one-shot-requires-3 : tie.Need-one-shot-requires-3
+one-shot-requires-3 c κs = search needs
+
+four-requires-7 : tie.Need-four-requires-7
+four-requires-7 c κs = search needs
+
+delay-requires-3 : tie.Need-delay-requires-3
+delay-requires-3 c κs = search needs
+
+four-requires-8 : tie.Need-four-requires-8
+four-requires-8 c κs = search needs
+
+flop-requires-4 : tie.Need-flop-requires-4
+flop-requires-4 c κs = search needs
+
+at : (n k config : ℕ) (s : State) (r : Slots) (w : Worked) → n ≡ k → w ≡ workOut k config s r → w ≡ workOut n config s r
+at n k config s r w e h = h ∙ ap (λ (m : ℕ). workOut m config s r) (sym e)
 
 returns : tie.Need-returns
-unfolding workOut
-returns c =
-    let used = c .before .used-of in
-    let a = c .before .before .before .args in
-    let mask = set-of (rowOf (a .kind) .used) (used .result) (used .ensures .0) in
-    c .work-as .ensures
-    ∙ ap₂ (λ (k : Class) (r : Slots). workAs k (a .config) (a .s) r) (c .before .before .class-of .ensures)
-    (slots-and (used .result) (a .r) ∙ ap (λ (u : Slots). masked u (slotsOf (a .r))) mask)
+unfolding rowOf workOut workAs
+returns c = at _ 0 _ _ _ _ (c .match .keys1) cc
+
+returns-2 : tie.Need-returns-2
+unfolding rowOf workOut workAs
+returns-2 c = at _ 1 _ _ _ _ (c .before .before .match .keys2) cc
+
+returns-3 : tie.Need-returns-3
+unfolding rowOf workOut workAs
+returns-3 c = at _ 2 _ _ _ _ (c .before .before .match .keys3) (rw (c .lookup .ensures, c .before .two .ensures))
+
+returns-4 : tie.Need-returns-4
+unfolding rowOf workOut workAs
+returns-4 c = at _ 3 _ _ _ _ (c .before .before .match .keys4) (rw (c .lookup2 .ensures, c .before .three .ensures))
+
+returns-5 : tie.Need-returns-5
+unfolding rowOf workOut workAs
+returns-5 c = at _ 4 _ _ _ _ (c .before .before .match .keys5) cc
+
+returns-6 : tie.Need-returns-6
+unfolding rowOf workOut workAs
+returns-6 c = at _ 5 _ _ _ _ (c .before .before .match .keys6) (rw (c .gate-out .ensures, c .before .two2 .ensures))
+
+returns-7 : tie.Need-returns-7
+unfolding rowOf workOut workAs
+returns-7 c = at _ 6 _ _ _ _ (c .before .before .match .keys7) (rw (c .gate-out2 .ensures, c .before .two3 .ensures))
+
+returns-8 : tie.Need-returns-8
+unfolding rowOf workOut workAs
+returns-8 c = at _ 7 _ _ _ _ (c .before .before .match .keys8) (rw (c .gate-out3 .ensures, c .before .two4 .ensures))
+
+returns-9 : tie.Need-returns-9
+unfolding rowOf workOut workAs
+returns-9 c = at _ 8 _ _ _ _ (c .before .before .match .keys9) (rw (c .one-shot .ensures, c .before .three2 .ensures))
+
+returns-10 : tie.Need-returns-10
+unfolding rowOf workOut workAs
+returns-10 c = at _ 9 _ _ _ _ (c .before .before .match .keys10) (rw (c .delay .ensures, c .before .three3 .ensures))
+
+returns-11 : tie.Need-returns-11
+unfolding rowOf workOut workAs
+returns-11 c = at _ 10 _ _ _ _ (c .before .before .match .keys11) cc
+
+returns-12 : tie.Need-returns-12
+unfolding rowOf workOut workAs
+returns-12 c = at _ 11 _ _ _ _ (c .before .before .match .keys12) cc
+
+returns-13 : tie.Need-returns-13
+unfolding rowOf workOut workAs
+returns-13 c = at _ 12 _ _ _ _ (c .before .before .match .keys13) cc
+
+returns-14 : tie.Need-returns-14
+unfolding rowOf workOut workAs
+returns-14 c = at _ 13 _ _ _ _ (c .before .before .match .keys14) (rw (c .flop3 .ensures, c .before .three4 .ensures))
+
+returns-15 : tie.Need-returns-15
+unfolding rowOf workOut workAs
+returns-15 c = at _ 14 _ _ _ _ (c .before .before .match .keys15) (rw (c .one-shot2 .ensures, c .before .three5 .ensures))
+
+returns-16 : tie.Need-returns-16
+unfolding rowOf workOut workAs
+returns-16 c = at _ 15 _ _ _ _ (c .before .before .match .keys16) (rw (c .delay2 .ensures, c .before .three6 .ensures))
+
+returns-17 : tie.Need-returns-17
+unfolding rowOf workOut workAs
+returns-17 c = at _ 16 _ _ _ _ (c .before .before .match .keys17) cc
+
+returns-18 : tie.Need-returns-18
+unfolding rowOf workOut workAs
+returns-18 c = at _ 17 _ _ _ _ (c .before .before .match .keys18) cc
+
+returns-19 : tie.Need-returns-19
+unfolding rowOf workOut workAs
+returns-19 c = at _ 18 _ _ _ _ (c .before .before .match .keys19) cc
+
+returns-20 : tie.Need-returns-20
+unfolding workOut workAs
+returns-20 c =
+    let a = c .before .args in
+    let r = slotsFrom (a .q .now) (a .x) (a .y) (a .z) (a .f) in
+    sym (ap (λ (w : Row). workAs (w .class) (a .config) (a .s) (masked (w .used) r)) (past-types (a .kind) (c .match .rest)))
 
 pub work-spec : {M : Type 1} → statement M
-work-spec = tie.close (tie.spec class-of-requires used-of-requires work-as-requires returns)
+work-spec =
+    tie.close
+    (tie.spec
+    four-requires
+    flop-requires
+    two-requires
+    lookup-requires
+    three-requires
+    lookup-requires-2
+    four-requires-2
+    lookup-requires-3
+    two-requires-2
+    gate-out-requires
+    two-requires-3
+    gate-out-requires-2
+    two-requires-4
+    gate-out-requires-3
+    three-requires-2
+    one-shot-requires
+    three-requires-3
+    delay-requires
+    four-requires-3
+    gate-out-requires-4
+    four-requires-4
+    gate-out-requires-5
+    four-requires-5
+    flop-requires-2
+    three-requires-4
+    flop-requires-3
+    three-requires-5
+    one-shot-requires-2
+    three-requires-6
+    delay-requires-2
+    four-requires-6
+    one-shot-requires-3
+    four-requires-7
+    delay-requires-3
+    four-requires-8
+    flop-requires-4
+    returns
+    returns-2
+    returns-3
+    returns-4
+    returns-5
+    returns-6
+    returns-7
+    returns-8
+    returns-9
+    returns-10
+    returns-11
+    returns-12
+    returns-13
+    returns-14
+    returns-15
+    returns-16
+    returns-17
+    returns-18
+    returns-19
+    returns-20)

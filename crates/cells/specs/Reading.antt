@@ -1,0 +1,16 @@
+-- What slots read, as the card hands it in: four words, one for each quarter of the addresses. What the words hold is the card's business.
+use Prim.Native.Nat.{ℕ, _/_, _%_}
+use mathlib.Core.Bool.{Bool}
+use mathlib.Core.List.{List}
+use lib.ListN.{getD}
+use Rattle.words.specs.Bits.{bitAt}
+use Rattle.cells.specs.declared.table.Slots.{Slots}
+use Rattle.cells.specs.Table.{slots}
+
+-- an address reads the bit of its base in the word of its quarter
+unfoldable pub readFrom : List ℕ → ℕ → Bool
+readFrom q a = bitAt (getD q (a / 64) 0) (a % 64)
+
+-- the readings of slots that hold the addresses x, y, z and f
+abbrev pub slotsFrom : List ℕ → (x y z f : ℕ) → Slots
+slotsFrom q x y z f = slots (readFrom q x) (readFrom q y) (readFrom q z) (readFrom q f)

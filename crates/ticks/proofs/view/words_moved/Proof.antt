@@ -1,0 +1,21 @@
+-- `ticks::view::words_moved` meets its contract: it compares what is read now with what was read.
+use Rattle.ticks.proofs.Words.{differ-moves}
+use borrow.Author.Needs.{needs}
+use Rattle.ticks.proofs.view.words_moved.Statement.{statement}
+use Rattle.ticks.proofs.view.words_moved.Tie as tie
+
+words-now-requires : tie.Need-words-now-requires
+words-now-requires c κs = search needs
+
+words-last-requires : tie.Need-words-last-requires
+words-last-requires c κs = search needs
+
+differing-requires : tie.Need-differing-requires
+differing-requires c κs = search needs
+
+returns : tie.Need-returns
+returns c = differ-moves _ _ _ _ _ _ (c .differing .ensures) (c .before .before .words-now .ensures) (c .before .words-last .ensures)
+
+pub words-moved-spec : {M : Type 1} → statement M
+words-moved-spec =
+    tie.close (tie.spec words-now-requires words-last-requires differing-requires returns)

@@ -1,0 +1,49 @@
+-- When a card is at rest, so that its clock may stop: over the number n of cells.
+use Prim.Native.Nat.{ℕ, zero, suc}
+use mathlib.Core.Path.{_≡_}
+use mathlib.Core.Bool.{Bool, true, false, not, _&&_, cond}
+use mathlib.Core.List.{List}
+use lib.Dec.{eqb}
+use lib.ListN.{getD}
+use Rattle.cells.specs.declared.cell.Cell.{Cell}
+use Rattle.cells.specs.Wake.{stirred}
+use Rattle.card.specs.declared.card.Card.{Card}
+use Rattle.card.specs.declared.card.Memory.{Memory}
+use Rattle.card.specs.Fresh.{noCell}
+use Rattle.ticks.specs.declared.tick.Input.{Input}
+use Rattle.ticks.specs.declared.tick.Answer.{Answer}
+use Rattle.ticks.specs.declared.tick.Wires.{Wires}
+use Rattle.ticks.specs.Reading.{slotsRead}
+use Rattle.ticks.specs.Tick.{idle, tick}
+
+-- a card is at rest under an input: a quick tick with it would name no cell and leave the card as it is
+pub record AtRest (n : ℕ) (c : Card) (input : Input) : Type 0 where
+  pub asleep : tick n false c input .answer .woken ≡ 0
+  pub kept : tick n false c input .card ≡ c
+
+-- what a quick tick of a card at rest answers: the words of the last tick that ran, and no cell woken; another clock's is idle
+abbrev pub stillAnswer : Memory → Answer
+stillAnswer m = record { ran = true; driven = m .driven; cells = m .outputs; woken = 0; count = 0 }
+
+abbrev pub restAnswer : Card → Input → Answer
+restAnswer c input = cond (eqb (input .code) (c .trigger)) (stillAnswer (c .memory)) (idle c .answer)
+
+-- an answer is true exactly where a statement holds
+abbrev pub Decides : Bool → Type 0 → Type 0
+Decides q S = (q ≡ true → S) × (S → q ≡ true)
+
+-- ---- what the code tests
+
+-- every word is what it was in the last two ticks
+abbrev pub steady : Wires → Bool
+steady w =
+    (eqb (w .outputs2) (w .outputs) && eqb (w .outputs3) (w .outputs)) && (eqb (w .levels2) (w .levels) && eqb (w .levels3) (w .levels))
+
+-- nothing stirs a cell under a view that does not change
+abbrev pub cellRests : (ℕ → Bool) → Cell → Bool
+cellRests view cell = not (stirred (cell .kind) (cell .state) (slotsRead view view (cell .slots)))
+
+-- nothing stirs any of the first n
+unfoldable pub allRest : ℕ → (ℕ → Bool) → List Cell → Bool
+allRest zero view cells = true
+allRest (suc n) view cells = allRest n view cells && cellRests view (getD cells n noCell)

@@ -1,0 +1,30 @@
+-- The words that addresses are read from, as what they read: the code keeps four words for what a reader reads, and four for what it reads otherwise
+-- than in the last tick.
+use Prim.Native.Nat.{ℕ, _<_}
+use mathlib.Core.Path.{_≡_}
+use mathlib.Core.Bool.{Bool, not, _&&_, _||_, Bool·beq}
+use mathlib.Core.List.{List}
+use Rattle.words.specs.Bits.{bitAt}
+use Rattle.cells.specs.Reading.{readFrom}
+use Rattle.ticks.specs.declared.tick.Wires.{Wires}
+use Rattle.ticks.specs.Reading.{reads}
+
+-- every address reads from the words what it reads by these two views
+unfoldable pub ReadsAs : List ℕ → (ℕ → Bool) → (ℕ → Bool) → Type 0
+ReadsAs q now before = (a : ℕ) → a < 256 → readFrom q a ≡ reads now before a
+
+-- an address is set where the two sets of words have it read otherwise
+unfoldable pub Differ : List ℕ → List ℕ → List ℕ → Type 0
+Differ d p q = (a : ℕ) → a < 256 → readFrom d a ≡ not (Bool·beq (readFrom p a) (readFrom q a))
+
+-- an address is set where it reads otherwise now than in the last tick
+unfoldable pub MovesAs : List ℕ → (now last earlier : ℕ → Bool) → Type 0
+MovesAs d now last earlier = (a : ℕ) → a < 256 → readFrom d a ≡ not (Bool·beq (reads now last a) (reads last earlier a))
+
+-- cell i's output changed in one of the last two ticks
+unfoldable pub shiftedAt : ℕ → Wires → Bool
+shiftedAt i w = not (Bool·beq (bitAt (w .outputs) i) (bitAt (w .outputs2) i)) || not (Bool·beq (bitAt (w .outputs2) i) (bitAt (w .outputs3) i))
+
+-- a connector's level, from whether it is push-pull, whether it is open-drain, what it drives and what is sampled
+abbrev pub levelIn : (push drain driven sample : Bool) → Bool
+levelIn push drain driven sample = (driven && (push || sample)) || (sample && not (push || drain))
