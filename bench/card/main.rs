@@ -2,9 +2,9 @@
 //
 //     card CARD KIND N [show]
 //
-// CARD is fresh, counter, busy, still or wakeN (N cells wake in each tick); KIND is full, quick, idle (full, at a clock code that is not the card's) or none (the loop without ticks).
-// It prints a checksum of the driven and the cell words, and how many cells all ticks woke. With `show` it prints what plrun is to be given for the
-// same wiring and ticks, and on standard error what plrun must answer to the ticks.
+// CARD is fresh, counter, busy, still or wakeN (N cells wake in each tick); KIND is full, quick, idle (full, at a clock code that is not the card's)
+// or none (the loop without ticks). It prints a checksum of the driven and the cell words, and how many cells all ticks woke. With `show` it prints
+// what plrun is to be given for the same wiring and ticks, and on standard error what plrun must answer to the ticks.
 use std::hint::black_box;
 
 // The structs of crates/cells, crates/card and crates/lines that cross the interface, field by field.
