@@ -1,6 +1,6 @@
 // What an accepted line does to the card: one function for each effect.
 ghost use mathlib.Core.Path.{_≡_};
-ghost use Prim.Native.Nat.{_<_};
+ghost use Prim.Native.Nat.{_<_, _≤_};
 ghost use Rattle.card.specs.Address.{cellCount};
 ghost use Rattle.card.specs.Edits;
 ghost use Rattle.card.specs.Edits.{atCell, currentCell, currentConnector, putCell, putConnector, setTrigger, configuredState, statedAs, wiredSlot, bitState, countState, clearedCells};
@@ -128,17 +128,20 @@ pub fn set_trigger(card: Card, t: u8) -> Card
     next
 }
 
-// Every cell with its state cleared.
-fn cleared(cells: [Cell; CELLS]) -> [Cell; CELLS]
-    ensures { λ r. ⌜ r ≡ clearedCells cellCount cells ⌝ }
+// The first n cells with their states cleared. A loop over all cells would be unrolled into every caller, and the card there copied field by field.
+fn cleared(cells: [Cell; CELLS], n: usize) -> [Cell; CELLS]
+    requires { ⌜ n ≤ cellCount ⌝ }
+    ensures { λ r. ⌜ r ≡ clearedCells n cells ⌝ }
 {
-    let clear = CLEAR;
-    let mut next = cells;
-    for i in 0..CELLS {
-        let mut cell = cells[i];
-        cell.state = clear;
-        next[i] = cell;
+    if n == 0 {
+        return cells;
     }
+    let i = n - 1;
+    let clear = CLEAR;
+    let mut cell = cells[i];
+    cell.state = clear;
+    let mut next = cleared(cells, i);
+    next[i] = cell;
     next
 }
 
@@ -146,7 +149,7 @@ pub fn home(card: Card) -> Card
     ensures { λ r. ⌜ r ≡ Edits.home cellCount card ⌝ }
 {
     let cells = card.cells;
-    let after = cleared(cells);
+    let after = cleared(cells, CELLS);
     let mut next = card;
     next.cells = after;
     next.edited = ALL_EDITED;

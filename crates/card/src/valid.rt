@@ -1,5 +1,6 @@
 // Rows 5 to 13 of "When the card says no" as tests of single values, and the settings that a record may hold.
 ghost use mathlib.Core.Path.{_≡_};
+ghost use Prim.Native.Nat.{_≤_};
 ghost use lib.ListN.{take};
 ghost use Rattle.card.specs.Address.{cellCount};
 ghost use Rattle.card.specs.Valid.{badPlace, badCellType, badConnectorType, badClock, badConfig, unusedSlot, badAddress, frontDriven};
@@ -122,16 +123,17 @@ fn valid_connector(c: Connector) -> bool
     !bad_connector_type(c.kind as u32) & !bad_address(c.source as u32)
 }
 
-// Every cell may have its settings.
-fn valid_cells(cells: [Cell; CELLS]) -> bool
-    ensures { λ r. ⌜ r ≡ every (validCell cellCount) (take cellCount cells) ⌝ }
+// Each of the first n cells may have its settings. By recursion, as `edits::cleared`.
+fn valid_cells(cells: [Cell; CELLS], n: usize) -> bool
+    requires { ⌜ n ≤ cellCount ⌝ }
+    ensures { λ r. ⌜ r ≡ every (validCell cellCount) (take n cells) ⌝ }
 {
-    let mut ok = true;
-    for i in 0..CELLS {
-        let v = valid_cell(cells[i]);
-        ok = ok & v;
+    if n == 0 {
+        return true;
     }
-    ok
+    let i = n - 1;
+    let below = valid_cells(cells, i);
+    below & valid_cell(cells[i])
 }
 
 // So may every connector.
@@ -156,7 +158,7 @@ pub fn valid_settings(
 {
     let front = connectors[0];
     let clock = !bad_clock(trigger as u32) & !front_driven(trigger, front.kind as u32);
-    clock & (valid_cells(cells) & valid_connectors(connectors))
+    clock & (valid_cells(cells, CELLS) & valid_connectors(connectors))
 }
 
 pub fn no_config(kind: u8) -> bool

@@ -2,7 +2,7 @@
 ghost use mathlib.Core.Bool.{not};
 ghost use mathlib.Core.List.{_++_};
 ghost use mathlib.Core.Path.{_≡_};
-ghost use Prim.Native.Nat.{_+_, _*_, _<_};
+ghost use Prim.Native.Nat.{_+_, _*_, _<_, _≤_};
 ghost use lib.Dec.{ltb};
 ghost use lib.ListN.{length, take, drop};
 ghost use lib.Seq.{sets};
@@ -117,18 +117,20 @@ fn connector_bytes(k: u8, c: Connector) -> [u8; CONNECTOR_LENGTH]
     ]
 }
 
-// The fields of all cells, after that of the trigger.
-fn with_cells(out: [u8; RECORD_LENGTH], cells: [Cell; CELLS]) -> [u8; RECORD_LENGTH]
-    ensures { λ r. ⌜ r ≡ sets out triggerLength (fieldsFrom (cellField configWidth) 0 (take cellCount cells)) ⌝ }
-    ensures { λ r. ⌜ length (fieldsFrom (cellField configWidth) 0 (take cellCount cells)) ≡ cellCount * cellLength configWidth ⌝ }
+// The fields of the first n cells, after that of the trigger. By recursion, as `card::edits::cleared`.
+fn put_cells(out: &mut [u8; RECORD_LENGTH], cells: [Cell; CELLS], n: u8)
+    requires { ⌜ n ≤ cellCount ⌝ }
+    ensures { λ _. ⌜ now (out .exit) ≡ sets (now (out .entry)) triggerLength (fieldsFrom (cellField configWidth) 0 (take n cells)) ⌝ }
+    ensures { λ _. ⌜ length (fieldsFrom (cellField configWidth) 0 (take n cells)) ≡ n * cellLength configWidth ⌝ }
 {
-    let mut next = out;
-    for i in 0..CELLS as u8 {
-        let at = i as usize;
-        let bytes = cell_bytes(i, cells[at]);
-        text::copy(&mut next, TRIGGER_LENGTH + CELL_LENGTH * at, &bytes);
+    if n == 0 {
+        return;
     }
-    next
+    let i = n - 1;
+    let at = i as usize;
+    put_cells(out, cells, i);
+    let bytes = cell_bytes(i, cells[at]);
+    text::copy(out, TRIGGER_LENGTH + CELL_LENGTH * at, &bytes);
 }
 
 // The fields of all connectors, after those of the cells.
@@ -159,7 +161,8 @@ fn encoded(
     let first = [TRIGGER_TAG, 0, TRIGGER_SIZE, trigger];
     let mut out = [0u8; RECORD_LENGTH];
     text::copy(&mut out, 0, &first);
-    with_connectors(with_cells(out, cells), connectors)
+    put_cells(&mut out, cells, CELLS as u8);
+    with_connectors(out, connectors)
 }
 
 // ---- bytes in
@@ -210,20 +213,22 @@ fn connector_in(bytes: &[u8], k: usize) -> Connector
     }
 }
 
-// The cells of a record in the place of others.
-fn cells_in(bytes: &[u8], cells: [Cell; CELLS]) -> [Cell; CELLS]
+// The first n cells of a record in the place of others. By recursion, as `card::edits::cleared`.
+fn cells_in(bytes: &[u8], cells: [Cell; CELLS], n: usize) -> [Cell; CELLS]
     requires { ⌜ length (now bytes) ≡ recordLength cellCount configWidth ⌝ }
-    ensures { λ r. ⌜ r ≡ cellsIn cellCount configWidth (now (bytes .entry)) ++ drop cellCount cells ⌝ }
+    requires { ⌜ n ≤ cellCount ⌝ }
+    ensures { λ r. ⌜ r ≡ cellsIn n configWidth (now (bytes .entry)) ++ drop n cells ⌝ }
 {
-    let mut next = cells;
-    for i in 0..CELLS {
-        let cell = cell_in(bytes, i);
-        next[i] = cell;
+    if n == 0 {
+        return cells;
     }
+    let i = n - 1;
+    let mut next = cells_in(bytes, cells, i);
+    next[i] = cell_in(bytes, i);
     next
 }
 
-// So the connectors.
+// All its connectors.
 fn connectors_in(bytes: &[u8], connectors: [Connector; CONNECTORS]) -> [Connector; CONNECTORS]
     requires { ⌜ length (now bytes) ≡ recordLength cellCount configWidth ⌝ }
     ensures { λ r. ⌜ r ≡ connectorsIn cellCount configWidth (now (bytes .entry)) ⌝ }
@@ -265,7 +270,7 @@ pub fn load(card: Card, bytes: &[u8]) -> Loaded
     let trigger = bytes[HEAD];
     let cells = card.cells;
     let connectors = card.connectors;
-    let cells = cells_in(bytes, cells);
+    let cells = cells_in(bytes, cells, CELLS);
     let connectors = connectors_in(bytes, connectors);
     let again = encoded(trigger, cells, connectors);
     if !same(&again, bytes) {
