@@ -1,17 +1,20 @@
 -- Laws of one cell's turn, as the loop over the cells takes it: whether it is worked out, what it becomes, and the words of the next reader.
-use Prim.Native.Nat.{ℕ, _+_, _*_, _^_, _<_}
+use Prim.Native.Nat.{ℕ, _+_, _*_, _^_, _≤_, _<_}
 use mathlib.Core.Path.{_≡_, refl, sym, ap, _∙_}
-use mathlib.Core.Bool.{Bool, true, false, not, _||_, Bool·beq, true≢false}
+use mathlib.Core.Bool.{Bool, true, false, not, _||_, cond, Bool·beq, true≢false}
 use mathlib.Core.List.{List, _++_}
-use native.Mathlib.Nat.{add-zero}
+use mathlib.Core.Logic.{⊎-elim}
+use native.Mathlib.Nat.{not-suc-le-zero, eq-or-lt-of-le}
 use native.Mathlib.Numerals.{add-one}
 use native.Mathlib.Omega.{arith}
+use lib.Bits.{bitXor, xor-lt}
 use lib.ListN.{getD, length, drop}
+use lib.Pow.{pow-pos}
 use borrow.Author.Tests.{not-false}
 use lib.Seq.{drop-cons, getD-at, append-snoc}
-use Rattle.words.specs.Bits.{bitAt, bitNumber}
+use Rattle.words.specs.Bits.{bitAt, withBit, wordOf}
 use Rattle.words.specs.Listed.{listed}
-use Rattle.words.proofs.Laws.{bit-low, bit-high}
+use Rattle.words.proofs.Laws.{bit-zero, bit-xor, bit-with-same, bit-with-other, with-zero, with-lt, with-unique, built-of-bits, built-same}
 use Rattle.words.proofs.Listed.{length-listed}
 use Rattle.cells.specs.declared.cell.Cell.{Cell}
 use Rattle.cells.specs.declared.cell.Worked.{Worked}
@@ -19,8 +22,9 @@ use Rattle.cells.specs.Wake.{wakes, stirred, disagree}
 use Rattle.cells.specs.Work.{workOut}
 use Rattle.ticks.specs.declared.tick.Wires.{Wires}
 use Rattle.ticks.specs.Reading.{slotsRead}
-use Rattle.ticks.specs.Tick.{seesNow, sawLast, sawEarlier, readNow, readLast, withState, named, turnAt}
+use Rattle.ticks.specs.Tick.{seesNow, sawLast, sawEarlier, readNow, readLast, withState, workedTurn, sleptTurn, named, turnAt}
 use Rattle.ticks.specs.Words.{ReadsAs, MovesAs, shiftedAt}
+use Rattle.ticks.proofs.Sleep.{view-same}
 use Rattle.ticks.proofs.Words.{view-step, reads-kept, moves-kept}
 
 -- ---- the list of cells
@@ -83,6 +87,25 @@ module _ (n : ℕ) (full : Bool) (cell : Cell) (i edited : ℕ) (w : Wires) (bel
   unfolding turnAt
   turn-slept e = rw e
 
+  pub turn-woke : turnAt n full cell i edited w below .woke ≡ due
+  unfolding turnAt
+  turn-woke = go due
+    where
+      go : (b : Bool) → cond b (workedTurn cell (readNow n i w below (cell .slots))) (sleptTurn cell (bitAt (w .outputs) i)) .woke ≡ b
+      go true = refl
+      go false = refl
+
+-- a reader in position i sees of this tick's outputs only those below i
+pub turn-same : (n : ℕ) (full : Bool) (cell : Cell) (i edited : ℕ) (w : Wires) (below other : ℕ) → ((j : ℕ) → j < i → bitAt below j ≡ bitAt other j)
+    → turnAt n full cell i edited w below ≡ turnAt n full cell i edited w other
+unfolding turnAt named readNow
+turn-same n full cell i edited w below other same =
+    ap (λ (sees : ℕ → Bool).
+    let now = slotsRead sees (sawLast n i w) (cell .slots) in
+    cond (full || wakes (cell .kind) (cell .state) (bitAt edited i) now (readLast n i w (cell .slots))) (workedTurn cell now)
+    (sleptTurn cell (bitAt (w .outputs) i)))
+    (view-same n i below other (w .outputs) (w .levels) same)
+
 -- ---- the words of the next reader
 
 beq-same : (a b : Bool) → Bool·beq a b ≡ true → a ≡ b
@@ -99,8 +122,21 @@ or-right : (a b : Bool) → (a || b) ≡ false → b ≡ false
 or-right true b e = absurd (true≢false e)
 or-right false b e = e
 
-same-bit : (a b : Bool) → not (Bool·beq a b) ≡ false → a ≡ b
+pub same-bit : (a b : Bool) → not (Bool·beq a b) ≡ false → a ≡ b
 same-bit a b e = beq-same a b (not-false (Bool·beq a b) e)
+
+-- bits that differ, and bits that do not
+pub flips-to : (a b : Bool) → not (Bool·beq a b) ≡ true → not b ≡ a
+flips-to true true e = absurd (true≢false (sym e))
+flips-to true false e = refl
+flips-to false true e = refl
+flips-to false false e = absurd (true≢false (sym e))
+
+pub steady-at : (a b s : Bool) → a ≡ b → s ≡ false → (not (Bool·beq a b) || s) ≡ false
+steady-at true true s e is = is
+steady-at true false s e is = absurd (true≢false e)
+steady-at false true s e is = absurd (true≢false (sym e))
+steady-at false false s e is = is
 
 module _ (n : ℕ) (i : ℕ) (out : Bool) (w : Wires) (below below′ : ℕ) (steady : (not (Bool·beq out (bitAt (w .outputs) i)) || shiftedAt i w) ≡ false)
     (same : (k : ℕ) → k < i → bitAt below k ≡ bitAt below′ k) (at : bitAt below′ i ≡ out) where
@@ -126,19 +162,50 @@ module _ (n : ℕ) (i : ℕ) (out : Bool) (w : Wires) (below below′ : ℕ) (st
   words-kept q d r m =
       (reads-kept q _ _ _ _ now-kept last-kept r, moves-kept d _ _ _ _ _ _ now-kept last-kept earlier-kept m)
 
--- ---- the word of outputs with one bit more
+-- ---- words that go over from one word to another, bit by bit
 
-bit-of : (b : Bool) → bitAt (bitNumber b) 0 ≡ b
-unfolding bitAt
-bit-of true = refl
-bit-of false = refl
+-- a word of n bits: below i they are those of g, and the others still those of f
+abbrev pub Halfway : (g f : ℕ → Bool) (n i w : ℕ) → Type 0
+Halfway g f n i w = (w < 2 ^ n) × ((k : ℕ) → k < i → bitAt w k ≡ g k) × ((k : ℕ) → i ≤ k → k < n → bitAt w k ≡ f k)
 
-module _ (w r i : ℕ) (b : Bool) (fits : w < 2 ^ i) (e : r ≡ w + bitNumber b * 2 ^ i) where
-  turned-round : r ≡ bitNumber b * 2 ^ i + w
-  turned-round = omega (arith, e)
+module _ (g f : ℕ → Bool) (n : ℕ) where
+  pub halfway-start : (w : ℕ) → w < 2 ^ n → ((k : ℕ) → k < n → bitAt w k ≡ f k) → Halfway g f n 0 w
+  halfway-start w fits all = (fits, λ k h. absurd (not-suc-le-zero h), λ k _ h. all k h)
 
-  pub pushed-below : (k : ℕ) → k < i → bitAt w k ≡ bitAt r k
-  pushed-below k h = rw turned-round (sym (bit-low (bitNumber b) i w k h))
+  -- the next bit is what it is to be, and the others are as they were
+  halfway-next : (i w r : ℕ) → Halfway g f n i w → r < 2 ^ n → bitAt r i ≡ g i → ((k : ℕ) → (k ≡ i → ⊥) → bitAt r k ≡ bitAt w k)
+      → Halfway g f n (i + 1) r
+  halfway-next i w r half fits at other = (fits, below, λ k l h. other k (λ e. omega arith) ∙ half .2 k (omega arith) h)
+    where
+      below : (k : ℕ) → k < i + 1 → bitAt r k ≡ g k
+      below k h =
+          let le : k ≤ i = omega arith in
+          ⊎-elim (λ e. rw e at) (λ l. other k (λ e. omega arith) ∙ half .1 k l) (eq-or-lt-of-le le)
 
-  pub pushed-at : bitAt r i ≡ b
-  pushed-at = ap (bitAt r) (sym (add-zero i)) ∙ rw turned-round (bit-high (bitNumber b) i w 0 fits ∙ bit-of b)
+  pub halfway-kept : (i w : ℕ) → Halfway g f n i w → bitAt w i ≡ g i → Halfway g f n (i + 1) w
+  halfway-kept i w half at = halfway-next i w w half (half .0) at (λ k ne. refl)
+
+  pub halfway-put : (i w r : ℕ) (b : Bool) → Halfway g f n i w → i < n → b ≡ g i → r ≡ withBit w i b → Halfway g f n (i + 1) r
+  halfway-put i w r b half h is e =
+      halfway-next i w r half (rw e (with-lt w n i b (half .0) h)) (ap (λ (x : ℕ). bitAt x i) e ∙ bit-with-same w i b ∙ is)
+      (λ k ne. ap (λ (x : ℕ). bitAt x k) e ∙ bit-with-other w i k b ne)
+
+  pub halfway-end : (w : ℕ) → Halfway g f n n w → w ≡ wordOf g n
+  halfway-end w half = sym (built-of-bits w n (half .0)) ∙ built-same (bitAt w) g n (half .1)
+
+-- `w ^ (1 << i)`
+pub flip-bit : (w n i : ℕ) → w < 2 ^ n → i < n → bitXor w (1 * 2 ^ i) ≡ withBit w i (not (bitAt w i))
+flip-bit w n i h l =
+    let v : ℕ = withBit 0 i true in
+    ap (bitXor w) (sym (with-zero i true))
+    ∙ with-unique (bitXor w v) w n i (not (bitAt w i)) (xor-lt n w v h (with-lt 0 n i true (pow-pos n) l)) h l
+    (bit-xor w v i ∙ ap (λ (x : Bool). not (Bool·beq (bitAt w i) x)) (bit-with-same 0 i true) ∙ differ (bitAt w i))
+    (λ j ne. bit-xor w v j ∙ ap (λ (x : Bool). not (Bool·beq (bitAt w j) x)) (bit-with-other 0 i j true ne ∙ bit-zero j) ∙ agree (bitAt w j))
+  where
+    differ : (x : Bool) → not (Bool·beq x true) ≡ not x
+    differ true = refl
+    differ false = refl
+
+    agree : (x : Bool) → not (Bool·beq x false) ≡ x
+    agree true = refl
+    agree false = refl

@@ -1,9 +1,9 @@
 // Ticks: full and quick.
-ghost use mathlib.Core.Bool.{Bool, true, false, not, _||_, Bool·beq};
+ghost use mathlib.Core.Bool.{Bool, true, false, not, _||_};
 ghost use mathlib.Core.Path.{_≡_};
 ghost use Prim.Native.Nat.{ℕ, _<_};
 ghost use lib.Dec.{eqb};
-ghost use Rattle.words.specs.Bits.{bitAt};
+ghost use Rattle.words.specs.Bits.{bitAt, withBit};
 ghost use Rattle.cells.specs.Effect.{workedBy};
 ghost use Rattle.cells.specs.Wake.{wakes};
 ghost use Rattle.cells.specs.Work.{workOut};
@@ -32,6 +32,11 @@ use cells::cell::Cell;
 use cells::reading::QUARTERS;
 use cells::reading::address;
 use cells::work::Effect;
+
+// The set of all cells, and how many sets there are.
+const ALL_CELLS: CellWord = ALL_EDITED as CellWord;
+
+const CELL_SETS: EditedSet = ALL_EDITED + 1;
 
 // What comes in with a tick: the code of its clock, and the word sampled at the connectors.
 #[repr(C)]
@@ -99,10 +104,14 @@ fn worked(cell: Cell, q: &[u64; QUARTERS]) -> Effect
 }
 
 // The cells that are worked out in any case: all in a full tick, and those that were edited.
-fn due(full: bool, edited: EditedSet) -> EditedSet
+fn due(full: bool, edited: EditedSet) -> CellWord
     ensures { λ r. ⌜ ((i : ℕ) → i < cellCount → bitAt r i ≡ (full || bitAt edited i)) ⌝ }
 {
-    if full { ALL_EDITED } else { edited }
+    if full {
+        ALL_CELLS
+    } else {
+        (edited % CELL_SETS) as CellWord
+    }
 }
 
 // The cells whose output changed in one of the last two ticks.
@@ -112,34 +121,45 @@ fn shifted(w: Wires) -> CellWord
     (w.outputs ^ w.outputs2) | (w.outputs2 ^ w.outputs3)
 }
 
-// Whether readers above cell i see of it, in this tick or the last two, something else than readers up to it do.
-fn is_moved(i: u32, out: bool, last: CellWord, shifted: CellWord) -> bool
-    requires { ⌜ i < 64 ⌝ }
-    ensures { λ r. ⌜ r ≡ (not (Bool·beq out (bitAt last i)) || bitAt shifted i) ⌝ }
+// A word with the bit of cell i set, and with it flipped.
+fn joined(w: CellWord, i: u32) -> CellWord
+    requires { ⌜ i < cellCount ⌝ }
+    ensures { λ r. ⌜ r ≡ withBit w i true ⌝ }
 {
-    (out ^ words::bit(last as u64, i)) | words::bit(shifted as u64, i)
+    w | (1 << i)
 }
 
-// The turns of all cells, in order. The words for the next reader are made anew only where the cell's output moved.
+fn flipped(w: CellWord, i: u32) -> CellWord
+    requires { ⌜ i < cellCount ⌝ }
+    ensures { λ r. ⌜ r ≡ withBit w i (not (bitAt w i)) ⌝ }
+{
+    w ^ (1 << i)
+}
+
+// The turns of all cells, in order. The set of woken cells starts as those that are due, and the outputs as those of the last tick, so a cell that
+// sleeps changes neither. The words for the next reader are made anew only where readers above the cell see something else of it, in this tick
+// or the last two, than readers up to it do.
 fn turn_each(full: bool, cells: [Cell; CELLS], edited: EditedSet, w: Wires) -> Turned
     ensures { λ t. ⌜ t ≡ turned cellCount full cells edited w ⌝ }
 {
-    let due = due(full, edited);
     let shifted = shifted(w);
     let mut next = cells;
-    let mut outputs: CellWord = 0;
-    let mut woken: CellWord = 0;
-    let mut q = words_now(0, 0, w);
-    let mut d = words_moved(0, 0, w);
+    let mut outputs = w.outputs;
+    let mut woken = due(full, edited);
+    let mut q = words_now(0, outputs, w);
+    let mut d = words_moved(0, outputs, w);
     for i in 0..CELLS as u32 {
         let at = i as usize;
-        let mut woke = words::bit(due, i);
+        let mut woke = words::bit(woken as u64, i);
         if !woke {
             woke = is_named(next[at], &q, &d);
+            if woke {
+                woken = joined(woken, i);
+            }
         }
-        let mut out = words::bit(w.outputs as u64, i);
+        let mut moved = words::bit(shifted as u64, i);
         if woke {
-            woken = words::pushed16(woken, i, true);
+            let mut out = false;
             match worked(next[at], &q) {
                 Effect::Same(o) => {
                     out = o;
@@ -151,9 +171,12 @@ fn turn_each(full: bool, cells: [Cell; CELLS], edited: EditedSet, w: Wires) -> T
                     out = o;
                 }
             }
+            if out ^ words::bit(outputs as u64, i) {
+                outputs = flipped(outputs, i);
+                moved = true;
+            }
         }
-        outputs = words::pushed16(outputs, i, out);
-        if is_moved(i, out, w.outputs, shifted) {
+        if moved {
             q = words_now(i + 1, outputs, w);
             d = words_moved(i + 1, outputs, w);
         }

@@ -1,18 +1,17 @@
--- `ticks::tick::turn_each` meets its contract: after i turns the first i cells are those of the definition, both words hold their bits, and the words
--- that addresses are read from are those of reader i.
+-- `ticks::tick::turn_each` meets its contract: after i turns the first i cells are those of the definition, both words hold their bits up to there, and
+-- the words that addresses are read from are those of reader i.
 use Prim.Native.Nat.{ℕ, _+_, _-_, _≤_, _<_, zero-le}
 use mathlib.Core.Path.{_≡_, refl, sym, ap, ap₂, subst, _∙_}
-use mathlib.Core.Bool.{Bool, true, not, _||_, Bool·beq}
+use mathlib.Core.Bool.{Bool, true, false, not, _||_, Bool·beq, true≢false}
 use mathlib.Core.List.{List, _++_}
 use mathlib.Core.Logic.{⊎-elim}
+use native.Mathlib.Nat.{le-refl}
 use native.Mathlib.Omega.{arith}
-use native.Mathlib.Numerals.{add-one}
 use lib.ListN.{drop, getD, length}
 use borrow.Author.Needs.{needs}
 use borrow.Author.Tests.{not-true, not-false}
 use Rattle.words.specs.Bits.{bitAt, wordOf}
 use Rattle.words.specs.Listed.{listed}
-use Rattle.words.proofs.Laws.{built-next, built-fits, built-passed}
 use Rattle.words.proofs.Listed.{listed-next}
 use Rattle.cells.specs.declared.cell.Cell.{Cell}
 use Rattle.cells.specs.declared.work.Effect.{Effect}
@@ -20,29 +19,42 @@ use Rattle.cells.specs.Effect.{workedBy}
 use Rattle.card.specs.Address.{cellCount}
 use Rattle.card.specs.Fresh.{noCell}
 use Rattle.ticks.specs.Tick.{withState, Turn, outputsBelow, turnAt, turnOf, cellAfter, wokeAt, turned, seesNow, sawLast, sawEarlier}
-use Rattle.ticks.specs.Words.{ReadsAs, MovesAs}
-use Rattle.ticks.proofs.Ticks.{outputs-built}
-use Rattle.ticks.proofs.Turns.{behind-at, listed-kept, due, woke-asked, woke-due, turn-worked, turn-slept, words-kept, pushed-below, pushed-at}
+use Rattle.ticks.specs.Words.{ReadsAs, MovesAs, shiftedAt}
+use Rattle.ticks.proofs.Ticks.{outAt, outputs-built}
+use Rattle.ticks.proofs.Turns.{behind-at, listed-kept, due, woke-asked, woke-due, turn-worked, turn-slept, turn-woke, turn-same, words-kept}
+use Rattle.ticks.proofs.Turns.{Halfway, halfway-start, halfway-kept, halfway-put, halfway-end, same-bit, flips-to, steady-at}
+use Rattle.ticks.proofs.Sleep.{output-bit}
 use Rattle.ticks.proofs.tick.turn_each.Statement.{statement}
 use Rattle.ticks.proofs.tick.turn_each.Tie as tie
+use Rattle.ticks.proofs.tick.turn_each.Reads as reads
+use Rattle.ticks.proofs.tick.turn_each.Lts as lts
+use Rattle.ticks.proofs.tick.due.Reads as due-reads
+use Rattle.ticks.proofs.tick.flipped.Reads as flipped-reads
+use Rattle.ticks.proofs.tick.is_named.Reads as is-named-reads
+use Rattle.ticks.proofs.tick.joined.Reads as joined-reads
+use Rattle.ticks.proofs.tick.shifted.Reads as shifted-reads
+use Rattle.ticks.proofs.tick.worked.Reads as worked-reads
+use Rattle.ticks.proofs.view.words_moved.Reads as words-moved-reads
+use Rattle.ticks.proofs.view.words_now.Reads as words-now-reads
+use Rattle.words.proofs.bit.Reads as bit-reads
 
 abbrev Inv-loop : tie.InvT-loop
-Inv-loop full edited w due shifted cells outputs₀ woken₀ q₀ d₀ i₀ next outputs woken q d i =
-    (i ≤ cellCount)
-    × (next ≡ listed (cellAfter cellCount full cells edited w) i ++ drop i cells)
-    × (outputs ≡ outputsBelow cellCount full cells edited w i)
-    × (woken ≡ wordOf (wokeAt cellCount full cells edited w) i)
+Inv-loop full edited w shifted next₀ outputs₀ woken₀ q₀ d₀ i₀ next outputs woken q d i
+    = (i ≤ cellCount)
+    × (next ≡ listed (cellAfter cellCount full next₀ edited w) i ++ drop i next₀)
+    × Halfway (outAt cellCount full next₀ edited w) (bitAt (w .outputs)) cellCount i outputs
+    × Halfway (wokeAt cellCount full next₀ edited w) (λ k. full || bitAt edited k) cellCount i woken
     × ReadsAs q (seesNow cellCount i w outputs) (sawLast cellCount i w)
     × MovesAs d (seesNow cellCount i w outputs) (sawLast cellCount i w) (sawEarlier cellCount i w)
 
 abbrev μ-loop : tie.MeasureT-loop
-μ-loop full edited w due shifted cells outputs₀ woken₀ q₀ d₀ i₀ next outputs woken q d i = cellCount - i
-
-due-requires : tie.Need-due-requires Inv-loop μ-loop
-due-requires c κs = search needs
+μ-loop full edited w shifted next₀ outputs₀ woken₀ q₀ d₀ i₀ next outputs woken q d i = cellCount - i
 
 shifted-requires : tie.Need-shifted-requires Inv-loop μ-loop
 shifted-requires c κs = search needs
+
+due-requires : tie.Need-due-requires Inv-loop μ-loop
+due-requires c κs = search needs
 
 words-now-requires : tie.Need-words-now-requires Inv-loop μ-loop
 words-now-requires c κs = search needs
@@ -51,11 +63,24 @@ words-moved-requires : tie.Need-words-moved-requires Inv-loop μ-loop
 words-moved-requires c κs = search needs
 
 loop-holds : tie.Need-loop-holds Inv-loop μ-loop
-unfolding listed outputsBelow wordOf
-loop-holds c = (zero-le, refl, refl, refl, c .before .words-now .ensures, c .words-moved .ensures)
+unfolding listed
+loop-holds c =
+    let a = c .before .before .before .before .args in
+    let outs = outAt cellCount (a .full) (a .cells) (a .edited) (a .w) in
+    let wokes = wokeAt cellCount (a .full) (a .cells) (a .edited) (a .w) in (
+      zero-le,
+      refl,
+      halfway-start outs (bitAt (a .w .outputs)) cellCount (a .w .outputs) (search needs) (λ k h. refl),
+      halfway-start wokes (λ k. a .full || bitAt (a .edited) k) cellCount (c .before .before .due .result) (search needs) (c .before .before .due .ensures),
+      c .before .words-now .ensures,
+      c .words-moved .ensures,
+    )
 
 cast-at : tie.Need-cast-at Inv-loop μ-loop
 cast-at c = search needs
+
+cast-bit : tie.Need-cast-bit Inv-loop μ-loop
+cast-bit c = search needs
 
 bit-requires : tie.Need-bit-requires Inv-loop μ-loop
 bit-requires c κs = search needs
@@ -69,14 +94,14 @@ array-copy-out-is-named c = search needs
 is-named-requires : tie.Need-is-named-requires Inv-loop μ-loop
 is-named-requires c κs = search needs
 
-cast-bit : tie.Need-cast-bit Inv-loop μ-loop
-cast-bit c = search needs
+joined-requires : tie.Need-joined-requires Inv-loop μ-loop
+joined-requires c κs = search needs
+
+cast-bit-2 : tie.Need-cast-bit-2 Inv-loop μ-loop
+cast-bit-2 c = search needs
 
 bit-requires-2 : tie.Need-bit-requires-2 Inv-loop μ-loop
 bit-requires-2 c κs = search needs
-
-pushed16-requires : tie.Need-pushed16-requires Inv-loop μ-loop
-pushed16-requires c κs = (search needs, built-fits _ _ _ (c .before .before .before .before .before .before .loop .inv .3))
 
 mul-worked : tie.Need-mul-worked Inv-loop μ-loop
 mul-worked c = search needs
@@ -105,82 +130,14 @@ mul-next c = search needs
 array-set-from-next : tie.Need-array-set-from-next Inv-loop μ-loop
 array-set-from-next c = search needs
 
--- whether cell i is worked out is what the definition says of it
-woke-so : (j : tie.Joined1 Inv-loop μ-loop) → let l = j .before .before .before .loop in
-    let a = j .before .before .before .before .before .before .before .before .args in
-    j .if1 .woke ≡ due cellCount (a .full) (getD (l .next) (l .i) noCell) (l .i) (a .edited) (a .w) (l .outputs)
-woke-so j =
-    let l = j .before .before .before .loop in
-    let set = j .before .before .before .before .before .before .before in
-    let a = set .before .args in
-    let old : Cell = getD (l .next) (l .i) noCell in
-    let must = j .before .bit .ensures ∙ set .due .ensures (l .i) (j .before .before .loop-test .taken) in
-    ⊎-elim
-    (λ w. woke-asked cellCount (a .full) old (l .i) (a .edited) (a .w) (l .outputs) _ _ _ must (not-true _ (w .0 .taken)) (w .5)
-    (w .4 .ensures _ _ _ (l .inv .4) (l .inv .5)))
-    (λ w. woke-due cellCount (a .full) old (l .i) (a .edited) (a .w) (l .outputs) _ _ must (not-false _ (w .0 .left)) (w .1))
-    (j .if1 .came)
+cast-bit-3 : tie.Need-cast-bit-3 Inv-loop μ-loop
+cast-bit-3 c = search needs
 
--- what the turn of cell i made: the cells, the output and the woken set are those of the definition
-Stepped : tie.Joined2 Inv-loop μ-loop → Type 0
-Stepped j =
-    let at = j .before .before .before .before .before .before in
-    let l = at .loop in
-    let a = at .before .before .before .before .before .args in
-    let turn = turnOf cellCount (a .full) (a .cells) (a .edited) (a .w) (l .i) in
-    (j .if2 .next ≡ listed (cellAfter cellCount (a .full) (a .cells) (a .edited) (a .w)) (l .i + 1) ++ drop (l .i + 1) (a .cells))
-    × (j .if2 .out ≡ turn .out)
-    × (j .if2 .woken ≡ wordOf (wokeAt cellCount (a .full) (a .cells) (a .edited) (a .w)) (l .i + 1))
+bit-requires-3 : tie.Need-bit-requires-3 Inv-loop μ-loop
+bit-requires-3 c κs = search needs
 
-stepped : (j : tie.Joined2 Inv-loop μ-loop) → Stepped j
-unfolding Stepped
-stepped j =
-    let at = j .before .before .before .before .before .before in
-    let l = at .loop in
-    let a = at .before .before .before .before .before .args in
-    let after = cellAfter cellCount (a .full) (a .cells) (a .edited) (a .w) in
-    let wokes = wokeAt cellCount (a .full) (a .cells) (a .edited) (a .w) in
-    let here : l .i < length (a .cells) = search needs in
-    let old : Cell = getD (l .next) (l .i) noCell in
-    let same = behind-at after (l .i) (a .cells) (l .next) noCell (l .inv .1) here in
-    let woke = sym (woke-so (j .before .before .before)) in
-    let turn = ap₂ (λ (c : Cell) (b : ℕ). turnAt cellCount (a .full) c (l .i) (a .edited) (a .w) b) (sym same) (sym (l .inv .2)) in
-    let made : (e : Effect) → Turn = λ e. let v = workedBy (old .state) e in record { cell = withState old v; out = v .out; woke = true } in
-    ⊎-elim
-    (λ w.
-    let worked = turn-worked cellCount (a .full) old (l .i) (a .edited) (a .w) (l .outputs) (workedBy (old .state) (w .4 .result))
-    (woke ∙ w .0 .taken) (w .4 .ensures _ _ (l .inv .4)) in
-    let t = turn ∙ worked ∙ ap made (w .6 .given .1) in (
-      w .8 ∙ listed-kept after (l .i) (a .cells) (l .next) noCell (l .inv .1) (sym (ap (λ (t : Turn). t .cell) t ∙ same)) here,
-      w .10 ∙ sym (ap (λ (t : Turn). t .out) t),
-      w .9 ∙ built-next wokes (l .i) (l .woken) _ _ (l .inv .3) (sym (ap (λ (t : Turn). t .woke) t)) (w .1 .ensures),
-    ))
-    (⊎-elim
-    (λ w.
-    let worked = turn-worked cellCount (a .full) old (l .i) (a .edited) (a .w) (l .outputs) (workedBy (old .state) (w .4 .result))
-    (woke ∙ w .0 .taken) (w .4 .ensures _ _ (l .inv .4)) in
-    let t = turn ∙ worked ∙ ap made (w .6 .given .1) in (
-      w .9 ∙ listed-next after (l .i) (a .cells) (l .next) _ noCell (l .inv .1) (sym (ap (λ (t : Turn). t .cell) t)) here,
-      w .11 ∙ sym (ap (λ (t : Turn). t .out) t),
-      w .10 ∙ built-next wokes (l .i) (l .woken) _ _ (l .inv .3) (sym (ap (λ (t : Turn). t .woke) t)) (w .1 .ensures),
-    ))
-    (λ w.
-    let t = turn ∙ turn-slept cellCount (a .full) old (l .i) (a .edited) (a .w) (l .outputs) (woke ∙ w .0 .left) in (
-      w .1 ∙ listed-kept after (l .i) (a .cells) (l .next) noCell (l .inv .1) (sym (ap (λ (t : Turn). t .cell) t ∙ same)) here,
-      w .3 ∙ j .before .bit2 .ensures ∙ sym (ap (λ (t : Turn). t .out) t),
-      w .2 ∙ built-passed wokes (l .i) (l .woken) (l .inv .3) (ap (λ (t : Turn). t .woke) t),
-    )))
-    (j .if2 .came)
-
-pushed16-requires-2 : tie.Need-pushed16-requires-2 Inv-loop μ-loop
-pushed16-requires-2 c κs =
-    let at = c .before .before .before .before .before .before in
-    let l = at .loop in
-    let a = at .before .before .before .before .before .args in
-    (search needs, built-fits _ _ _ (l .inv .2 ∙ outputs-built cellCount (a .full) (a .cells) (a .edited) (a .w) (l .i)))
-
-is-moved-requires : tie.Need-is-moved-requires Inv-loop μ-loop
-is-moved-requires c κs = search needs
+flipped-requires : tie.Need-flipped-requires Inv-loop μ-loop
+flipped-requires c κs = search needs
 
 add-words-now : tie.Need-add-words-now Inv-loop μ-loop
 add-words-now c = search needs
@@ -200,60 +157,226 @@ add-i c = search needs
 loop-less : tie.Need-loop-less Inv-loop μ-loop
 loop-less c = search needs
 
+-- cell i is one of the cells
+within : (at : tie.At-loop Inv-loop μ-loop) → at .loop .i < cellCount
+    → at .loop .i < length (at .before .before .before .before .before .args .cells)
+within at inside = search needs
+
+-- the turn of cell i in the definition is that of the cell and the outputs at hand
+turn-here : (at : tie.At-loop Inv-loop μ-loop) → at .loop .i < cellCount → let l = at .loop in
+    let a = at .before .before .before .before .before .args in
+    turnOf cellCount (a .full) (a .cells) (a .edited) (a .w) (l .i)
+    ≡ turnAt cellCount (a .full) (getD (l .next) (l .i) noCell) (l .i) (a .edited) (a .w) (l .outputs)
+turn-here at inside =
+    let l = at .loop in
+    let a = at .before .before .before .before .before .args in
+    let here = within at inside in
+    let same = behind-at (cellAfter cellCount (a .full) (a .cells) (a .edited) (a .w)) (l .i) (a .cells) (l .next) noCell (l .inv .1) here in
+    let below = outputsBelow cellCount (a .full) (a .cells) (a .edited) (a .w) (l .i) in
+    ap (λ (c : Cell). turnAt cellCount (a .full) c (l .i) (a .edited) (a .w) below) (sym same)
+    ∙ turn-same cellCount (a .full) (getD (l .next) (l .i) noCell) (l .i) (a .edited) (a .w) below (l .outputs)
+    (λ k h. output-bit cellCount (a .full) (a .cells) (a .edited) (a .w) (l .i) k h ∙ sym (l .inv .2 .1 k h))
+
+-- whether cell i is worked out is what the definition says of it, and so is the woken set
+Asked : tie.Joined1 Inv-loop μ-loop → Type 0
+Asked j =
+    let at = j .before .before .before in
+    let l = at .loop in
+    let a = at .before .before .before .before .before .args in
+    (j .if1 .woke ≡ due cellCount (a .full) (getD (l .next) (l .i) noCell) (l .i) (a .edited) (a .w) (l .outputs))
+    × Halfway (wokeAt cellCount (a .full) (a .cells) (a .edited) (a .w)) (λ k. a .full || bitAt (a .edited) k) cellCount (l .i + 1) (j .if1 .woken)
+
+asked : (j : tie.Joined1 Inv-loop μ-loop) → Asked j
+unfolding Asked
+asked j =
+    let at = j .before .before .before in
+    let l = at .loop in
+    let a = at .before .before .before .before .before .args in
+    let inside = j .before .before .loop-test .taken in
+    let old : Cell = getD (l .next) (l .i) noCell in
+    let wokes = wokeAt cellCount (a .full) (a .cells) (a .edited) (a .w) in
+    let bit = j .before .bit .ensures in
+    let must = bit ∙ l .inv .3 .2 (l .i) (le-refl (l .i)) inside in
+    let is = ap (λ (t : Turn). t .woke) (turn-here at inside) ∙ turn-woke cellCount (a .full) old (l .i) (a .edited) (a .w) (l .outputs) in
+    ⊎-elim
+    (λ w.
+    let woke = woke-asked cellCount (a .full) old (l .i) (a .edited) (a .w) (l .outputs) _ _ _ must (not-true _ (w .0 .taken)) (w .8)
+    (w .4 .ensures _ _ _ (l .inv .4) (l .inv .5)) in (
+      woke,
+      halfway-put wokes _ cellCount (l .i) (l .woken) _ true (l .inv .3) inside (sym (w .8 ∙ w .5 .taken) ∙ woke ∙ sym is) (w .7 ∙ w .6 .ensures),
+    ))
+    (⊎-elim
+    (λ w.
+    let woke = woke-asked cellCount (a .full) old (l .i) (a .edited) (a .w) (l .outputs) _ _ _ must (not-true _ (w .0 .taken)) (w .7)
+    (w .4 .ensures _ _ _ (l .inv .4) (l .inv .5)) in
+    let low = sym bit ∙ not-true _ (w .0 .taken) ∙ sym (w .7 ∙ w .5 .left) ∙ woke ∙ sym is in
+    (woke, rw (w .6) (halfway-kept wokes _ cellCount (l .i) (l .woken) (l .inv .3) low)))
+    (λ w.
+    let woke = woke-due cellCount (a .full) old (l .i) (a .edited) (a .w) (l .outputs) _ _ must (not-false _ (w .0 .left)) (w .2) in
+    (woke, rw (w .1) (halfway-kept wokes _ cellCount (l .i) (l .woken) (l .inv .3) (sym bit ∙ sym (w .2) ∙ woke ∙ sym is)))))
+    (j .if1 .came)
+
+-- where it is worked out, the cells and the output are those of the definition
+Met : tie.At-match-came Inv-loop μ-loop → Type 0
+Met m =
+    let at = m .before .before .before .before .before .before .before .before .before in
+    let l = at .loop in
+    let a = at .before .before .before .before .before .args in
+    (m .match .next ≡ listed (cellAfter cellCount (a .full) (a .cells) (a .edited) (a .w)) (l .i + 1) ++ drop (l .i + 1) (a .cells))
+    × (m .match .out ≡ outAt cellCount (a .full) (a .cells) (a .edited) (a .w) (l .i))
+
+met : (m : tie.At-match-came Inv-loop μ-loop) → Met m
+unfolding Met Asked
+met m =
+    let then = m .before .before .before .before in
+    let j = then .before .before in
+    let at = j .before .before .before in
+    let l = at .loop in
+    let a = at .before .before .before .before .before .args in
+    let inside = j .before .before .loop-test .taken in
+    let after = cellAfter cellCount (a .full) (a .cells) (a .edited) (a .w) in
+    let here = within at inside in
+    let old : Cell = getD (l .next) (l .i) noCell in
+    let same = behind-at after (l .i) (a .cells) (l .next) noCell (l .inv .1) here in
+    let woke = sym (asked j .0) ∙ then .if3 .taken in
+    let done = m .before .worked in
+    let worked = turn-worked cellCount (a .full) old (l .i) (a .edited) (a .w) (l .outputs) (workedBy (old .state) (done .result)) woke
+    (done .ensures _ _ (l .inv .4)) in
+    let made : (e : Effect) → Turn = λ e. let v = workedBy (old .state) e in record { cell = withState old v; out = v .out; woke = true } in
+    ⊎-elim
+    (λ w.
+    let t = turn-here at inside ∙ worked ∙ ap made (w .1 .given .1) in (
+      w .3 ∙ listed-kept after (l .i) (a .cells) (l .next) noCell (l .inv .1) (sym (ap (λ (t : Turn). t .cell) t ∙ same)) here,
+      w .4 ∙ sym (ap (λ (t : Turn). t .out) t),
+    ))
+    (λ w.
+    let t = turn-here at inside ∙ worked ∙ ap made (w .1 .given .1) in (
+      w .4 ∙ listed-next after (l .i) (a .cells) (l .next) _ noCell (l .inv .1) (sym (ap (λ (t : Turn). t .cell) t)) here,
+      w .5 ∙ sym (ap (λ (t : Turn). t .out) t),
+    ))
+    (m .match .came)
+
+-- what the turn of cell i made: the cells and the outputs are those of the definition, and readers above see of it what readers up to it do
+-- unless it moved
+Stepped : tie.Joined3 Inv-loop μ-loop → Type 0
+Stepped j =
+    let at = j .before .before .before .before .before in
+    let l = at .loop in
+    let a = at .before .before .before .before .before .args in
+    let outs = outAt cellCount (a .full) (a .cells) (a .edited) (a .w) in
+    (j .if3 .next ≡ listed (cellAfter cellCount (a .full) (a .cells) (a .edited) (a .w)) (l .i + 1) ++ drop (l .i + 1) (a .cells))
+    × Halfway outs (bitAt (a .w .outputs)) cellCount (l .i + 1) (j .if3 .outputs)
+    × (j .if3 .moved ≡ false → (not (Bool·beq (outs (l .i)) (bitAt (a .w .outputs) (l .i))) || shiftedAt (l .i) (a .w)) ≡ false)
+
+stepped : (j : tie.Joined3 Inv-loop μ-loop) → Stepped j
+unfolding Stepped Asked Met
+stepped j =
+    let j1 = j .before .before in
+    let at = j1 .before .before .before in
+    let l = at .loop in
+    let set = at .before .before .before .before in
+    let a = set .before .args in
+    let inside = j1 .before .before .loop-test .taken in
+    let after = cellAfter cellCount (a .full) (a .cells) (a .edited) (a .w) in
+    let outs = outAt cellCount (a .full) (a .cells) (a .edited) (a .w) in
+    let old : Cell = getD (l .next) (l .i) noCell in
+    let last = l .inv .2 .2 (l .i) (le-refl (l .i)) inside in
+    let shift = j .before .bit2 .ensures ∙ set .shifted .ensures (l .i) in
+    ⊎-elim
+    (λ w.
+    let m : tie.At-match-came Inv-loop μ-loop = record {
+      before = record {
+        before = record { before = record { before = record { before = j .before; if3 = w .0 }; worked-arg = w .1 }; q2 = w .2 };
+        worked = w .3;
+      };
+      match = w .4;
+    } in
+    let out = met m in
+    let flip = flips-to (w .4 .out) (w .5 .result) (w .6 .taken) in (
+      w .8 ∙ out .0,
+      halfway-put outs _ cellCount (l .i) (l .outputs) _ _ (l .inv .2) inside (ap not (sym (w .5 .ensures)) ∙ flip ∙ out .1) (w .9 ∙ w .7 .ensures),
+      λ still. absurd (true≢false (sym (w .10) ∙ still)),
+    ))
+    (⊎-elim
+    (λ w.
+    let m : tie.At-match-came Inv-loop μ-loop = record {
+      before = record {
+        before = record { before = record { before = record { before = j .before; if3 = w .0 }; worked-arg = w .1 }; q2 = w .2 };
+        worked = w .3;
+      };
+      match = w .4;
+    } in
+    let out = met m in
+    let same = sym (w .5 .ensures) ∙ sym (same-bit (w .4 .out) (w .5 .result) (w .6 .left)) ∙ out .1 in (
+      w .7 ∙ out .0,
+      rw (w .8) (halfway-kept outs _ cellCount (l .i) (l .outputs) (l .inv .2) same),
+      λ still. steady-at _ _ _ (sym same ∙ last) (sym shift ∙ sym (w .9) ∙ still),
+    ))
+    (λ w.
+    let t = turn-here at inside
+    ∙ turn-slept cellCount (a .full) old (l .i) (a .edited) (a .w) (l .outputs) (sym (asked j1 .0) ∙ w .0 .left) in
+    let here = within at inside in
+    let behind = behind-at after (l .i) (a .cells) (l .next) noCell (l .inv .1) here in
+    let same = last ∙ sym (ap (λ (t : Turn). t .out) t) in (
+      w .1 ∙ listed-kept after (l .i) (a .cells) (l .next) noCell (l .inv .1) (sym (ap (λ (t : Turn). t .cell) t ∙ behind)) here,
+      rw (w .2) (halfway-kept outs _ cellCount (l .i) (l .outputs) (l .inv .2) same),
+      λ still. steady-at _ _ _ (sym same ∙ last) (sym shift ∙ sym (w .3) ∙ still),
+    )))
+    (j .if3 .came)
+
 -- the words of the next reader: made anew, or still those
-next-words : (c : tie.Joined3 Inv-loop μ-loop) → let at = c .before .before .before .before .before .before .before .before .before in
+next-words : (c : tie.Joined5 Inv-loop μ-loop) → let j = c .before in
+    let at = j .before .before .before .before .before in
     let l = at .loop in
     let w = at .before .before .before .before .before .args .w in
-    let outputs = c .before .before .pushed162 .result in
-    ReadsAs (c .if3 .q) (seesNow cellCount (l .i + 1) w outputs) (sawLast cellCount (l .i + 1) w)
-    × MovesAs (c .if3 .d) (seesNow cellCount (l .i + 1) w outputs) (sawLast cellCount (l .i + 1) w) (sawEarlier cellCount (l .i + 1) w)
+    ReadsAs (c .if5 .q) (seesNow cellCount (l .i + 1) w (j .if3 .outputs)) (sawLast cellCount (l .i + 1) w)
+    × MovesAs (c .if5 .d) (seesNow cellCount (l .i + 1) w (j .if3 .outputs)) (sawLast cellCount (l .i + 1) w) (sawEarlier cellCount (l .i + 1) w)
+unfolding Stepped
 next-words c =
-    let j = c .before .before .before in
-    let at = j .before .before .before .before .before .before in
+    let j = c .before in
+    let at = j .before .before .before .before .before in
     let l = at .loop in
-    let set = at .before .before .before in
-    let a = set .before .before .args in
-    let out = j .if2 .out in
-    let outputs = c .before .before .pushed162 .result in
-    let fits = built-fits _ _ _ (l .inv .2 ∙ outputs-built cellCount (a .full) (a .cells) (a .edited) (a .w) (l .i)) in
-    let pushed = c .before .before .pushed162 .ensures in
+    let a = at .before .before .before .before .before .args in
+    let step = stepped j in
+    let outputs = j .if3 .outputs in
     let now = seesNow cellCount (l .i + 1) (a .w) outputs in
     let last = sawLast cellCount (l .i + 1) (a .w) in
     let earlier = sawEarlier cellCount (l .i + 1) (a .w) in
-    let moved = ap (λ (b : Bool). not (Bool·beq out (bitAt (a .w .outputs) (l .i))) || b) (set .shifted .ensures (l .i)) in
     ⊎-elim
     (λ w. (
       subst (λ (q : List ℕ). ReadsAs q now last) (sym (w .3)) (w .1 .ensures),
       subst (λ (d : List ℕ). MovesAs d now last earlier) (sym (w .4)) (w .2 .ensures),
     ))
     (λ w.
-    let steady = sym moved ∙ sym (c .before .is-moved .ensures) ∙ w .0 .left in
-    let kept = words-kept cellCount (l .i) out (a .w) (l .outputs) outputs steady
-    (pushed-below (l .outputs) outputs (l .i) out fits pushed) (pushed-at (l .outputs) outputs (l .i) out fits pushed)
+    let kept = words-kept cellCount (l .i) _ (a .w) (l .outputs) outputs (step .2 (w .0 .left))
+    (λ k h. l .inv .2 .1 k h ∙ sym (step .1 .1 k (omega arith))) (step .1 .1 (l .i) (omega arith))
     (l .q) (l .d) (l .inv .4) (l .inv .5) in
     (subst (λ (q : List ℕ). ReadsAs q now last) (sym (w .1)) (kept .0), subst (λ (d : List ℕ). MovesAs d now last earlier) (sym (w .2)) (kept .1)))
-    (c .if3 .came)
+    (c .if5 .came)
 
 loop-again : tie.Need-loop-again Inv-loop μ-loop
-unfolding outputsBelow Stepped
+unfolding Stepped Asked
 loop-again c =
-    let j = c .before .before .before in
-    let at = j .before .before .before .before .before .before in
-    let l = at .loop in
-    let a = at .before .before .before .before .before .args in
+    let j = c .before in
+    let j1 = j .before .before in
     let step = stepped j in
-    let outputs : c .before .before .pushed162 .result ≡ outputsBelow cellCount (a .full) (a .cells) (a .edited) (a .w) (l .i + 1) =
-    rw (add-one, c .before .before .pushed162 .ensures, step .1, l .inv .2) in
     let words = next-words c in
-    let more : l .i + 1 ≤ cellCount = omega (arith, j .before .before .before .before .before .loop-test .taken) in
-    (more, step .0, outputs, step .2, words .0, words .1)
+    let more : j1 .before .before .before .loop .i + 1 ≤ cellCount = omega (arith, j1 .before .before .loop-test .taken) in
+    (more, step .0, step .1, asked j1 .1, words .0, words .1)
 
 returns : tie.Need-returns Inv-loop μ-loop
 unfolding turned
 returns c =
     let l = c .before .loop in
+    let a = c .before .before .before .before .before .before .args in
     let end : l .i ≡ cellCount = omega arith in
-    rw (l .inv .1, l .inv .2, l .inv .3, end)
+    let outs = outAt cellCount (a .full) (a .cells) (a .edited) (a .w) in
+    let wokes = wokeAt cellCount (a .full) (a .cells) (a .edited) (a .w) in
+    let cells = rw end at (l .inv .1) in
+    let outputs = halfway-end outs _ cellCount (l .outputs) (rw end at (l .inv .2))
+    ∙ sym (outputs-built cellCount (a .full) (a .cells) (a .edited) (a .w) cellCount) in
+    let woken = halfway-end wokes _ cellCount (l .woken) (rw end at (l .inv .3)) in
+    λ k. record { cells = cells k; outputs = outputs k; woken = woken k }
 
 pub turn-each-spec : {M : Type 1} → statement M
 turn-each-spec =
@@ -261,19 +384,20 @@ turn-each-spec =
     (tie.spec
     Inv-loop
     μ-loop
-    due-requires
     shifted-requires
+    due-requires
     words-now-requires
     words-moved-requires
     loop-holds
     cast-at
+    cast-bit
     bit-requires
     mul-is-named
     array-copy-out-is-named
     is-named-requires
-    cast-bit
+    joined-requires
+    cast-bit-2
     bit-requires-2
-    pushed16-requires
     mul-worked
     array-copy-out-worked
     worked-requires
@@ -283,8 +407,9 @@ turn-each-spec =
     array-copy-out-cell
     mul-next
     array-set-from-next
-    pushed16-requires-2
-    is-moved-requires
+    cast-bit-3
+    bit-requires-3
+    flipped-requires
     add-words-now
     words-now-requires-2
     add-words-moved
