@@ -11,6 +11,10 @@ abbrev pub steadyWires : ℕ → ℕ → Wires
 steadyWires outputs levels =
     record { levels = levels; levels2 = levels; levels3 = levels; outputs = outputs; outputs2 = outputs; outputs3 = outputs }
 
+-- what a tick has made of all cells, in parts
+abbrev pub turnedTo : List Cell → (outputs woken : ℕ) → Turned
+turnedTo cells outputs woken = record { cells = cells; outputs = outputs; woken = woken }
+
 -- every cell has slept
 abbrev pub sleptAll : List Cell → ℕ → Turned
-sleptAll cells outputs = record { cells = cells; outputs = outputs; woken = 0 }
+sleptAll cells outputs = turnedTo cells outputs 0

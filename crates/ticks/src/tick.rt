@@ -9,9 +9,9 @@ ghost use Rattle.cells.specs.Wake.{wakes};
 ghost use Rattle.cells.specs.Work.{workOut};
 ghost use Rattle.card.specs.Address.{cellCount};
 ghost use Rattle.ticks.specs.Reading.{slotsRead};
-ghost use Rattle.ticks.specs.FastPath.{sleptAll};
+ghost use Rattle.ticks.specs.FastPath.{turnedTo, sleptAll};
 ghost use Rattle.ticks.specs.Tick;
-ghost use Rattle.ticks.specs.Tick.{turned, wiresOf, linesIn, ranWith};
+ghost use Rattle.ticks.specs.Tick.{turned, turnedIn, wiresOf, linesIn, ranWith};
 ghost use Rattle.ticks.specs.Words.{ReadsAs, MovesAs, shiftedAt};
 use crate::connectors::Lines;
 use crate::connectors::drive;
@@ -136,58 +136,6 @@ fn flipped(w: CellWord, i: u32) -> CellWord
     w ^ (1 << i)
 }
 
-// The turns of all cells, in order. The set of woken cells starts as those that are due, and the outputs as those of the last tick, so a cell that
-// sleeps changes neither. The words for the next reader are made anew only where readers above the cell see something else of it, in this tick
-// or the last two, than readers up to it do.
-fn turn_each(full: bool, cells: [Cell; CELLS], edited: EditedSet, w: Wires) -> Turned
-    ensures { λ t. ⌜ t ≡ turned cellCount full cells edited w ⌝ }
-{
-    let shifted = shifted(w);
-    let mut next = cells;
-    let mut outputs = w.outputs;
-    let mut woken = due(full, edited);
-    let mut q = words_now(0, outputs, w);
-    let mut d = words_moved(0, outputs, w);
-    for i in 0..CELLS as u32 {
-        let at = i as usize;
-        let mut woke = words::bit(woken as u64, i);
-        if !woke {
-            woke = is_named(next[at], &q, &d);
-            if woke {
-                woken = joined(woken, i);
-            }
-        }
-        let mut moved = words::bit(shifted as u64, i);
-        if woke {
-            let mut out = false;
-            match worked(next[at], &q) {
-                Effect::Same(o) => {
-                    out = o;
-                }
-                Effect::Next(s, o) => {
-                    let mut cell = next[at];
-                    cell.state = s;
-                    next[at] = cell;
-                    out = o;
-                }
-            }
-            if out ^ words::bit(outputs as u64, i) {
-                outputs = flipped(outputs, i);
-                moved = true;
-            }
-        }
-        if moved {
-            q = words_now(i + 1, outputs, w);
-            d = words_moved(i + 1, outputs, w);
-        }
-    }
-    Turned {
-        cells: next,
-        outputs: outputs,
-        woken: woken,
-    }
-}
-
 // ---- the fast path of a quick tick
 //
 // While no cell is edited and every word is what it was in the last two ticks, all readers see one view, level slots read as they did, and a cell
@@ -204,20 +152,6 @@ fn is_quiet(cells: [Cell; CELLS], edited: EditedSet, w: Wires) -> bool
         return false;
     }
     all_rest(cells, sees(0, w.outputs, w.outputs, w.levels))
-}
-
-// What a quick tick makes of all cells.
-fn quick_turns(cells: [Cell; CELLS], edited: EditedSet, w: Wires) -> Turned
-    ensures { λ t. ⌜ t ≡ turned cellCount false cells edited w ⌝ }
-{
-    if is_quiet(cells, edited, w) {
-        return Turned {
-            cells: cells,
-            outputs: w.outputs,
-            woken: 0,
-        };
-    }
-    turn_each(false, cells, edited, w)
 }
 
 // ---- a tick
@@ -247,34 +181,26 @@ fn wires_of(m: Memory, levels: u16) -> Wires
     }
 }
 
-// The card after a tick that ran, and its answer.
-fn ran_with(card: Card, l: Lines, t: Turned) -> Ticked
-    ensures { λ r. ⌜ r ≡ ranWith card l t ⌝ }
+// The card after a tick that ran, whose cells it has already, and its answer.
+fn ran_with(card: Card, l: Lines, outputs: CellWord, woken: CellWord) -> Ticked
+    ensures { λ r. ⌜ r ≡ ranWith card l (turnedTo (card .cells) outputs woken) ⌝ }
 {
     let m = card.memory;
     let memory = Memory {
         driven: l.driven,
-        outputs: t.outputs,
+        outputs: outputs,
         outputs2: m.outputs,
         outputs3: m.outputs2,
         levels: l.levels,
         levels2: m.levels,
     };
-    let cells = t.cells;
-    let connectors = card.connectors;
-    let next = Card {
-        cells: cells,
-        connectors: connectors,
-        edited: 0,
-        memory: memory,
-        pointer: card.pointer,
-        trigger: card.trigger,
-    };
-    let woken = t.woken;
+    let mut next = card;
+    next.edited = 0;
+    next.memory = memory;
     let answer = Answer {
         ran: true,
         driven: l.driven,
-        cells: t.outputs,
+        cells: outputs,
         woken: woken,
         count: u16::count_ones(woken),
     };
@@ -282,6 +208,55 @@ fn ran_with(card: Card, l: Lines, t: Turned) -> Ticked
         card: next,
         answer: answer,
     }
+}
+
+// A tick that runs: the turns of all cells, in order. The set of woken cells starts as those that are due, and the outputs as those of the last tick, so a cell that
+// sleeps changes neither. The words for the next reader are made anew only where readers above the cell see something else of it, in this tick
+// or the last two, than readers up to it do.
+fn turn_each(full: bool, card: Card, l: Lines) -> Ticked
+    ensures { λ t. ⌜ t ≡ ranWith card l (turnedIn cellCount full card (l .levels)) ⌝ }
+{
+    let w = wires_of(card.memory, l.levels);
+    let shifted = shifted(w);
+    let mut next = card;
+    let mut outputs = w.outputs;
+    let mut woken = due(full, card.edited);
+    let mut q = words_now(0, outputs, w);
+    let mut d = words_moved(0, outputs, w);
+    for i in 0..CELLS as u32 {
+        let at = i as usize;
+        let mut woke = words::bit(woken as u64, i);
+        if !woke {
+            woke = is_named(next.cells[at], &q, &d);
+            if woke {
+                woken = joined(woken, i);
+            }
+        }
+        let mut moved = words::bit(shifted as u64, i);
+        if woke {
+            let mut out = false;
+            match worked(next.cells[at], &q) {
+                Effect::Same(o) => {
+                    out = o;
+                }
+                Effect::Next(s, o) => {
+                    let mut cell = next.cells[at];
+                    cell.state = s;
+                    next.cells[at] = cell;
+                    out = o;
+                }
+            }
+            if out ^ words::bit(outputs as u64, i) {
+                outputs = flipped(outputs, i);
+                moved = true;
+            }
+        }
+        if moved {
+            q = words_now(i + 1, outputs, w);
+            d = words_moved(i + 1, outputs, w);
+        }
+    }
+    ran_with(next, l, outputs, woken)
 }
 
 // Whether a clock is the card's trigger source.
@@ -318,9 +293,7 @@ pub fn full_tick(card: Card, input: Input) -> Ticked
     let m = card.memory;
     let connectors = card.connectors;
     let l = lines_in(connectors, m, input.sample);
-    let cells = card.cells;
-    let t = turn_each(true, cells, card.edited, wires_of(m, l.levels));
-    ran_with(card, l, t)
+    turn_each(true, card, l)
 }
 
 // The cells that the waking rules name are worked out.
@@ -334,6 +307,8 @@ pub fn quick_tick(card: Card, input: Input) -> Ticked
     let connectors = card.connectors;
     let l = lines_in(connectors, m, input.sample);
     let cells = card.cells;
-    let t = quick_turns(cells, card.edited, wires_of(m, l.levels));
-    ran_with(card, l, t)
+    if is_quiet(cells, card.edited, wires_of(m, l.levels)) {
+        return ran_with(card, l, m.outputs, 0);
+    }
+    turn_each(false, card, l)
 }

@@ -3,12 +3,12 @@
 use Prim.Native.Nat.{ℕ, _+_, _-_, _≤_, _<_, zero-le}
 use mathlib.Core.Path.{_≡_, refl, sym, ap, ap₂, subst, _∙_}
 use mathlib.Core.Bool.{Bool, true, false, not, _||_, Bool·beq, true≢false}
-use mathlib.Core.List.{List, _++_}
+use mathlib.Core.List.{List, _++_, map}
 use mathlib.Core.Logic.{⊎-elim}
 use native.Mathlib.Nat.{le-refl}
 use native.Mathlib.Omega.{arith}
-use lib.ListN.{drop, getD, length}
-use borrow.Author.Needs.{needs}
+use lib.ListN.{drop, getD, length, length-map}
+use borrow.Author.Needs.{needs, below-length}
 use borrow.Author.Tests.{not-true, not-false}
 use Rattle.words.specs.Bits.{bitAt, wordOf}
 use Rattle.words.specs.Listed.{listed}
@@ -17,8 +17,12 @@ use Rattle.cells.specs.declared.cell.Cell.{Cell}
 use Rattle.cells.specs.declared.work.Effect.{Effect}
 use Rattle.cells.specs.Effect.{workedBy}
 use Rattle.card.specs.Address.{cellCount}
+use Rattle.card.specs.Edits.{withSettings}
 use Rattle.card.specs.Fresh.{noCell}
-use Rattle.ticks.specs.Tick.{withState, Turn, outputsBelow, turnAt, turnOf, cellAfter, wokeAt, turned, seesNow, sawLast, sawEarlier}
+use Rattle.card.specs.declared.card.Card.{Card}
+use Rattle.ticks.specs.declared.tick.Wires.{Wires}
+use Rattle.ticks.specs.FastPath.{turnedTo}
+use Rattle.ticks.specs.Tick.{withState, Turn, outputsBelow, turnAt, turnOf, cellAfter, wokeAt, turned, ranWith, seesNow, sawLast, sawEarlier}
 use Rattle.ticks.specs.Words.{ReadsAs, MovesAs, shiftedAt}
 use Rattle.ticks.proofs.Ticks.{outAt, outputs-built}
 use Rattle.ticks.proofs.Turns.{behind-at, listed-kept, due, woke-asked, woke-due, turn-worked, turn-slept, turn-woke, turn-same, words-kept}
@@ -38,17 +42,36 @@ use Rattle.ticks.proofs.view.words_moved.Reads as words-moved-reads
 use Rattle.ticks.proofs.view.words_now.Reads as words-now-reads
 use Rattle.words.proofs.bit.Reads as bit-reads
 
+-- the definition's cells, outputs and woken cells, and the card with the first i cells of a tick
+abbrev afterOf : Bool → Card → Wires → ℕ → Cell
+afterOf full c w = cellAfter cellCount full (c .cells) (c .edited) w
+
+abbrev outsOf : Bool → Card → Wires → ℕ → Bool
+outsOf full c w = outAt cellCount full (c .cells) (c .edited) w
+
+abbrev wokesOf : Bool → Card → Wires → ℕ → Bool
+wokesOf full c w = wokeAt cellCount full (c .cells) (c .edited) w
+
+abbrev seated : Card → List Cell → Card
+seated c cells = withSettings c (c .trigger) cells (c .connectors) (c .edited)
+
+abbrev upTo : Bool → Card → Wires → ℕ → List Cell
+upTo full c w i = listed (afterOf full c w) i ++ drop i (c .cells)
+
 abbrev Inv-loop : tie.InvT-loop
-Inv-loop full edited w shifted next₀ outputs₀ woken₀ q₀ d₀ i₀ next outputs woken q d i
-    = (i ≤ cellCount)
-    × (next ≡ listed (cellAfter cellCount full next₀ edited w) i ++ drop i next₀)
-    × Halfway (outAt cellCount full next₀ edited w) (bitAt (w .outputs)) cellCount i outputs
-    × Halfway (wokeAt cellCount full next₀ edited w) (λ k. full || bitAt edited k) cellCount i woken
+Inv-loop full l w shifted card outputs₀ woken₀ q₀ d₀ i₀ next outputs woken q d i =
+    (i ≤ cellCount)
+    × (next ≡ seated card (upTo full card w i))
+    × Halfway (outsOf full card w) (bitAt (w .outputs)) cellCount i outputs
+    × Halfway (wokesOf full card w) (λ k. full || bitAt (card .edited) k) cellCount i woken
     × ReadsAs q (seesNow cellCount i w outputs) (sawLast cellCount i w)
     × MovesAs d (seesNow cellCount i w outputs) (sawLast cellCount i w) (sawEarlier cellCount i w)
 
 abbrev μ-loop : tie.MeasureT-loop
-μ-loop full edited w shifted next₀ outputs₀ woken₀ q₀ d₀ i₀ next outputs woken q d i = cellCount - i
+μ-loop full l w shifted card outputs₀ woken₀ q₀ d₀ i₀ next outputs woken q d i = cellCount - i
+
+wires-of-requires : tie.Need-wires-of-requires Inv-loop μ-loop
+wires-of-requires c κs = search needs
 
 shifted-requires : tie.Need-shifted-requires Inv-loop μ-loop
 shifted-requires c κs = search needs
@@ -65,13 +88,15 @@ words-moved-requires c κs = search needs
 loop-holds : tie.Need-loop-holds Inv-loop μ-loop
 unfolding listed
 loop-holds c =
-    let a = c .before .before .before .before .args in
-    let outs = outAt cellCount (a .full) (a .cells) (a .edited) (a .w) in
-    let wokes = wokeAt cellCount (a .full) (a .cells) (a .edited) (a .w) in (
+    let set = c .before .before .before .before in
+    let a = set .before .args in
+    let wires = set .wires-of .result in
+    let outs = outsOf (a .full) (a .card) wires in
+    let wokes = wokesOf (a .full) (a .card) wires in (
       zero-le,
       refl,
-      halfway-start outs (bitAt (a .w .outputs)) cellCount (a .w .outputs) (search needs) (λ k h. refl),
-      halfway-start wokes (λ k. a .full || bitAt (a .edited) k) cellCount (c .before .before .due .result) (search needs) (c .before .before .due .ensures),
+      halfway-start outs (bitAt (wires .outputs)) cellCount (wires .outputs) (search needs) (λ k h. refl),
+      halfway-start wokes (λ k. a .full || bitAt (a .card .edited) k) cellCount (c .before .before .due .result) (search needs) (c .before .before .due .ensures),
       c .before .words-now .ensures,
       c .words-moved .ensures,
     )
@@ -88,8 +113,8 @@ bit-requires c κs = search needs
 mul-is-named : tie.Need-mul-is-named Inv-loop μ-loop
 mul-is-named c = search needs
 
-array-copy-out-is-named : tie.Need-array-copy-out-is-named Inv-loop μ-loop
-array-copy-out-is-named c = search needs
+element-copy-out-is-named : tie.Need-element-copy-out-is-named Inv-loop μ-loop
+element-copy-out-is-named c = search needs
 
 is-named-requires : tie.Need-is-named-requires Inv-loop μ-loop
 is-named-requires c κs = search needs
@@ -106,8 +131,8 @@ bit-requires-2 c κs = search needs
 mul-worked : tie.Need-mul-worked Inv-loop μ-loop
 mul-worked c = search needs
 
-array-copy-out-worked : tie.Need-array-copy-out-worked Inv-loop μ-loop
-array-copy-out-worked c = search needs
+element-copy-out-worked : tie.Need-element-copy-out-worked Inv-loop μ-loop
+element-copy-out-worked c = search needs
 
 worked-requires : tie.Need-worked-requires Inv-loop μ-loop
 worked-requires c κs = search needs
@@ -121,14 +146,14 @@ enum-known-s c = search needs
 mul-cell : tie.Need-mul-cell Inv-loop μ-loop
 mul-cell c = search needs
 
-array-copy-out-cell : tie.Need-array-copy-out-cell Inv-loop μ-loop
-array-copy-out-cell c = search needs
+element-copy-out-cell : tie.Need-element-copy-out-cell Inv-loop μ-loop
+element-copy-out-cell c = search needs
 
-mul-next : tie.Need-mul-next Inv-loop μ-loop
-mul-next c = search needs
+mul-cell-2 : tie.Need-mul-cell-2 Inv-loop μ-loop
+mul-cell-2 c = search needs
 
-array-set-from-next : tie.Need-array-set-from-next Inv-loop μ-loop
-array-set-from-next c = search needs
+element-set-from-cell : tie.Need-element-set-from-cell Inv-loop μ-loop
+element-set-from-cell c = search needs
 
 cast-bit-3 : tie.Need-cast-bit-3 Inv-loop μ-loop
 cast-bit-3 c = search needs
@@ -157,73 +182,113 @@ add-i c = search needs
 loop-less : tie.Need-loop-less Inv-loop μ-loop
 loop-less c = search needs
 
+-- there are as many cells as the array in the card has entries: what is known of it is known of its entries as the machine has them
+as-long : (X Y : Type 0) (g : X → Y) (l : List X) (n : ℕ) → length (map g l) ≡ n → length l ≡ n
+as-long X Y g l n e = sym (length-map l g) ∙ e
+
+sixteen : (c : tie.Start Inv-loop μ-loop) → length (c .args .card .cells) ≡ cellCount
+sixteen c = search (as-long, c .good)
+
 -- cell i is one of the cells
 within : (at : tie.At-loop Inv-loop μ-loop) → at .loop .i < cellCount
-    → at .loop .i < length (at .before .before .before .before .before .args .cells)
-within at inside = search needs
+    → at .loop .i < length (at .before .before .before .before .before .before .args .card .cells)
+within at inside = search (below-length, sixteen (at .before .before .before .before .before .before), inside)
+
+-- the cells at hand
+cells-so : (at : tie.At-loop Inv-loop μ-loop) → let set = at .before .before .before .before .before in
+    let a = set .before .args in
+    at .loop .next .cells ≡ upTo (a .full) (a .card) (set .wires-of .result) (at .loop .i)
+cells-so at = ap (λ (c : Card). c .cells) (at .loop .inv .1)
 
 -- the turn of cell i in the definition is that of the cell and the outputs at hand
 turn-here : (at : tie.At-loop Inv-loop μ-loop) → at .loop .i < cellCount → let l = at .loop in
-    let a = at .before .before .before .before .before .args in
-    turnOf cellCount (a .full) (a .cells) (a .edited) (a .w) (l .i)
-    ≡ turnAt cellCount (a .full) (getD (l .next) (l .i) noCell) (l .i) (a .edited) (a .w) (l .outputs)
+    let set = at .before .before .before .before .before in
+    let a = set .before .args in
+    let wires = set .wires-of .result in
+    turnOf cellCount (a .full) (a .card .cells) (a .card .edited) wires (l .i)
+    ≡ turnAt cellCount (a .full) (getD (l .next .cells) (l .i) noCell) (l .i) (a .card .edited) wires (l .outputs)
 turn-here at inside =
     let l = at .loop in
-    let a = at .before .before .before .before .before .args in
+    let set = at .before .before .before .before .before in
+    let a = set .before .args in
+    let wires = set .wires-of .result in
     let here = within at inside in
-    let same = behind-at (cellAfter cellCount (a .full) (a .cells) (a .edited) (a .w)) (l .i) (a .cells) (l .next) noCell (l .inv .1) here in
-    let below = outputsBelow cellCount (a .full) (a .cells) (a .edited) (a .w) (l .i) in
-    ap (λ (c : Cell). turnAt cellCount (a .full) c (l .i) (a .edited) (a .w) below) (sym same)
-    ∙ turn-same cellCount (a .full) (getD (l .next) (l .i) noCell) (l .i) (a .edited) (a .w) below (l .outputs)
-    (λ k h. output-bit cellCount (a .full) (a .cells) (a .edited) (a .w) (l .i) k h ∙ sym (l .inv .2 .1 k h))
+    let same = behind-at (afterOf (a .full) (a .card) wires) (l .i) (a .card .cells) (l .next .cells) noCell (cells-so at) here in
+    let below = outputsBelow cellCount (a .full) (a .card .cells) (a .card .edited) wires (l .i) in
+    ap (λ (c : Cell). turnAt cellCount (a .full) c (l .i) (a .card .edited) wires below) (sym same)
+    ∙ turn-same cellCount (a .full) (getD (l .next .cells) (l .i) noCell) (l .i) (a .card .edited) wires below (l .outputs)
+    (λ k h. output-bit cellCount (a .full) (a .card .cells) (a .card .edited) wires (l .i) k h ∙ sym (l .inv .2 .1 k h))
 
 -- whether cell i is worked out is what the definition says of it, and so is the woken set
 Asked : tie.Joined1 Inv-loop μ-loop → Type 0
 Asked j =
     let at = j .before .before .before in
     let l = at .loop in
-    let a = at .before .before .before .before .before .args in
-    (j .if1 .woke ≡ due cellCount (a .full) (getD (l .next) (l .i) noCell) (l .i) (a .edited) (a .w) (l .outputs))
-    × Halfway (wokeAt cellCount (a .full) (a .cells) (a .edited) (a .w)) (λ k. a .full || bitAt (a .edited) k) cellCount (l .i + 1) (j .if1 .woken)
+    let set = at .before .before .before .before .before in
+    let a = set .before .args in
+    let wires = set .wires-of .result in
+    (j .if1 .woke ≡ due cellCount (a .full) (getD (l .next .cells) (l .i) noCell) (l .i) (a .card .edited) wires (l .outputs))
+    × Halfway (wokesOf (a .full) (a .card) wires) (λ k. a .full || bitAt (a .card .edited) k) cellCount (l .i + 1) (j .if1 .woken)
 
 asked : (j : tie.Joined1 Inv-loop μ-loop) → Asked j
 unfolding Asked
 asked j =
     let at = j .before .before .before in
     let l = at .loop in
-    let a = at .before .before .before .before .before .args in
+    let set = at .before .before .before .before .before in
+    let a = set .before .args in
+    let wires = set .wires-of .result in
     let inside = j .before .before .loop-test .taken in
-    let old : Cell = getD (l .next) (l .i) noCell in
-    let wokes = wokeAt cellCount (a .full) (a .cells) (a .edited) (a .w) in
+    let old : Cell = getD (l .next .cells) (l .i) noCell in
+    let wokes = wokesOf (a .full) (a .card) wires in
     let bit = j .before .bit .ensures in
     let must = bit ∙ l .inv .3 .2 (l .i) (le-refl (l .i)) inside in
-    let is = ap (λ (t : Turn). t .woke) (turn-here at inside) ∙ turn-woke cellCount (a .full) old (l .i) (a .edited) (a .w) (l .outputs) in
+    let is = ap (λ (t : Turn). t .woke) (turn-here at inside) ∙ turn-woke cellCount (a .full) old (l .i) (a .card .edited) wires (l .outputs) in
     ⊎-elim
     (λ w.
-    let woke = woke-asked cellCount (a .full) old (l .i) (a .edited) (a .w) (l .outputs) _ _ _ must (not-true _ (w .0 .taken)) (w .8)
+    let woke = woke-asked cellCount (a .full) old (l .i) (a .card .edited) wires (l .outputs) _ _ _ must (not-true _ (w .0 .taken)) (w .8)
     (w .4 .ensures _ _ _ (l .inv .4) (l .inv .5)) in (
       woke,
       halfway-put wokes _ cellCount (l .i) (l .woken) _ true (l .inv .3) inside (sym (w .8 ∙ w .5 .taken) ∙ woke ∙ sym is) (w .7 ∙ w .6 .ensures),
     ))
     (⊎-elim
     (λ w.
-    let woke = woke-asked cellCount (a .full) old (l .i) (a .edited) (a .w) (l .outputs) _ _ _ must (not-true _ (w .0 .taken)) (w .7)
+    let woke = woke-asked cellCount (a .full) old (l .i) (a .card .edited) wires (l .outputs) _ _ _ must (not-true _ (w .0 .taken)) (w .7)
     (w .4 .ensures _ _ _ (l .inv .4) (l .inv .5)) in
     let low = sym bit ∙ not-true _ (w .0 .taken) ∙ sym (w .7 ∙ w .5 .left) ∙ woke ∙ sym is in
     (woke, rw (w .6) (halfway-kept wokes _ cellCount (l .i) (l .woken) (l .inv .3) low)))
     (λ w.
-    let woke = woke-due cellCount (a .full) old (l .i) (a .edited) (a .w) (l .outputs) _ _ must (not-false _ (w .0 .left)) (w .2) in
+    let woke = woke-due cellCount (a .full) old (l .i) (a .card .edited) wires (l .outputs) _ _ must (not-false _ (w .0 .left)) (w .2) in
     (woke, rw (w .1) (halfway-kept wokes _ cellCount (l .i) (l .woken) (l .inv .3) (sym bit ∙ sym (w .2) ∙ woke ∙ sym is)))))
     (j .if1 .came)
+
+-- the card with its cells one further: as it was, or with cell i put anew
+kept-card : (at : tie.At-loop Inv-loop μ-loop) → let set = at .before .before .before .before .before in
+    let a = set .before .args in
+    let all = upTo (a .full) (a .card) (set .wires-of .result) (at .loop .i + 1) in
+    at .loop .next .cells ≡ all → at .loop .next ≡ seated (a .card) all
+kept-card at e =
+    let card = at .before .before .before .before .before .before .args .card in
+    at .loop .inv .1 ∙ ap (seated card) (sym (cells-so at) ∙ e)
+
+put-card : (at : tie.At-loop Inv-loop μ-loop) {cells : List Cell} → let set = at .before .before .before .before .before in
+    let a = set .before .args in
+    let all = upTo (a .full) (a .card) (set .wires-of .result) (at .loop .i + 1) in
+    cells ≡ all → seated (at .loop .next) cells ≡ seated (a .card) all
+put-card at {cells} e =
+    let card = at .before .before .before .before .before .before .args .card in
+    ap (λ (c : Card). seated c cells) (at .loop .inv .1) ∙ ap (seated card) e
 
 -- where it is worked out, the cells and the output are those of the definition
 Met : tie.At-match-came Inv-loop μ-loop → Type 0
 Met m =
     let at = m .before .before .before .before .before .before .before .before .before in
     let l = at .loop in
-    let a = at .before .before .before .before .before .args in
-    (m .match .next ≡ listed (cellAfter cellCount (a .full) (a .cells) (a .edited) (a .w)) (l .i + 1) ++ drop (l .i + 1) (a .cells))
-    × (m .match .out ≡ outAt cellCount (a .full) (a .cells) (a .edited) (a .w) (l .i))
+    let set = at .before .before .before .before .before in
+    let a = set .before .args in
+    let wires = set .wires-of .result in
+    (m .match .next ≡ seated (a .card) (upTo (a .full) (a .card) wires (l .i + 1)))
+    × (m .match .out ≡ outsOf (a .full) (a .card) wires (l .i))
 
 met : (m : tie.At-match-came Inv-loop μ-loop) → Met m
 unfolding Met Asked
@@ -232,26 +297,28 @@ met m =
     let j = then .before .before in
     let at = j .before .before .before in
     let l = at .loop in
-    let a = at .before .before .before .before .before .args in
+    let set = at .before .before .before .before .before in
+    let a = set .before .args in
+    let wires = set .wires-of .result in
     let inside = j .before .before .loop-test .taken in
-    let after = cellAfter cellCount (a .full) (a .cells) (a .edited) (a .w) in
+    let after = afterOf (a .full) (a .card) wires in
     let here = within at inside in
-    let old : Cell = getD (l .next) (l .i) noCell in
-    let same = behind-at after (l .i) (a .cells) (l .next) noCell (l .inv .1) here in
+    let old : Cell = getD (l .next .cells) (l .i) noCell in
+    let same = behind-at after (l .i) (a .card .cells) (l .next .cells) noCell (cells-so at) here in
     let woke = sym (asked j .0) ∙ then .if3 .taken in
     let done = m .before .worked in
-    let worked = turn-worked cellCount (a .full) old (l .i) (a .edited) (a .w) (l .outputs) (workedBy (old .state) (done .result)) woke
+    let worked = turn-worked cellCount (a .full) old (l .i) (a .card .edited) wires (l .outputs) (workedBy (old .state) (done .result)) woke
     (done .ensures _ _ (l .inv .4)) in
     let made : (e : Effect) → Turn = λ e. let v = workedBy (old .state) e in record { cell = withState old v; out = v .out; woke = true } in
     ⊎-elim
     (λ w.
     let t = turn-here at inside ∙ worked ∙ ap made (w .1 .given .1) in (
-      w .3 ∙ listed-kept after (l .i) (a .cells) (l .next) noCell (l .inv .1) (sym (ap (λ (t : Turn). t .cell) t ∙ same)) here,
+      w .3 ∙ kept-card at (listed-kept after (l .i) (a .card .cells) (l .next .cells) noCell (cells-so at) (sym (ap (λ (t : Turn). t .cell) t ∙ same)) here),
       w .4 ∙ sym (ap (λ (t : Turn). t .out) t),
     ))
     (λ w.
     let t = turn-here at inside ∙ worked ∙ ap made (w .1 .given .1) in (
-      w .4 ∙ listed-next after (l .i) (a .cells) (l .next) _ noCell (l .inv .1) (sym (ap (λ (t : Turn). t .cell) t)) here,
+      w .4 ∙ put-card at (listed-next after (l .i) (a .card .cells) (l .next .cells) _ noCell (cells-so at) (sym (ap (λ (t : Turn). t .cell) t)) here),
       w .5 ∙ sym (ap (λ (t : Turn). t .out) t),
     ))
     (m .match .came)
@@ -262,11 +329,13 @@ Stepped : tie.Joined3 Inv-loop μ-loop → Type 0
 Stepped j =
     let at = j .before .before .before .before .before in
     let l = at .loop in
-    let a = at .before .before .before .before .before .args in
-    let outs = outAt cellCount (a .full) (a .cells) (a .edited) (a .w) in
-    (j .if3 .next ≡ listed (cellAfter cellCount (a .full) (a .cells) (a .edited) (a .w)) (l .i + 1) ++ drop (l .i + 1) (a .cells))
-    × Halfway outs (bitAt (a .w .outputs)) cellCount (l .i + 1) (j .if3 .outputs)
-    × (j .if3 .moved ≡ false → (not (Bool·beq (outs (l .i)) (bitAt (a .w .outputs) (l .i))) || shiftedAt (l .i) (a .w)) ≡ false)
+    let set = at .before .before .before .before .before in
+    let a = set .before .args in
+    let wires = set .wires-of .result in
+    let outs = outsOf (a .full) (a .card) wires in
+    (j .if3 .next ≡ seated (a .card) (upTo (a .full) (a .card) wires (l .i + 1)))
+    × Halfway outs (bitAt (wires .outputs)) cellCount (l .i + 1) (j .if3 .outputs)
+    × (j .if3 .moved ≡ false → (not (Bool·beq (outs (l .i)) (bitAt (wires .outputs) (l .i))) || shiftedAt (l .i) wires) ≡ false)
 
 stepped : (j : tie.Joined3 Inv-loop μ-loop) → Stepped j
 unfolding Stepped Asked Met
@@ -274,14 +343,16 @@ stepped j =
     let j1 = j .before .before in
     let at = j1 .before .before .before in
     let l = at .loop in
-    let set = at .before .before .before .before in
+    let shifts = at .before .before .before .before in
+    let set = shifts .before in
     let a = set .before .args in
+    let wires = set .wires-of .result in
     let inside = j1 .before .before .loop-test .taken in
-    let after = cellAfter cellCount (a .full) (a .cells) (a .edited) (a .w) in
-    let outs = outAt cellCount (a .full) (a .cells) (a .edited) (a .w) in
-    let old : Cell = getD (l .next) (l .i) noCell in
+    let after = afterOf (a .full) (a .card) wires in
+    let outs = outsOf (a .full) (a .card) wires in
+    let old : Cell = getD (l .next .cells) (l .i) noCell in
     let last = l .inv .2 .2 (l .i) (le-refl (l .i)) inside in
-    let shift = j .before .bit2 .ensures ∙ set .shifted .ensures (l .i) in
+    let shift = j .before .bit2 .ensures ∙ shifts .shifted .ensures (l .i) in
     ⊎-elim
     (λ w.
     let m : tie.At-match-came Inv-loop μ-loop = record {
@@ -314,11 +385,11 @@ stepped j =
     ))
     (λ w.
     let t = turn-here at inside
-    ∙ turn-slept cellCount (a .full) old (l .i) (a .edited) (a .w) (l .outputs) (sym (asked j1 .0) ∙ w .0 .left) in
+    ∙ turn-slept cellCount (a .full) old (l .i) (a .card .edited) wires (l .outputs) (sym (asked j1 .0) ∙ w .0 .left) in
     let here = within at inside in
-    let behind = behind-at after (l .i) (a .cells) (l .next) noCell (l .inv .1) here in
+    let behind = behind-at after (l .i) (a .card .cells) (l .next .cells) noCell (cells-so at) here in
     let same = last ∙ sym (ap (λ (t : Turn). t .out) t) in (
-      w .1 ∙ listed-kept after (l .i) (a .cells) (l .next) noCell (l .inv .1) (sym (ap (λ (t : Turn). t .cell) t ∙ behind)) here,
+      w .1 ∙ kept-card at (listed-kept after (l .i) (a .card .cells) (l .next .cells) noCell (cells-so at) (sym (ap (λ (t : Turn). t .cell) t ∙ behind)) here),
       rw (w .2) (halfway-kept outs _ cellCount (l .i) (l .outputs) (l .inv .2) same),
       λ still. steady-at _ _ _ (sym same ∙ last) (sym shift ∙ sym (w .3) ∙ still),
     )))
@@ -328,7 +399,7 @@ stepped j =
 next-words : (c : tie.Joined5 Inv-loop μ-loop) → let j = c .before in
     let at = j .before .before .before .before .before in
     let l = at .loop in
-    let w = at .before .before .before .before .before .args .w in
+    let w = at .before .before .before .before .before .wires-of .result in
     ReadsAs (c .if5 .q) (seesNow cellCount (l .i + 1) w (j .if3 .outputs)) (sawLast cellCount (l .i + 1) w)
     × MovesAs (c .if5 .d) (seesNow cellCount (l .i + 1) w (j .if3 .outputs)) (sawLast cellCount (l .i + 1) w) (sawEarlier cellCount (l .i + 1) w)
 unfolding Stepped
@@ -336,19 +407,21 @@ next-words c =
     let j = c .before in
     let at = j .before .before .before .before .before in
     let l = at .loop in
-    let a = at .before .before .before .before .before .args in
+    let set = at .before .before .before .before .before in
+    let a = set .before .args in
+    let wires = set .wires-of .result in
     let step = stepped j in
     let outputs = j .if3 .outputs in
-    let now = seesNow cellCount (l .i + 1) (a .w) outputs in
-    let last = sawLast cellCount (l .i + 1) (a .w) in
-    let earlier = sawEarlier cellCount (l .i + 1) (a .w) in
+    let now = seesNow cellCount (l .i + 1) wires outputs in
+    let last = sawLast cellCount (l .i + 1) wires in
+    let earlier = sawEarlier cellCount (l .i + 1) wires in
     ⊎-elim
     (λ w. (
       subst (λ (q : List ℕ). ReadsAs q now last) (sym (w .3)) (w .1 .ensures),
       subst (λ (d : List ℕ). MovesAs d now last earlier) (sym (w .4)) (w .2 .ensures),
     ))
     (λ w.
-    let kept = words-kept cellCount (l .i) _ (a .w) (l .outputs) outputs (step .2 (w .0 .left))
+    let kept = words-kept cellCount (l .i) _ wires (l .outputs) outputs (step .2 (w .0 .left))
     (λ k h. l .inv .2 .1 k h ∙ sym (step .1 .1 k (omega arith))) (step .1 .1 (l .i) (omega arith))
     (l .q) (l .d) (l .inv .4) (l .inv .5) in
     (subst (λ (q : List ℕ). ReadsAs q now last) (sym (w .1)) (kept .0), subst (λ (d : List ℕ). MovesAs d now last earlier) (sym (w .2)) (kept .1)))
@@ -364,19 +437,27 @@ loop-again c =
     let more : j1 .before .before .before .loop .i + 1 ≤ cellCount = omega (arith, j1 .before .before .loop-test .taken) in
     (more, step .0, step .1, asked j1 .1, words .0, words .1)
 
+ran-with-requires : tie.Need-ran-with-requires Inv-loop μ-loop
+ran-with-requires c κs = search needs
+
 returns : tie.Need-returns Inv-loop μ-loop
 unfolding turned
 returns c =
-    let l = c .before .loop in
-    let a = c .before .before .before .before .before .before .args in
+    let at = c .before .before in
+    let l = at .loop in
+    let set = at .before .before .before .before .before in
+    let a = set .before .args in
+    let wires = set .wires-of .result in
     let end : l .i ≡ cellCount = omega arith in
-    let outs = outAt cellCount (a .full) (a .cells) (a .edited) (a .w) in
-    let wokes = wokeAt cellCount (a .full) (a .cells) (a .edited) (a .w) in
-    let cells = rw end at (l .inv .1) in
+    let outs = outsOf (a .full) (a .card) wires in
+    let wokes = wokesOf (a .full) (a .card) wires in
+    let next = rw end at (l .inv .1) in
     let outputs = halfway-end outs _ cellCount (l .outputs) (rw end at (l .inv .2))
-    ∙ sym (outputs-built cellCount (a .full) (a .cells) (a .edited) (a .w) cellCount) in
+    ∙ sym (outputs-built cellCount (a .full) (a .card .cells) (a .card .edited) wires cellCount) in
     let woken = halfway-end wokes _ cellCount (l .woken) (rw end at (l .inv .3)) in
-    λ k. record { cells = cells k; outputs = outputs k; woken = woken k }
+    c .ran-with .ensures
+    ∙ (λ k. ranWith (next k) (a .l) (turnedTo (next k .cells) (outputs k) (woken k)))
+    ∙ ap (λ (v : Wires). ranWith (a .card) (a .l) (turned cellCount (a .full) (a .card .cells) (a .card .edited) v)) (set .wires-of .ensures)
 
 pub turn-each-spec : {M : Type 1} → statement M
 turn-each-spec =
@@ -384,6 +465,7 @@ turn-each-spec =
     (tie.spec
     Inv-loop
     μ-loop
+    wires-of-requires
     shifted-requires
     due-requires
     words-now-requires
@@ -393,20 +475,20 @@ turn-each-spec =
     cast-bit
     bit-requires
     mul-is-named
-    array-copy-out-is-named
+    element-copy-out-is-named
     is-named-requires
     joined-requires
     cast-bit-2
     bit-requires-2
     mul-worked
-    array-copy-out-worked
+    element-copy-out-worked
     worked-requires
     enum-known-o
     enum-known-s
     mul-cell
-    array-copy-out-cell
-    mul-next
-    array-set-from-next
+    element-copy-out-cell
+    mul-cell-2
+    element-set-from-cell
     cast-bit-3
     bit-requires-3
     flipped-requires
@@ -417,4 +499,5 @@ turn-each-spec =
     add-i
     loop-less
     loop-again
+    ran-with-requires
     returns)
