@@ -181,7 +181,7 @@ fn wires_of(m: Memory, levels: u16) -> Wires
     }
 }
 
-// The card after a tick that ran, whose cells it has already, and its answer.
+// The card after a tick that ran, and its answer. The cells are turned already.
 fn ran_with(card: Card, l: Lines, outputs: CellWord, woken: CellWord) -> Ticked
     ensures { λ r. ⌜ r ≡ ranWith card l (turnedTo (card .cells) outputs woken) ⌝ }
 {
@@ -210,9 +210,9 @@ fn ran_with(card: Card, l: Lines, outputs: CellWord, woken: CellWord) -> Ticked
     }
 }
 
-// A tick that runs: the turns of all cells, in order. The set of woken cells starts as those that are due, and the outputs as those of the last tick, so a cell that
-// sleeps changes neither. The words for the next reader are made anew only where readers above the cell see something else of it, in this tick
-// or the last two, than readers up to it do.
+// A tick that runs: the turns of all cells, in order. The woken set starts as the cells that are due, and the outputs as those of the last tick, so
+// a cell that sleeps changes neither. The words for the next reader are made anew only where readers above the cell see something else of it, in
+// this tick or the last two, than readers up to it do.
 fn turn_each(full: bool, card: Card, l: Lines) -> Ticked
     ensures { λ t. ⌜ t ≡ ranWith card l (turnedIn cellCount full card (l .levels)) ⌝ }
 {
