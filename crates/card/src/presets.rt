@@ -3,7 +3,7 @@ ghost use mathlib.Core.Bool.{not, _||_, cond};
 ghost use mathlib.Core.List.{_++_};
 ghost use mathlib.Core.Option.{Option·getD};
 ghost use mathlib.Core.Path.{_≡_};
-ghost use Prim.Native.Nat.{ℕ, _<_};
+ghost use Prim.Native.Nat.{ℕ, _<_, _≤_};
 ghost use lib.ListN.{getD, drop};
 ghost use Rattle.words.specs.Bits.{bitAt, wordOf};
 ghost use Rattle.words.specs.Listed.{listed};
@@ -337,15 +337,18 @@ fn connectors_under(row: u64, connectors: [Connector; CONNECTORS]) -> [Connector
     next
 }
 
-fn cells_under(row: CellRow, cells: [Cell; CELLS]) -> [Cell; CELLS]
-    ensures { λ r. ⌜ r ≡ listed (λ i. Option·getD (cellUnder (row .0) (row .1) i) (getD cells i noCell)) cellCount ++ drop cellCount cells ⌝ }
+// The first n cells under a row. By recursion, as `edits::cleared`.
+fn cells_under(row: CellRow, cells: [Cell; CELLS], n: u32) -> [Cell; CELLS]
+    requires { ⌜ n ≤ cellCount ⌝ }
+    ensures { λ r. ⌜ r ≡ listed (λ i. Option·getD (cellUnder (row .0) (row .1) i) (getD cells i noCell)) n ++ drop n cells ⌝ }
 {
-    let mut next = cells;
-    for i in 0..CELLS as u32 {
-        let at = i as usize;
-        let c = cell_under(row, i, cells[at]);
-        next[at] = c;
+    if n == 0 {
+        return cells;
     }
+    let i = n - 1;
+    let at = i as usize;
+    let mut next = cells_under(row, cells, i);
+    next[at] = cell_under(row, i, cells[at]);
     next
 }
 
@@ -367,7 +370,7 @@ pub fn apply_preset(card: Card, v: u32) -> Card
     let row = cell_row(v);
     let cells = card.cells;
     let connectors = card.connectors;
-    let set = cells_under(row, cells);
+    let set = cells_under(row, cells, CELLS as u32);
     let routed = connectors_under(source_row(v), connectors);
     let mut next = card;
     next.cells = set;

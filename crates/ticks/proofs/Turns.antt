@@ -2,13 +2,13 @@
 use Prim.Native.Nat.{ℕ, _+_, _*_, _^_, _≤_, _<_}
 use mathlib.Core.Path.{_≡_, refl, sym, ap, _∙_}
 use mathlib.Core.Bool.{Bool, true, false, not, _||_, cond, Bool·beq, true≢false}
-use mathlib.Core.List.{List, _++_}
+use mathlib.Core.List.{List, _++_, map}
 use mathlib.Core.Logic.{⊎-elim}
 use native.Mathlib.Nat.{not-suc-le-zero, eq-or-lt-of-le}
 use native.Mathlib.Numerals.{add-one}
 use native.Mathlib.Omega.{arith}
 use lib.Bits.{bitXor, xor-lt}
-use lib.ListN.{getD, length, drop}
+use lib.ListN.{getD, length, drop, length-map}
 use lib.Pow.{pow-pos}
 use borrow.Author.Tests.{not-false}
 use lib.Seq.{drop-cons, getD-at, append-snoc}
@@ -20,12 +20,39 @@ use Rattle.cells.specs.declared.cell.Cell.{Cell}
 use Rattle.cells.specs.declared.cell.Worked.{Worked}
 use Rattle.cells.specs.Wake.{wakes, stirred, disagree}
 use Rattle.cells.specs.Work.{workOut}
+use Rattle.card.specs.Address.{cellCount}
+use Rattle.card.specs.Edits.{withSettings}
+use Rattle.card.specs.declared.card.Card.{Card}
 use Rattle.ticks.specs.declared.tick.Wires.{Wires}
 use Rattle.ticks.specs.Reading.{slotsRead}
-use Rattle.ticks.specs.Tick.{seesNow, sawLast, sawEarlier, readNow, readLast, withState, workedTurn, sleptTurn, named, turnAt}
+use Rattle.ticks.specs.Tick.{cellAfter, wokeAt, seesNow, sawLast, sawEarlier, readNow, readLast, withState, workedTurn, sleptTurn, named, turnAt}
 use Rattle.ticks.specs.Words.{ReadsAs, MovesAs, shiftedAt}
 use Rattle.ticks.proofs.Sleep.{view-same}
+use Rattle.ticks.proofs.Ticks.{outAt}
 use Rattle.ticks.proofs.Words.{view-step, reads-kept, moves-kept}
+
+-- ---- a tick of a card
+
+-- the definition's cells, outputs and woken cells
+abbrev pub afterOf : Bool → Card → Wires → ℕ → Cell
+afterOf full c w = cellAfter cellCount full (c .cells) (c .edited) w
+
+abbrev pub outsOf : Bool → Card → Wires → ℕ → Bool
+outsOf full c w = outAt cellCount full (c .cells) (c .edited) w
+
+abbrev pub wokesOf : Bool → Card → Wires → ℕ → Bool
+wokesOf full c w = wokeAt cellCount full (c .cells) (c .edited) w
+
+-- the card with other cells, and its cells with the first i turned
+abbrev pub seated : Card → List Cell → Card
+seated c cells = withSettings c (c .trigger) cells (c .connectors) (c .edited)
+
+abbrev pub upTo : Bool → Card → Wires → ℕ → List Cell
+upTo full c w i = listed (afterOf full c w) i ++ drop i (c .cells)
+
+-- what is known of the length of an array in a struct is known of its entries as the machine has them
+pub as-long : (X Y : Type 0) (g : X → Y) (l : List X) (n : ℕ) → length (map g l) ≡ n → length l ≡ n
+as-long X Y g l n e = sym (length-map l g) ∙ e
 
 -- ---- the list of cells
 

@@ -23,6 +23,9 @@ use Rattle.card.proofs.presets.apply_preset.Tie as tie
 cell-row-requires : tie.Need-cell-row-requires
 cell-row-requires c κs = search needs
 
+cast-cells-under : tie.Need-cast-cells-under
+cast-cells-under c = search needs
+
 cells-under-requires : tie.Need-cells-under-requires
 cells-under-requires c κs = search needs
 
@@ -59,6 +62,7 @@ apply-preset-spec =
     tie.close
     (tie.spec
     cell-row-requires
+    cast-cells-under
     cells-under-requires
     source-row-requires
     connectors-under-requires

@@ -161,7 +161,8 @@ put-cells-returns-2 t c =
           (a .out .now) _ _ (done .ensures .0) (omega arith)
           ∙ ap (λ (k : ℕ). sets (a .out .now) triggerLength (fields k)) one,
       ap (λ (k : ℕ). length (fields k)) (sym one)
-          ∙ field-longer (cellField configWidth) width triggerLength i (a .t2) noCell (made .result) (search needs) (made .ensures) (done .ensures .1) (search needs)
+          ∙ field-longer (cellField configWidth) width triggerLength i (a .t2) noCell (made .result) (search needs) (made .ensures) (done .ensures .1)
+          (search needs)
           ∙ ap (λ (k : ℕ). k * width) one,
     )
 

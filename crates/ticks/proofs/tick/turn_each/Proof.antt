@@ -1,62 +1,35 @@
 -- `ticks::tick::turn_each` meets its contract: after i turns the first i cells are those of the definition, both words hold their bits up to there, and
 -- the words that addresses are read from are those of reader i.
 use Prim.Native.Nat.{ℕ, _+_, _-_, _≤_, _<_, zero-le}
-use mathlib.Core.Path.{_≡_, refl, sym, ap, ap₂, subst, _∙_}
+use mathlib.Core.Path.{_≡_, refl, sym, ap, subst, _∙_}
 use mathlib.Core.Bool.{Bool, true, false, not, _||_, Bool·beq, true≢false}
-use mathlib.Core.List.{List, _++_, map}
+use mathlib.Core.List.{List}
 use mathlib.Core.Logic.{⊎-elim}
 use native.Mathlib.Nat.{le-refl}
 use native.Mathlib.Omega.{arith}
-use lib.ListN.{drop, getD, length, length-map}
+use lib.ListN.{getD, length}
 use borrow.Author.Needs.{needs, below-length}
 use borrow.Author.Tests.{not-true, not-false}
-use Rattle.words.specs.Bits.{bitAt, wordOf}
+use Rattle.words.specs.Bits.{bitAt}
 use Rattle.words.specs.Listed.{listed}
 use Rattle.words.proofs.Listed.{listed-next}
 use Rattle.cells.specs.declared.cell.Cell.{Cell}
 use Rattle.cells.specs.declared.work.Effect.{Effect}
 use Rattle.cells.specs.Effect.{workedBy}
 use Rattle.card.specs.Address.{cellCount}
-use Rattle.card.specs.Edits.{withSettings}
 use Rattle.card.specs.Fresh.{noCell}
 use Rattle.card.specs.declared.card.Card.{Card}
 use Rattle.ticks.specs.declared.tick.Wires.{Wires}
 use Rattle.ticks.specs.FastPath.{turnedTo}
-use Rattle.ticks.specs.Tick.{withState, Turn, outputsBelow, turnAt, turnOf, cellAfter, wokeAt, turned, ranWith, seesNow, sawLast, sawEarlier}
+use Rattle.ticks.specs.Tick.{withState, Turn, outputsBelow, turnAt, turnOf, turned, ranWith, seesNow, sawLast, sawEarlier}
 use Rattle.ticks.specs.Words.{ReadsAs, MovesAs, shiftedAt}
-use Rattle.ticks.proofs.Ticks.{outAt, outputs-built}
+use Rattle.ticks.proofs.Ticks.{outputs-built}
+use Rattle.ticks.proofs.Turns.{afterOf, outsOf, wokesOf, seated, upTo, as-long}
 use Rattle.ticks.proofs.Turns.{behind-at, listed-kept, due, woke-asked, woke-due, turn-worked, turn-slept, turn-woke, turn-same, words-kept}
 use Rattle.ticks.proofs.Turns.{Halfway, halfway-start, halfway-kept, halfway-put, halfway-end, same-bit, flips-to, steady-at}
 use Rattle.ticks.proofs.Sleep.{output-bit}
 use Rattle.ticks.proofs.tick.turn_each.Statement.{statement}
 use Rattle.ticks.proofs.tick.turn_each.Tie as tie
-use Rattle.ticks.proofs.tick.turn_each.Reads as reads
-use Rattle.ticks.proofs.tick.turn_each.Lts as lts
-use Rattle.ticks.proofs.tick.due.Reads as due-reads
-use Rattle.ticks.proofs.tick.flipped.Reads as flipped-reads
-use Rattle.ticks.proofs.tick.is_named.Reads as is-named-reads
-use Rattle.ticks.proofs.tick.joined.Reads as joined-reads
-use Rattle.ticks.proofs.tick.shifted.Reads as shifted-reads
-use Rattle.ticks.proofs.tick.worked.Reads as worked-reads
-use Rattle.ticks.proofs.view.words_moved.Reads as words-moved-reads
-use Rattle.ticks.proofs.view.words_now.Reads as words-now-reads
-use Rattle.words.proofs.bit.Reads as bit-reads
-
--- the definition's cells, outputs and woken cells, and the card with the first i cells of a tick
-abbrev afterOf : Bool → Card → Wires → ℕ → Cell
-afterOf full c w = cellAfter cellCount full (c .cells) (c .edited) w
-
-abbrev outsOf : Bool → Card → Wires → ℕ → Bool
-outsOf full c w = outAt cellCount full (c .cells) (c .edited) w
-
-abbrev wokesOf : Bool → Card → Wires → ℕ → Bool
-wokesOf full c w = wokeAt cellCount full (c .cells) (c .edited) w
-
-abbrev seated : Card → List Cell → Card
-seated c cells = withSettings c (c .trigger) cells (c .connectors) (c .edited)
-
-abbrev upTo : Bool → Card → Wires → ℕ → List Cell
-upTo full c w i = listed (afterOf full c w) i ++ drop i (c .cells)
 
 abbrev Inv-loop : tie.InvT-loop
 Inv-loop full l w shifted card outputs₀ woken₀ q₀ d₀ i₀ next outputs woken q d i =
@@ -96,7 +69,8 @@ loop-holds c =
       zero-le,
       refl,
       halfway-start outs (bitAt (wires .outputs)) cellCount (wires .outputs) (search needs) (λ k h. refl),
-      halfway-start wokes (λ k. a .full || bitAt (a .card .edited) k) cellCount (c .before .before .due .result) (search needs) (c .before .before .due .ensures),
+      halfway-start wokes (λ k. a .full || bitAt (a .card .edited) k) cellCount (c .before .before .due .result) (search needs)
+          (c .before .before .due .ensures),
       c .before .words-now .ensures,
       c .words-moved .ensures,
     )
@@ -182,10 +156,7 @@ add-i c = search needs
 loop-less : tie.Need-loop-less Inv-loop μ-loop
 loop-less c = search needs
 
--- there are as many cells as the array in the card has entries: what is known of it is known of its entries as the machine has them
-as-long : (X Y : Type 0) (g : X → Y) (l : List X) (n : ℕ) → length (map g l) ≡ n → length l ≡ n
-as-long X Y g l n e = sym (length-map l g) ∙ e
-
+-- there are as many cells as the array in the card has entries
 sixteen : (c : tie.Start Inv-loop μ-loop) → length (c .args .card .cells) ≡ cellCount
 sixteen c = search (as-long, c .good)
 
