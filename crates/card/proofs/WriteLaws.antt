@@ -11,7 +11,7 @@ use borrow.Author.Tests.{leb-true, ltb-false, eqb-true, eqb-false, not-true, le-
 use Rattle.cells.specs.declared.table.Slots.{Slots}
 use Rattle.cells.specs.declared.table.Row.{Row}
 use Rattle.cells.specs.declared.table.Kept.{Kept}
-use Rattle.cells.specs.declared.table.Kept.the-variants.{Stateless, Bit, Count}
+use Rattle.cells.specs.declared.table.Kept.the-variants.{Stateless, Bit, Count, Counted}
 use Rattle.cells.specs.declared.cell.Cell.{Cell}
 use Rattle.cells.specs.Table.{rowOf}
 use Rattle.cells.proofs.Laws.{or-left, or-right}
@@ -98,6 +98,7 @@ unfolding configuredState
 clear-stays Stateless = refl
 clear-stays Bit = refl
 clear-stays Count = refl
+clear-stays Counted = refl
 
 module _ (n : ℕ) (cell : Cell) (ok : validCell n cell ≡ true) where
   pub config-permitted : rowOf (cell .kind) .configured ≡ true → badConfig (cell .kind) (cell .config) ≡ false

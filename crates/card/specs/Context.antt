@@ -5,15 +5,16 @@ use lib.Dec.{eqb, ltb}
 use lib.ListN.{getD}
 use Rattle.words.specs.Bits.{bitNumber}
 use Rattle.cells.specs.declared.table.Kept.{Kept}
-use Rattle.cells.specs.declared.table.Kept.the-variants.{Stateless, Bit, Count}
+use Rattle.cells.specs.declared.table.Kept.the-variants.{Stateless, Bit, Count, Counted}
 use Rattle.cells.specs.declared.cell.State.{State}
+use Rattle.cells.specs.declared.cell.Cell.{Cell}
 use Rattle.cells.specs.Table.{rowOf}
 use Rattle.card.specs.declared.card.Card.{Card}
 use Rattle.card.specs.declared.context.Context.{Context}
 use Rattle.card.specs.Address.{firstConnector}
 use Rattle.card.specs.Edits.{atCell, currentCell, currentConnector}
 use Rattle.card.specs.Presets.{setsFront}
-use Rattle.card.specs.Valid.{frontTrigger, frontDriven}
+use Rattle.card.specs.Valid.{frontTrigger, frontDriven, isCounted}
 
 -- where the pointer stands and what is there, the trigger source, and the words "as of the last tick"
 abbrev pub contextOf : ℕ → Card → Context
@@ -34,14 +35,19 @@ contextOf n c =
 abbrev pub typeRead : Context → ℕ
 typeRead x = cond (x .celled) (x .cell .kind) (x .connector .kind)
 
-abbrev pub configRead : Context → ℕ
-configRead x = cond (x .celled) (x .cell .config) (x .connector .source)
+-- document 02: of a counter "a CCA Z read gives the count"
+unfoldable pub configShown : Cell → ℕ
+configShown cell = cond (isCounted (rowOf (cell .kind) .kept)) (cell .state .count .0) (cell .config)
 
--- a flip-flop's bit, a timer's count
+abbrev pub configRead : Context → ℕ
+configRead x = cond (x .celled) (configShown (x .cell)) (x .connector .source)
+
+-- a flip-flop's bit, a timer's count, a counter's
 unfoldable pub stateAs : Kept → State → ℕ
 stateAs Stateless s = 0
 stateAs Bit s = bitNumber (s .bit)
 stateAs Count s = s .count .0
+stateAs Counted s = s .count .0
 
 abbrev pub stateRead : Context → ℕ
 stateRead x = stateAs (rowOf (x .cell .kind) .kept) (x .cell .state)

@@ -8,7 +8,7 @@ use lib.ListN.{getD, set, take, drop}
 use Rattle.words.specs.Bits.{withBit}
 use Rattle.cells.specs.declared.table.Slots.{Slots}
 use Rattle.cells.specs.declared.table.Kept.{Kept}
-use Rattle.cells.specs.declared.table.Kept.the-variants.{Stateless, Bit, Count}
+use Rattle.cells.specs.declared.table.Kept.the-variants.{Stateless, Bit, Count, Counted}
 use Rattle.cells.specs.declared.cell.Cell.{Cell}
 use Rattle.cells.specs.declared.cell.State.{State}
 use Rattle.cells.specs.declared.cell.Pulses.{Pulses}
@@ -118,11 +118,12 @@ typed kind = record { kind = kind; config = 0; slots = blankSlots (rowOf kind .e
 unfoldable pub setType : ℕ → Card → ℕ → Card
 setType n c kind = putCell n c (typed kind)
 
--- "Z the configuration (clears a timer's state)"
+-- "Z the configuration (clears a timer's state)"; a counter has no configuration to write
 unfoldable pub configuredState : Kept → State → State
 configuredState Stateless s = s
 configuredState Bit s = s
 configuredState Count s = clearState
+configuredState Counted s = s
 
 unfoldable pub configured : Cell → ℕ → Cell
 configured cell config =
@@ -138,10 +139,15 @@ bitState s bit = record { bit = bit; count = s .count; pulse = s .pulse }
 abbrev pub countState : State → Pulses → State
 countState s count = record { bit = s .bit; count = count; pulse = false }
 
+-- document 02: of a counter F "writes the count and leaves "active" as it is"
+abbrev pub recountedState : State → Pulses → State
+recountedState s count = record { bit = s .bit; count = count; pulse = s .pulse }
+
 unfoldable pub statedAs : Kept → State → ℕ → State
 statedAs Stateless s v = s
 statedAs Bit s v = bitState s (not (eqb v 0))
 statedAs Count s v = countState s (pulses v)
+statedAs Counted s v = recountedState s (pulses v)
 
 unfoldable pub stated : Cell → ℕ → Cell
 stated cell v = cellWith cell (statedAs (rowOf (cell .kind) .kept) (cell .state) v)

@@ -7,6 +7,7 @@ pub mod Context
 pub mod Change
 pub mod Presets
 pub mod Valid
+pub mod Examples
 -- Another view of a rule above, or what only proofs use: laws say that they agree.
 pub mod PresetRows
 pub mod Untouched

@@ -7,7 +7,7 @@ use lib.ListN.{length, getD, take}
 use Rattle.cells.specs.declared.table.Slots.{Slots}
 use Rattle.cells.specs.declared.table.Row.{Row}
 use Rattle.cells.specs.declared.table.Kept.{Kept}
-use Rattle.cells.specs.declared.table.Kept.the-variants.{Stateless, Bit, Count}
+use Rattle.cells.specs.declared.table.Kept.the-variants.{Stateless, Bit, Count, Counted}
 use Rattle.cells.specs.declared.cell.Cell.{Cell}
 use Rattle.cells.specs.Table.{rowOf, typeCount}
 use Rattle.card.specs.declared.card.Card.{Card}
@@ -36,7 +36,7 @@ frontTrigger = 4
 unfoldable pub badPlace : ℕ → ℕ → Bool
 badPlace n p = not (among firstCell n p || among firstConnector connectorCount p)
 
--- 7: "cell type over 18, connector type over 2, clock over 4"
+-- 7: "cell type over 18, connector type over 2, clock over 4", where cell types now go to 22
 unfoldable pub badCellType : ℕ → Bool
 badCellType v = leb typeCount v
 
@@ -102,15 +102,23 @@ validCard n c = valid n (c .trigger) (c .cells) (c .connectors)
 
 -- ---- what a type keeps
 
--- 9, of a read: "a type that has none"
+-- a counter's count stands in the place of a configuration where one is read
+abbrev pub isCounted : Kept → Bool
+isCounted Stateless = false
+isCounted Bit = false
+isCounted Count = false
+isCounted Counted = true
+
+-- 9, of a read: "a type that has none"; document 02: of a counter "a CCA Z read gives the count"
 unfoldable pub noConfig : ℕ → Bool
-noConfig kind = not (rowOf kind .configured)
+noConfig kind = not (rowOf kind .configured || isCounted (rowOf kind .kept))
 
 -- 12: "no state, or over 1 in a flip-flop"
 unfoldable pub badStateAs : Kept → ℕ → Bool
 badStateAs Stateless v = true
 badStateAs Bit v = ltb 1 v
 badStateAs Count v = false
+badStateAs Counted v = false
 
 unfoldable pub badState : ℕ → ℕ → Bool
 badState kind v = badStateAs (rowOf kind .kept) v

@@ -1,7 +1,7 @@
 // What a line goes by, and what its reads give: where the pointer stands and what is there, the trigger source, the words of the last tick.
 ghost use mathlib.Core.Path.{_≡_};
 ghost use Rattle.card.specs.Address.{cellCount};
-ghost use Rattle.card.specs.Context.{contextOf, typeRead, configRead, stateAs, stateRead, slotRead, frontRead, backRead};
+ghost use Rattle.card.specs.Context.{contextOf, typeRead, configShown, configRead, stateAs, stateRead, slotRead, frontRead, backRead};
 ghost use Rattle.card.specs.Context.{drivesFront, presetDrives};
 use crate::card::Card;
 use crate::card::Connector;
@@ -13,6 +13,7 @@ use crate::limits::FIRST_CONNECTOR;
 use crate::limits::FRONT_TRIGGER;
 use crate::presets::sets_front;
 use crate::valid::front_driven;
+use crate::valid::is_counted;
 use cells::cell::Cell;
 use cells::cell::Config;
 use cells::cell::State;
@@ -63,6 +64,21 @@ pub fn read_type(x: Context) -> Value
     }
 }
 
+// A cell's configuration, or a counter's count.
+fn config_shown(cell: Cell) -> Value
+    ensures { λ v. ⌜ v ≡ configShown cell ⌝ }
+{
+    let row = row_of(cell.kind);
+    let kept = row.kept;
+    let s = cell.state;
+    let count = s.count;
+    if is_counted(kept) {
+        count.0
+    } else {
+        cell.config
+    }
+}
+
 // The configuration of the cell, or the source of the connector, at the pointer.
 pub fn read_config(x: Context) -> Value
     ensures { λ v. ⌜ v ≡ configRead x ⌝ }
@@ -70,7 +86,7 @@ pub fn read_config(x: Context) -> Value
     let cell = x.cell;
     let connector = x.connector;
     if x.celled {
-        cell.config
+        config_shown(cell)
     } else {
         connector.source as Value
     }
@@ -84,10 +100,11 @@ fn state_as(kept: Kept, s: State) -> Value
         Kept::Stateless => 0,
         Kept::Bit => if s.bit { 1 } else { 0 },
         Kept::Count => count.0,
+        Kept::Counted => count.0,
     }
 }
 
-// The state of the cell at the pointer: a flip-flop's bit, a timer's count, 0 where it keeps none.
+// The state of the cell at the pointer: a flip-flop's bit, a timer's or a counter's count, 0 where it keeps none.
 pub fn read_state(x: Context) -> Value
     ensures { λ v. ⌜ v ≡ stateRead x ⌝ }
 {

@@ -3,7 +3,7 @@ ghost use mathlib.Core.Path.{_≡_};
 ghost use Prim.Native.Nat.{_<_, _≤_};
 ghost use Rattle.card.specs.Address.{cellCount};
 ghost use Rattle.card.specs.Edits;
-ghost use Rattle.card.specs.Edits.{atCell, currentCell, currentConnector, putCell, putConnector, setTrigger, configuredState, statedAs, wiredSlot, bitState, countState, clearedCells};
+ghost use Rattle.card.specs.Edits.{atCell, currentCell, currentConnector, putCell, putConnector, setTrigger, configuredState, statedAs, wiredSlot, bitState, countState, recountedState, clearedCells};
 ghost use Rattle.card.specs.Edits.{setType, setConfig, setState, wiredSlots, setSlots, setConnectorType, setSource, blankSlot};
 use crate::card::Card;
 use crate::card::Connector;
@@ -196,6 +196,7 @@ fn configured_state(kept: Kept, s: State) -> State
         Kept::Stateless => s,
         Kept::Bit => s,
         Kept::Count => CLEAR,
+        Kept::Counted => s,
     }
 }
 
@@ -230,6 +231,17 @@ fn with_count(s: State, count: Pulses) -> State
     next
 }
 
+// A counter with another count stays active, or inactive.
+fn recounted(s: State, count: Pulses) -> State
+    ensures { λ r. ⌜ r ≡ recountedState s count ⌝ }
+{
+    State {
+        count: count,
+        bit: s.bit,
+        pulse: s.pulse,
+    }
+}
+
 fn stated_as(kept: Kept, s: State, v: Count) -> State
     ensures { λ r. ⌜ r ≡ statedAs kept s v ⌝ }
 {
@@ -237,6 +249,7 @@ fn stated_as(kept: Kept, s: State, v: Count) -> State
         Kept::Stateless => s,
         Kept::Bit => with_bit(s, v != 0),
         Kept::Count => with_count(s, Pulses(v)),
+        Kept::Counted => recounted(s, Pulses(v)),
     }
 }
 

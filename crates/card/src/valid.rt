@@ -4,7 +4,7 @@ ghost use Prim.Native.Nat.{_≤_};
 ghost use lib.ListN.{take};
 ghost use Rattle.card.specs.Address.{cellCount};
 ghost use Rattle.card.specs.Valid.{badPlace, badCellType, badConnectorType, badClock, badConfig, unusedSlot, badAddress, frontDriven};
-ghost use Rattle.card.specs.Valid.{validSlot, validSlots, validCell, validConnector, every, valid, noConfig, badStateAs, badState, noState};
+ghost use Rattle.card.specs.Valid.{validSlot, validSlots, validCell, validConnector, every, valid, isCounted, noConfig, badStateAs, badState, noState};
 use crate::card::Connector;
 use crate::limits::BASES;
 use crate::limits::CELLS;
@@ -161,11 +161,25 @@ pub fn valid_settings(
     clock & (valid_cells(cells, CELLS) & valid_connectors(connectors))
 }
 
+// A counter: its count is read where other types have a configuration.
+pub fn is_counted(kept: Kept) -> bool
+    ensures { λ q. ⌜ q ≡ isCounted kept ⌝ }
+{
+    match kept {
+        Kept::Stateless => false,
+        Kept::Bit => false,
+        Kept::Count => false,
+        Kept::Counted => true,
+    }
+}
+
+// 9, of a read.
 pub fn no_config(kind: u8) -> bool
     ensures { λ q. ⌜ q ≡ noConfig kind ⌝ }
 {
     let row = row_of(kind);
-    !row.configured
+    let kept = row.kept;
+    !(row.configured | is_counted(kept))
 }
 
 fn bad_state_as(kept: Kept, v: u32) -> bool
@@ -175,6 +189,7 @@ fn bad_state_as(kept: Kept, v: u32) -> bool
         Kept::Stateless => true,
         Kept::Bit => 1 < v,
         Kept::Count => false,
+        Kept::Counted => false,
     }
 }
 

@@ -1,12 +1,12 @@
-// Prints what the table says of each cell type, and the course of two timers.
+// Prints what the table says of each cell type, and courses of two timers and of the counters.
 //
 // A chart line: the type, the used slots, the edge slots, the largest configuration; `-` for none.
-// A line of a course: the readings X Y Z, then the count, pulse and output that they lead to.
+// A line of a course: the readings X Y Z F, then the count, bit, pulse and output that they lead to. A counter's bit is "active", where it keeps that.
 ghost use mathlib.Core.Path.{_≡_};
 ghost use Rattle.cells.specs.Effect.{workedBy};
 ghost use Rattle.cells.specs.Reading.{slotsFrom};
-ghost use Rattle.cells.specs.Work.{workOut};
-ghost use Rattle.cellchart.specs.Chart.{digitOf, readingOf, clear, duration, keptAfter};
+ghost use Rattle.cells.specs.Work.{slotsOf, workOut};
+ghost use Rattle.cellchart.specs.Chart.{digitOf, clear, duration, keptAfter};
 use cells::cell::Config;
 use cells::cell::Pulses;
 use cells::cell::State;
@@ -16,6 +16,8 @@ use cells::table::Row;
 use cells::table::Slots;
 use cells::table::TYPES;
 use cells::table::packed;
+use cells::table::row_of;
+use cells::table::unpacked;
 use cells::work::Effect;
 
 // Of both timers.
@@ -23,7 +25,7 @@ const DURATION: Config = 2;
 
 const KINDS: u8 = TYPES as u8;
 
-// A step of a course is the readings X Y Z of a timer, as bits.
+// A step of a course is the readings X Y Z F, as bits.
 const TRIGGER: u8 = 1;
 
 const CLOCK: u8 = 2;
@@ -37,6 +39,39 @@ const DELAY: [u8; 6] = [TRIGGER, CLOCK, CLOCK, CLOCK, BOTH, RESET];
 
 // Two triggers come while it runs, and are ignored. The second brings a clock edge, which counts.
 const ONE_SHOT: [u8; 6] = [TRIGGER, CLOCK, TRIGGER, BOTH, BOTH, RESET];
+
+// Of a counter X is A, or start, and F is B, or stop.
+const A: u8 = 1;
+
+const B: u8 = 8;
+
+const ALL_THREE: u8 = A | CLOCK | B;
+
+// Type 19 counts while A and B are high; its reset takes the count and leaves the output.
+const WHILE_BOTH: [u8; 6] = [
+    A | CLOCK,
+    ALL_THREE,
+    ALL_THREE,
+    CLOCK | B,
+    ALL_THREE | RESET,
+    ALL_THREE,
+];
+
+// Type 20 counts while one of them is.
+const WHILE_EITHER: [u8; 6] = [A | CLOCK, CLOCK | B, CLOCK, ALL_THREE, A | RESET, A | CLOCK];
+
+// Type 21 counts in the tick that starts it and not in the one that stops it; stop wins over start, reset over all; a start keeps the count.
+const FROM_START: [u8; 6] = [
+    A | CLOCK,
+    CLOCK,
+    CLOCK | B,
+    A | CLOCK,
+    ALL_THREE,
+    ALL_THREE | RESET,
+];
+
+// Type 22 does not start again until its count is 0.
+const FROM_START_AT_ZERO: [u8; 6] = [A | CLOCK, CLOCK, CLOCK | B, A | CLOCK, RESET, A | CLOCK];
 
 // Nothing is kept yet.
 const CLEAR: State = State {
@@ -57,15 +92,9 @@ fn digit(b: bool) -> u8
 }
 
 fn reading(step: u8) -> Slots
-    ensures { λ r. ⌜ r ≡ readingOf step ⌝ }
+    ensures { λ r. ⌜ r ≡ slotsOf step ⌝ }
 {
-    let n = step as u64;
-    Slots {
-        x: words::bit(n, 0),
-        y: words::bit(n, 1),
-        z: words::bit(n, 2),
-        f: false,
-    }
+    unpacked(step as u32)
 }
 
 fn put_number(n: u16) {
@@ -96,7 +125,7 @@ fn put_largest(row: Row) {
 }
 
 fn put_row(kind: u8) {
-    let row = cells::table::row_of(kind);
+    let row = row_of(kind);
     let used = row.used;
     let edge = row.edge;
     put_number(kind as u16);
@@ -126,8 +155,10 @@ fn put_step(r: Slots, w: Worked) {
     put_bit(r.x);
     put_bit(r.y);
     put_bit(r.z);
+    put_bit(r.f);
     put_number(count.0);
     put(b' ');
+    put_bit(s.bit);
     put_bit(s.pulse);
     put(digit(w.out));
     put(b'\n');
@@ -154,7 +185,7 @@ fn worked(s: State, e: Effect) -> Worked
     }
 }
 
-// Works out a timer and prints the step. The result is the state that the timer keeps.
+// Works out a cell and prints the step. The result is the state that the cell keeps.
 fn step(kind: u8, s: State, r: Slots) -> State
     ensures { λ t. ⌜ t ≡ workOut kind duration s r .state ⌝ }
 {
@@ -165,19 +196,25 @@ fn step(kind: u8, s: State, r: Slots) -> State
     w.state
 }
 
-fn put_head(kind: u16) {
+fn put_duration(row: Row) {
+    if row.configured {
+        io::write_all(1, b" duration ");
+        put_number(DURATION);
+    }
+}
+
+fn put_head(kind: u8) {
     io::write_all(1, b"type ");
-    put_number(kind);
-    io::write_all(1, b" duration ");
-    put_number(DURATION);
+    put_number(kind as u16);
+    put_duration(row_of(kind));
     put(b'\n');
 }
 
-// A timer's course from nothing kept. The result is what it keeps at the end.
+// A cell's course from nothing kept. The result is what it keeps at the end.
 fn put_course(kind: u8, steps: [u8; 6]) -> State
     ensures { λ s. ⌜ s ≡ keptAfter kind clear steps ⌝ }
 {
-    put_head(kind as u16);
+    put_head(kind);
     let mut s = CLEAR;
     let mut i: usize = 0;
     while i < 6 {
@@ -191,4 +228,8 @@ fn main() {
     put_chart();
     put_course(9, DELAY);
     put_course(14, ONE_SHOT);
+    put_course(19, WHILE_BOTH);
+    put_course(20, WHILE_EITHER);
+    put_course(21, FROM_START);
+    put_course(22, FROM_START_AT_ZERO);
 }

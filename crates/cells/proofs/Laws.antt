@@ -8,14 +8,18 @@ use borrow.Author.Tests.{not-true, ltb-false}
 use Rattle.cells.specs.declared.table.Slots.{Slots}
 use Rattle.cells.specs.declared.table.Row.{Row}
 use Rattle.cells.specs.declared.table.Class.{Class}
-use Rattle.cells.specs.declared.table.Class.the-variants.{Nothing, Constant, Gate, Flop, OneShot, Delay}
+use Rattle.cells.specs.declared.table.Class.the-variants.{Nothing, Constant, Gate, Flop, OneShot, Delay, Counter}
 use Rattle.cells.specs.declared.table.FlopKind.{FlopKind}
 use Rattle.cells.specs.declared.table.FlopKind.the-variants.{DFlop, SyncDFlop, ClearDFlop, Jk}
+use Rattle.cells.specs.declared.table.CounterKind.{CounterKind}
+use Rattle.cells.specs.declared.table.CounterKind.the-variants.{WhileBoth, WhileEither, FromStart, FromStartAtZero}
 use Rattle.cells.specs.declared.cell.State.{State}
 use Rattle.cells.specs.Table.{rowOf, masked, levelSlots, anySlot, slots}
 use Rattle.cells.specs.Work.{constantOut, gateOut, flopNext, trigger, taken, nextCount, nextPulse, countAfter, pulseAfter}
-use Rattle.cells.specs.Work.{keeping, holding, counting, workAs, workOut}
-use Rattle.cells.specs.Wake.{timerStirred, flopClock, stirredAs, stirred, hasEdges, NeverStirred, differ, disagreeOn, disagree, moved, wakes}
+use Rattle.cells.specs.Work.{keeping, holding, counting, activeAfter, startedBy, keptActive, raised, countedUp, countedAs, counter}
+use Rattle.cells.specs.Work.{workAs, workOut}
+use Rattle.cells.specs.Wake.{timerStirred, flopClock, counterStirred, stirredAs, stirred, hasEdges, NeverStirred, differ, disagreeOn}
+use Rattle.cells.specs.Wake.{disagree, moved, wakes}
 use Rattle.cells.proofs.Rows.{every-row}
 
 pub or-left : (a b : Bool) → (a || b) ≡ false → a ≡ false
@@ -57,6 +61,12 @@ flopAlways SyncDFlop = slots false false false false
 flopAlways ClearDFlop = slots false false true false
 flopAlways Jk = slots false false false false
 
+counterAlways : CounterKind → Slots
+counterAlways WhileBoth = slots true false true true
+counterAlways WhileEither = slots true false true true
+counterAlways FromStart = slots false false true false
+counterAlways FromStartAtZero = slots false false true false
+
 always : Class → Slots
 always Nothing = slots false false false false
 always Constant = slots false false false false
@@ -64,12 +74,13 @@ always (Gate g) = slots true true true true
 always (Flop f) = flopAlways f
 always (OneShot t) = slots false false true false
 always (Delay t) = slots false false true false
+always (Counter k) = counterAlways k
 
 rowFits : Row → Bool
 rowFits w = not (anySlot (masked (always (w .class)) (w .edge)))
 
 rows-fit : (kind : ℕ) → rowFits (rowOf kind) ≡ true
-unfolding rowFits always flopAlways
+unfolding rowFits always flopAlways counterAlways
 rows-fit kind = every-row rowFits refl kind
 
 -- two readings agree in every slot that is no edge slot
@@ -176,6 +187,64 @@ pulse-quiet t d s m n z u e h =
     rw (not-taken t n (u .count .0) (quiet-trigger u n h), z)
     (pulse-again (m .z) (n .y) (u .count .0) (u .pulse) _ e (quiet-pulse u n h) (quiet-clock u n h) ∙ e)
 
+stop-again : (z f b : Bool) → cond (z || false) false (cond (z || f) false b) ≡ cond (z || f) false b
+stop-again true f b = refl
+stop-again false f b = refl
+
+-- a counter that is not stirred: the same slots, or neither start nor stop, say whether it is active
+module _ (s : State) (e m n : Slots) (same : Same e m n) where
+  active-again : (k : CounterKind) → Empty (masked (counterAlways k) e) → counterStirred k (counter k s m .state) n ≡ false
+      → activeAfter k n (counter k s m .state .count .0) (counter k s m .state .bit) ≡ activeAfter k m (s .count .0) (s .bit)
+  unfolding counterAlways
+  active-again WhileBoth fit h = rw (same .x (fit .x), same .f (fit .f))
+  active-again WhileEither fit h = rw (same .x (fit .x), same .f (fit .f))
+  active-again FromStart fit h =
+      let edges = or-left (n .x || n .f) _ h in
+      rw (or-left (n .x) (n .f) edges, or-right (n .x) (n .f) edges, same .z (fit .z)) (stop-again (m .z) (m .f) _)
+  active-again FromStartAtZero fit h =
+      let edges = or-left (n .x || n .f) _ h in
+      rw (or-left (n .x) (n .f) edges, or-right (n .x) (n .f) edges, same .z (fit .z)) (stop-again (m .z) (m .f) _)
+
+  -- and its clock finds it inactive
+  clock-idle : (k : CounterKind) → Empty (masked (counterAlways k) e) → counterStirred k (counter k s m .state) n ≡ false
+      → (n .y && activeAfter k m (s .count .0) (s .bit)) ≡ false
+  unfolding counterAlways
+  clock-idle WhileBoth fit h = rw (← same .x (fit .x), ← same .f (fit .f)) h
+  clock-idle WhileEither fit h = rw (← same .x (fit .x), ← same .f (fit .f)) h
+  clock-idle FromStart fit h = or-right (n .x || n .f) _ h
+  clock-idle FromStartAtZero fit h = or-right (n .x || n .f) _ h
+
+  reset-same : (k : CounterKind) → Empty (masked (counterAlways k) e) → n .z ≡ m .z
+  unfolding counterAlways
+  reset-same WhileBoth fit = same .z (fit .z)
+  reset-same WhileEither fit = same .z (fit .z)
+  reset-same FromStart fit = same .z (fit .z)
+  reset-same FromStartAtZero fit = same .z (fit .z)
+
+kept-again : (k : CounterKind) (old new : Bool) → keptActive k (keptActive k old new) new ≡ keptActive k old new
+kept-again WhileBoth old new = refl
+kept-again WhileEither old new = refl
+kept-again FromStart old new = refl
+kept-again FromStartAtZero old new = refl
+
+-- a count that is 0 under reset stays, and so does one that no clock raises
+counted-again : (z a y : Bool) (c v : ℕ) → c ≡ cond z 0 v → (y && a) ≡ false → countedUp z a y c ≡ c
+counted-again true a y c v e h = sym e
+counted-again false false y c v e h = refl
+counted-again false true false c v e h = refl
+counted-again false true true c v e h = absurd (true≢false h)
+
+counter-again : (k : CounterKind) (s : State) (e m n : Slots) → Empty (masked (counterAlways k) e) → Same e m n
+    → counterStirred k (counter k s m .state) n ≡ false → counter k (counter k s m .state) n ≡ counter k s m
+counter-again k s e m n fit same h =
+    let a = activeAfter k m (s .count .0) (s .bit) in
+    let b = keptActive k (s .bit) a in
+    let c = countedUp (m .z) a (m .y) (s .count .0) in
+    let reset = reset-same s e m n same k fit in
+    let stays = counted-again (n .z) a (n .y) c (cond (a && m .y) (raised (s .count .0)) (s .count .0)) (rw reset) (clock-idle s e m n same k fit h) in
+    ap (λ (x : Bool). countedAs s (keptActive k b x) (countedUp (n .z) x (n .y) c) x) (active-again s e m n same k fit h)
+    ∙ (λ i. countedAs s (kept-again k (s .bit) a i) (stays i) a)
+
 again-as : (k : Class) (config : ℕ) (s : State) (e m n : Slots) → Empty (masked (always k) e) → Same e m n
     → stirredAs k (workAs k config s m .state) n ≡ false → workAs k config (workAs k config s m .state) n ≡ workAs k config s m
 unfolding workAs stirredAs always
@@ -193,6 +262,7 @@ again-as (Delay t) config s e m n fit same h =
     let c = count-quiet t config s m n (same .z (fit .z)) u refl h in
     let p = pulse-quiet t config s m n (same .z (fit .z)) u refl h in
     λ i. counting s (c i) (p i) (p i)
+again-as (Counter k) config s e m n fit same h = counter-again k s e m n fit same h
 
 -- after a cell has been worked out, working it out again with readings that agree on the level slots and stir nothing changes nothing
 pub again : (kind config : ℕ) (s : State) (last now : Slots) → disagree kind last now ≡ false
@@ -213,6 +283,12 @@ flopStirs SyncDFlop = slots false true false false
 flopStirs ClearDFlop = slots false true false false
 flopStirs Jk = slots false false true false
 
+counterStirs : CounterKind → Slots
+counterStirs WhileBoth = slots false true false false
+counterStirs WhileEither = slots false true false false
+counterStirs FromStart = slots true true false true
+counterStirs FromStartAtZero = slots true true false true
+
 stirs : Class → Slots
 stirs Nothing = slots false false false false
 stirs Constant = slots false false false false
@@ -220,12 +296,13 @@ stirs (Gate g) = slots false false false false
 stirs (Flop f) = flopStirs f
 stirs (OneShot t) = slots true true false true
 stirs (Delay t) = slots true true false true
+stirs (Counter k) = counterStirs k
 
 rowStirs : Row → Bool
 rowStirs w = not (anySlot (masked (stirs (w .class)) (levelSlots w)))
 
 rows-stir : (kind : ℕ) → rowStirs (rowOf kind) ≡ true
-unfolding rowStirs stirs flopStirs
+unfolding rowStirs stirs flopStirs counterStirs
 rows-stir kind = every-row rowStirs refl kind
 
 flop-still : (f : FlopKind) (r : Slots) → Empty (masked (flopStirs f) r) → flopClock f r ≡ false
@@ -238,6 +315,13 @@ flop-still Jk r e = e .z
 timer-still : (s : State) (r : Slots) → Empty (masked (slots true true false true) r) → timerStirred s r ≡ false
 timer-still s r e = rw (e .x, e .y, e .f)
 
+counter-still : (k : CounterKind) (s : State) (r : Slots) → Empty (masked (counterStirs k) r) → counterStirred k s r ≡ false
+unfolding counterStirs
+counter-still WhileBoth s r e = rw (e .y)
+counter-still WhileEither s r e = rw (e .y)
+counter-still FromStart s r e = rw (e .x, e .y, e .f)
+counter-still FromStartAtZero s r e = rw (e .x, e .y, e .f)
+
 still-as : (k : Class) (s : State) (r : Slots) → Empty (masked (stirs k) r) → stirredAs k s r ≡ false
 unfolding stirs stirredAs
 still-as Nothing s r e = refl
@@ -246,6 +330,7 @@ still-as (Gate g) s r e = refl
 still-as (Flop f) s r e = flop-still f r e
 still-as (OneShot t) s r e = timer-still s r e
 still-as (Delay t) s r e = timer-still s r e
+still-as (Counter k) s r e = counter-still k s r e
 
 slot-still : (s u e a : Bool) → (s && (u && not e)) ≡ false → (e && a) ≡ false → (s && (u && a)) ≡ false
 slot-still false u e a p q = refl

@@ -1,4 +1,5 @@
--- Document 01, "Cells": what a timer does in a tick, as one table by computation on the definitions. The numbers are read from the paper.
+-- Document 01, "Cells", and document 02, "Counter cells": what a timer and a counter do in a tick, as one table by computation on the definitions.
+-- The numbers are read from the papers.
 use Prim.Native.Nat.{ℕ}
 use mathlib.Core.Path.{_≡_, refl}
 use mathlib.Core.Bool.{Bool, true, false}
@@ -6,9 +7,10 @@ use mathlib.Core.List.{List, [], _∷_, map}
 use Rattle.cells.specs.declared.table.Slots.{Slots}
 use Rattle.cells.specs.declared.cell.Worked.{Worked}
 use Rattle.cells.specs.Table.{slots, rowOf}
-use Rattle.cells.specs.Work.{pulses, taken, workAs, workOut}
+use Rattle.cells.specs.Work.{pulses, taken, raised, workAs, workOut}
+use Rattle.cells.specs.Wake.{stirredAs, stirred}
 
--- a timer's count, its pulse and its output
+-- a timer's count, its pulse and its output; of a counter the count, "active" as it is kept, and the output
 abbrev Shown : Type 0
 Shown = ℕ × Bool × Bool
 
@@ -25,6 +27,11 @@ shot kind d count r = shown (timer kind d count false r)
 
 pulsed : (kind d count : ℕ) → Bool → Slots → Shown
 pulsed kind d count pulse r = shown (timer kind d count pulse r)
+
+counted : (kind count : ℕ) → Bool → Slots → Shown
+counted kind count active r =
+    let w = workOut kind 0 (record { count = pulses count; bit = active; pulse = false }) r in
+    (w .state .count .0, w .state .bit, w .out)
 
 -- what is high in the tick: X is the trigger, Y the clock, Z the reset, F the other trigger of types 16 and 17
 abbrev nothing : Slots
@@ -44,6 +51,19 @@ trigger-clock-reset = slots true true true false
 
 abbrev other-trigger-clock : Slots
 other-trigger-clock = slots false true false true
+
+-- of a counter: A, or start, is X; B, or stop, is F
+abbrev a-b-clock : Slots
+a-b-clock = slots true true false true
+
+abbrev a-b-clock-reset : Slots
+a-b-clock-reset = slots true true true true
+
+abbrev start-clock : Slots
+start-clock = slots true true false false
+
+abbrev stop-clock : Slots
+stop-clock = slots false true false true
 
 -- given, expected
 abbrev table : List (Shown × Shown)
@@ -75,8 +95,57 @@ table =
     ∷ (pulsed 15 2 1 false trigger-clock, (0, true, true))
     ∷ (pulsed 17 2 2 false other-trigger-clock, (1, false, false))
     ∷ (pulsed 9 2 1 false trigger-clock, (2, false, false))
+    -- "19 is active while A and B are high, 20 while either is"; "While active, a clock edge adds 1"; neither keeps "active"
+    ∷ (counted 19 4 false a-b-clock, (5, false, true))
+    ∷ (counted 19 4 false start-clock, (4, false, false))
+    ∷ (counted 20 4 false start-clock, (5, false, true))
+    ∷ (counted 20 4 true clock, (4, true, false))
+    -- under reset the count is 0 and the output stays high
+    ∷ (counted 19 4 false a-b-clock-reset, (0, false, true))
+    -- 21: "in the starting tick too and not in the stopping one"; "stop wins over start"; without start it goes on, and a start keeps the count
+    ∷ (counted 21 0 false start-clock, (1, true, true))
+    ∷ (counted 21 4 false start-clock, (5, true, true))
+    ∷ (counted 21 4 true clock, (5, true, true))
+    ∷ (counted 21 4 true stop-clock, (4, false, false))
+    ∷ (counted 21 4 true a-b-clock, (4, false, false))
+    ∷ (counted 21 4 true a-b-clock-reset, (0, false, false))
+    -- "22 obeys start only while its count is 0"
+    ∷ (counted 22 0 false start-clock, (1, true, true))
+    ∷ (counted 22 1 false start-clock, (1, false, false))
+    -- "a count below 65535"
+    ∷ (counted 21 65534 true clock, (65535, true, true))
+    ∷ (counted 21 65535 true clock, (65535, true, true))
     ∷ []
 
 one-table : map (λ (e : Shown × Shown). e .0) table ≡ map (λ (e : Shown × Shown). e .1) table
-unfolding timer shown shot pulsed rowOf taken workAs workOut
+unfolding timer shown shot pulsed counted rowOf taken raised workAs workOut
 one-table = refl
+
+-- ---- who wakes
+
+-- a counter with this count and this "active" is stirred
+wakeful : (kind count : ℕ) → Bool → Slots → Bool
+wakeful kind count active r = stirred kind (record { count = pulses count; bit = active; pulse = false }) r
+
+-- given, expected
+abbrev waking : List (Bool × Bool)
+waking =
+    -- "on a clock while active (19 and 20 by A and B as read in that tick ..."
+    (wakeful 19 0 false a-b-clock, true)
+    ∷ (wakeful 19 0 true start-clock, false)
+    ∷ (wakeful 20 0 false start-clock, true)
+    ∷ (wakeful 20 0 true clock, false)
+    -- "... 21 and 22 by what they kept)", also under reset and at the largest count
+    ∷ (wakeful 21 3 true clock, true)
+    ∷ (wakeful 21 3 false clock, false)
+    ∷ (wakeful 22 65535 true clock, true)
+    ∷ (wakeful 21 3 true (slots false true true false), true)
+    -- "on start, stop", obeyed or not; a held reset does not wake
+    ∷ (wakeful 22 3 false trigger, true)
+    ∷ (wakeful 21 0 false stop-clock, true)
+    ∷ (wakeful 21 3 true (slots false false true false), false)
+    ∷ []
+
+who-wakes : map (λ (e : Bool × Bool). e .0) waking ≡ map (λ (e : Bool × Bool). e .1) waking
+unfolding wakeful rowOf stirredAs stirred
+who-wakes = refl

@@ -1,4 +1,4 @@
--- Document 01, "Cells": the table by cell type.
+-- Document 01, "Cells", and document 02, "Counter cells": the table by cell type.
 -- A slot set and the readings of the slots are both `Slots`: one bit for each of X, Y, Z, F.
 use Prim.Native.Nat.{ℕ}
 use mathlib.Core.Bool.{Bool, true, false, not, _&&_, _||_, cond}
@@ -9,10 +9,11 @@ use Rattle.cells.specs.declared.table.Slots.{Slots}
 use Rattle.cells.specs.declared.table.Row.{Row}
 use Rattle.cells.specs.declared.table.Class.{Class}
 use Rattle.cells.specs.declared.table.Kept.{Kept}
-use Rattle.cells.specs.declared.table.Kept.the-variants.{Stateless, Bit, Count}
-use Rattle.cells.specs.declared.table.Class.the-variants.{Nothing, Constant, Gate, Flop, OneShot, Delay}
+use Rattle.cells.specs.declared.table.Kept.the-variants.{Stateless, Bit, Count, Counted}
+use Rattle.cells.specs.declared.table.Class.the-variants.{Nothing, Constant, Gate, Flop, OneShot, Delay, Counter}
 use Rattle.cells.specs.declared.table.GateKind.the-variants.{Lookup, And2, Or2, Xor2, And4, Or4}
 use Rattle.cells.specs.declared.table.FlopKind.the-variants.{DFlop, SyncDFlop, ClearDFlop, Jk}
+use Rattle.cells.specs.declared.table.CounterKind.the-variants.{WhileBoth, WhileEither, FromStart, FromStartAtZero}
 
 abbrev pub slots : Bool → Bool → Bool → Bool → Slots
 slots x y z f = record { x = x; y = y; z = z; f = f }
@@ -60,7 +61,8 @@ not-retriggerable = false
 abbrev pub chartLine : List (ℕ × Class) → Slots → Slots → Option ℕ → ChartLine
 chartLine types used edge config = record { types = types; used = used; edge = edge; config = config }
 
--- the table of "Cells", in its order
+-- the table of "Cells", in its order, and the counters: "19 and 20 take A, clock, reset, B with the clock edge-sensitive; 21 and 22 take start,
+-- clock, reset, stop with all but reset edge-sensitive"; they have no configuration
 abbrev pub chart : List ChartLine
 chart =
     chartLine ((0, Constant) ∷ []) no-slot no-slot (some largestConfig)
@@ -75,11 +77,13 @@ chart =
     ∷ chartLine ((13, Flop Jk) ∷ []) XYZ only-Z none
     ∷ chartLine ((16, OneShot not-retriggerable) ∷ (17, Delay not-retriggerable) ∷ []) XYZF XYF (some largestConfig)
     ∷ chartLine ((18, Flop ClearDFlop) ∷ []) XYZF only-Y none
+    ∷ chartLine ((19, Counter WhileBoth) ∷ (20, Counter WhileEither) ∷ []) XYZF only-Y none
+    ∷ chartLine ((21, Counter FromStart) ∷ (22, Counter FromStartAtZero) ∷ []) XYZF XYF none
     ∷ []
 
--- the number of cell types: the table has 0 to 18
+-- the number of cell types: "Type codes now go to 22"
 abbrev pub typeCount : ℕ
-typeCount = 19
+typeCount = 23
 
 abbrev pub hasConfig : Option ℕ → Bool
 hasConfig none = false
@@ -89,7 +93,7 @@ abbrev pub configLimit : Option ℕ → ℕ
 configLimit none = 0
 configLimit (some n) = n
 
--- what a class keeps between ticks: "a flip-flop's bit, a timer's count and pulse"
+-- what a class keeps between ticks: "a flip-flop's bit, a timer's count and pulse", a counter's count and "active"
 abbrev pub keptBy : Class → Kept
 keptBy Nothing = Stateless
 keptBy Constant = Stateless
@@ -97,6 +101,7 @@ keptBy (Gate g) = Stateless
 keptBy (Flop f) = Bit
 keptBy (OneShot t) = Count
 keptBy (Delay t) = Count
+keptBy (Counter k) = Counted
 
 -- what a line says of a type that does k
 abbrev pub rowAs : ChartLine → Class → Row

@@ -1,13 +1,15 @@
--- Document 01, "Who wakes": whether a quick tick works out a cell.
+-- Document 01, "Who wakes", and document 02, "Counter cells": whether a quick tick works out a cell.
 use Prim.Native.Nat.{ℕ}
 use mathlib.Core.Path.{_≡_}
 use mathlib.Core.Bool.{Bool, false, not, _&&_, _||_, Bool·beq}
 use lib.Dec.{ltb}
 use Rattle.cells.specs.declared.table.Slots.{Slots}
 use Rattle.cells.specs.declared.table.Class.{Class}
-use Rattle.cells.specs.declared.table.Class.the-variants.{Nothing, Constant, Gate, Flop, OneShot, Delay}
+use Rattle.cells.specs.declared.table.Class.the-variants.{Nothing, Constant, Gate, Flop, OneShot, Delay, Counter}
 use Rattle.cells.specs.declared.table.FlopKind.{FlopKind}
 use Rattle.cells.specs.declared.table.FlopKind.the-variants.{DFlop, SyncDFlop, ClearDFlop, Jk}
+use Rattle.cells.specs.declared.table.CounterKind.{CounterKind}
+use Rattle.cells.specs.declared.table.CounterKind.the-variants.{WhileBoth, WhileEither, FromStart, FromStartAtZero}
 use Rattle.cells.specs.declared.cell.State.{State}
 use Rattle.cells.specs.Table.{rowOf, masked, levelSlots, anySlot}
 use Rattle.cells.specs.Work.{trigger}
@@ -23,6 +25,13 @@ flopClock SyncDFlop r = r .y
 flopClock ClearDFlop r = r .y
 flopClock Jk r = r .z
 
+-- counters wake "on start, stop, and on a clock while active (19 and 20 by A and B as read in that tick, 21 and 22 by what they kept)"
+abbrev pub counterStirred : CounterKind → State → Slots → Bool
+counterStirred WhileBoth s r = r .y && (r .x && r .f)
+counterStirred WhileEither s r = r .y && (r .x || r .f)
+counterStirred FromStart s r = (r .x || r .f) || (r .y && s .bit)
+counterStirred FromStartAtZero s r = (r .x || r .f) || (r .y && s .bit)
+
 -- stirred: "a flip-flop's clock slot is high", or the above; gates and constants are never stirred
 unfoldable pub stirredAs : Class → State → Slots → Bool
 stirredAs Nothing s r = false
@@ -31,6 +40,7 @@ stirredAs (Gate g) s r = false
 stirredAs (Flop f) s r = flopClock f r
 stirredAs (OneShot t) s r = timerStirred s r
 stirredAs (Delay t) s r = timerStirred s r
+stirredAs (Counter k) s r = counterStirred k s r
 
 unfoldable pub stirred : ℕ → State → Slots → Bool
 stirred kind s r = stirredAs (rowOf kind .class) s (masked (rowOf kind .used) r)

@@ -1,4 +1,4 @@
--- Document 01, "Cells": what working out a cell gives, family by family.
+-- Document 01, "Cells", and document 02, "Counter cells": what working out a cell gives, family by family.
 -- In every definition `r` holds the readings of the used slots; a slot that is not used reads low.
 use Prim.Native.Nat.{ℕ, _+_, _-_, _*_}
 use mathlib.Core.Bool.{Bool, true, false, not, _&&_, _||_, Bool·beq, cond}
@@ -6,11 +6,13 @@ use lib.Dec.{eqb, ltb}
 use Rattle.words.specs.Bits.{bitAt, bitNumber}
 use Rattle.cells.specs.declared.table.Slots.{Slots}
 use Rattle.cells.specs.declared.table.Class.{Class}
-use Rattle.cells.specs.declared.table.Class.the-variants.{Nothing, Constant, Gate, Flop, OneShot, Delay}
+use Rattle.cells.specs.declared.table.Class.the-variants.{Nothing, Constant, Gate, Flop, OneShot, Delay, Counter}
 use Rattle.cells.specs.declared.table.GateKind.{GateKind}
 use Rattle.cells.specs.declared.table.GateKind.the-variants.{Lookup, And2, Or2, Xor2, And4, Or4}
 use Rattle.cells.specs.declared.table.FlopKind.{FlopKind}
 use Rattle.cells.specs.declared.table.FlopKind.the-variants.{DFlop, SyncDFlop, ClearDFlop, Jk}
+use Rattle.cells.specs.declared.table.CounterKind.{CounterKind}
+use Rattle.cells.specs.declared.table.CounterKind.the-variants.{WhileBoth, WhileEither, FromStart, FromStartAtZero}
 use Rattle.cells.specs.declared.cell.State.{State}
 use Rattle.cells.specs.declared.cell.Worked.{Worked}
 use Rattle.cells.specs.declared.cell.Pulses.{Pulses}
@@ -112,6 +114,47 @@ oneShot retrigger d s r = counting s (countAfter retrigger d s r) (s .pulse) (lt
 abbrev pub delay : Bool → ℕ → State → Slots → Worked
 delay retrigger d s r = counting s (countAfter retrigger d s r) (pulseAfter retrigger d s r) (pulseAfter retrigger d s r)
 
+-- counters. 21 and 22: "Reset comes before all else: ... 21 and 22 become inactive, and neither start nor clock is obeyed"; "21 becomes active at
+-- start and inactive at stop; stop wins over start"
+abbrev pub startedBy : (obeyed : Bool) → Slots → Bool → Bool
+startedBy obeyed r active = cond (r .z || r .f) false ((r .x && obeyed) || active)
+
+-- "19 is active while A and B are high, 20 while either is"; "22 obeys start only while its count is 0"
+abbrev pub activeAfter : CounterKind → Slots → ℕ → Bool → Bool
+activeAfter WhileBoth r count active = r .x && r .f
+activeAfter WhileEither r count active = r .x || r .f
+activeAfter FromStart r count active = startedBy true r active
+activeAfter FromStartAtZero r count active = startedBy (eqb count 0) r active
+
+-- 21 and 22 keep "active"; 19 and 20 keep only a count, and the bit stays as it was
+abbrev pub keptActive : CounterKind → Bool → Bool → Bool
+keptActive WhileBoth old new = old
+keptActive WhileEither old new = old
+keptActive FromStart old new = new
+keptActive FromStartAtZero old new = new
+
+-- "adds 1 to a count below 65535"
+abbrev pub largestCount : ℕ
+largestCount = 65535
+
+unfoldable pub raised : ℕ → ℕ
+raised count = cond (ltb count largestCount) (count + 1) count
+
+-- "in a tick where it [reset] is high the count becomes 0"; "While active, a clock edge adds 1 ..., in the starting tick too and not in the
+-- stopping one": active is that of this tick
+abbrev pub countedUp : (reset active clock : Bool) → ℕ → ℕ
+countedUp reset active clock count = cond reset 0 (cond (active && clock) (raised count) count)
+
+-- worked out with a new count and a new "active" bit
+abbrev pub countedAs : State → Bool → ℕ → Bool → Worked
+countedAs s active count out = record { state = record { bit = active; count = pulses count; pulse = s .pulse }; out = out }
+
+-- "Output is "active"", under reset too: in 19 and 20 reset takes the count, not the output
+abbrev pub counter : CounterKind → State → Slots → Worked
+counter k s r =
+    let active = activeAfter k r (s .count .0) (s .bit) in
+    countedAs s (keptActive k (s .bit) active) (countedUp (r .z) active (r .y) (s .count .0)) active
+
 -- what each class makes of the configuration, the state and the used readings
 unfoldable pub workAs : Class → ℕ → State → Slots → Worked
 workAs Nothing config s r = keeping s false
@@ -120,6 +163,7 @@ workAs (Gate g) config s r = keeping s (gateOut g config r)
 workAs (Flop f) config s r = holding s (flopNext f r (s .bit))
 workAs (OneShot retrigger) config s r = oneShot retrigger config s r
 workAs (Delay retrigger) config s r = delay retrigger config s r
+workAs (Counter k) config s r = counter k s r
 
 -- a cell of a type, worked out with the readings of its four slots
 unfoldable pub workOut : ℕ → ℕ → State → Slots → Worked

@@ -5,11 +5,12 @@ pub type Config = u16;
 
 pub type Count = Config;
 
-// A number of pulses, which are clock edges and never ticks: a duration, or a count of pulses left.
+// A number of pulses, which are clock edges and never ticks: a duration, a count of pulses left, or a counter's count.
 #[repr(C)]
 pub struct Pulses(pub Count);
 
-// What a cell keeps between ticks, the same for every type: a flip-flop's bit, a timer's count and pulse.
+// What a cell keeps between ticks, the same for every type: a flip-flop's bit, a timer's count and pulse, a counter's count. In a counter that is
+// started and stopped the bit says "active".
 #[repr(C)]
 pub struct State {
     pub count: Pulses,

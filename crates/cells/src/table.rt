@@ -33,6 +33,14 @@ pub enum FlopKind {
     Jk,
 }
 
+// The counters, types 19 to 22: active while A and B are high, or while either is; from start to stop, or so if started at a count of 0.
+pub enum CounterKind {
+    WhileBoth,
+    WhileEither,
+    FromStart,
+    FromStartAtZero,
+}
+
 // What a type does: a family, with what tells its members apart. One-shots and delays say whether they take a trigger while the count is above 0.
 pub enum Class {
     Nothing,
@@ -41,13 +49,15 @@ pub enum Class {
     Flop(FlopKind),
     OneShot(bool),
     Delay(bool),
+    Counter(CounterKind),
 }
 
-// What a type keeps between ticks: nothing, a flip-flop's bit, or a timer's count and pulse.
+// What a type keeps between ticks: nothing, a flip-flop's bit, a timer's count and pulse, or a counter's count and whether it is active.
 pub enum Kept {
     Stateless,
     Bit,
     Count,
+    Counted,
 }
 
 // What the table holds of a type. Without a configuration the largest is 0, and with one it is above 0.
@@ -61,7 +71,7 @@ pub struct Row {
 }
 
 // The number of cell types. A type is a number below it.
-pub const TYPES: usize = 19;
+pub const TYPES: usize = 23;
 
 // Sets of slots, packed: X 1, Y 2, Z 4, F 8. The readings of the four slots are packed in the same way.
 const NONE: u8 = 0;
@@ -101,6 +111,10 @@ const USED: [u8; TYPES] = [
     XYZF,
     XYZF,
     XYZF,
+    XYZF,
+    XYZF,
+    XYZF,
+    XYZF,
 ];
 
 // The edge slots.
@@ -124,6 +138,10 @@ const EDGE: [u8; TYPES] = [
     XYF,
     XYF,
     ONLY_Y,
+    ONLY_Y,
+    ONLY_Y,
+    XYF,
+    XYF,
 ];
 
 // The largest configuration, 0 where there is none.
@@ -146,6 +164,10 @@ const LARGEST: [Config; TYPES] = [
     65535,
     65535,
     65535,
+    0,
+    0,
+    0,
+    0,
     0,
 ];
 
@@ -200,6 +222,10 @@ pub fn class_of(kind: u8) -> Class
         16 => Class::OneShot(false),
         17 => Class::Delay(false),
         18 => Class::Flop(FlopKind::ClearDFlop),
+        19 => Class::Counter(CounterKind::WhileBoth),
+        20 => Class::Counter(CounterKind::WhileEither),
+        21 => Class::Counter(CounterKind::FromStart),
+        22 => Class::Counter(CounterKind::FromStartAtZero),
         _ => Class::Nothing,
     }
 }
@@ -215,6 +241,7 @@ fn kept_by(class: Class) -> Kept
         Class::Flop(_) => Kept::Bit,
         Class::OneShot(_) => Kept::Count,
         Class::Delay(_) => Kept::Count,
+        Class::Counter(_) => Kept::Counted,
     }
 }
 

@@ -4,15 +4,17 @@ ghost use mathlib.Core.Path.{_≡_};
 ghost use Rattle.cells.specs.Table.{masked, anySlot};
 ghost use Rattle.cells.specs.Reading.{readFrom, slotsFrom};
 ghost use Rattle.cells.specs.Wake;
-ghost use Rattle.cells.specs.Wake.{timerStirred, flopClock, stirredAs, hasEdges, moved};
+ghost use Rattle.cells.specs.Wake.{timerStirred, flopClock, counterStirred, stirredAs, hasEdges, moved};
 use crate::cell::State;
 use crate::reading::QUARTERS;
 use crate::reading::four;
 use crate::reading::read;
 use crate::reading::two;
 use crate::table::Class;
+use crate::table::CounterKind;
 use crate::table::FlopKind;
 use crate::table::Slots;
+use crate::table::TYPES;
 use crate::table::class_of;
 use crate::table::unpacked;
 use crate::table::used_of;
@@ -37,6 +39,18 @@ fn flop_clock(flop: FlopKind, r: Slots) -> bool
     }
 }
 
+// A counter's clock while it is active; start and stop of one that has them.
+fn counter_stirred(counter: CounterKind, s: State, r: Slots) -> bool
+    ensures { λ q. ⌜ q ≡ counterStirred counter s r ⌝ }
+{
+    match counter {
+        CounterKind::WhileBoth => r.y & (r.x & r.f),
+        CounterKind::WhileEither => r.y & (r.x | r.f),
+        CounterKind::FromStart => (r.x | r.f) | (r.y & s.bit),
+        CounterKind::FromStartAtZero => (r.x | r.f) | (r.y & s.bit),
+    }
+}
+
 // Whether an edge that matters to the class is high among the used readings.
 fn stirred_as(class: Class, s: State, r: Slots) -> bool
     ensures { λ q. ⌜ q ≡ stirredAs class s r ⌝ }
@@ -48,6 +62,7 @@ fn stirred_as(class: Class, s: State, r: Slots) -> bool
         Class::Flop(flop) => flop_clock(flop, r),
         Class::OneShot(_) => timer_stirred(s, r),
         Class::Delay(_) => timer_stirred(s, r),
+        Class::Counter(counter) => counter_stirred(counter, s, r),
     }
 }
 
@@ -70,32 +85,18 @@ fn within(set: Slots, r: Slots) -> Slots
     }
 }
 
-// Whether a type has edge slots, as its row of the table says. One that has none is never stirred (law `edgeless-still`). A tick on a quiet card asks
-// this of every cell, and a `match` of constants is the cheapest test.
+// The types that have edge slots, a bit for each: a tick on a quiet card asks this of every cell.
+const EDGED: u64 = 0x7ff302;
+
+// Whether a type has edge slots, as its row of the table says. One that has none is never stirred (law `edgeless-still`).
 pub fn has_edges(kind: u8) -> bool
     ensures { λ q. ⌜ q ≡ hasEdges kind ⌝ }
 {
-    match kind {
-        0 => false,
-        1 => true,
-        2 => false,
-        3 => false,
-        4 => false,
-        5 => false,
-        6 => false,
-        7 => false,
-        8 => true,
-        9 => true,
-        10 => false,
-        11 => false,
-        12 => true,
-        13 => true,
-        14 => true,
-        15 => true,
-        16 => true,
-        17 => true,
-        18 => true,
-        _ => false,
+    let n = kind as u32;
+    if n < TYPES as u32 {
+        words::bit(EDGED, n)
+    } else {
+        false
     }
 }
 
@@ -142,6 +143,27 @@ fn timer_wakes(s: State, r: Slots, z: u8, d: &[u64; QUARTERS]) -> bool
     timer_stirred(s, r) || read(d, z)
 }
 
+// A counter is stirred, or A, reset or B reads otherwise; one with start and stop: its reset.
+fn gated_wakes(
+    counter: CounterKind,
+    s: State,
+    r: Slots,
+    x: u8,
+    z: u8,
+    f: u8,
+    d: &[u64; QUARTERS],
+) -> bool
+    ensures { λ q. ⌜ q ≡ (counterStirred counter s r || ((readFrom (now (d .entry)) x || readFrom (now (d .entry)) z) || readFrom (now (d .entry)) f)) ⌝ }
+{
+    counter_stirred(counter, s, r) || moved3(d, x, z, f)
+}
+
+fn started_wakes(counter: CounterKind, s: State, r: Slots, z: u8, d: &[u64; QUARTERS]) -> bool
+    ensures { λ q. ⌜ q ≡ (counterStirred counter s r || readFrom (now (d .entry)) z) ⌝ }
+{
+    counter_stirred(counter, s, r) || read(d, z)
+}
+
 // Whether a cell that is not edited wakes, whose slots hold the addresses x, y, z and f.
 pub fn wakes(
     kind: u8,
@@ -175,6 +197,10 @@ pub fn wakes(
         16 => timer_wakes(s, four(q, x, y, z, f), z, d),
         17 => timer_wakes(s, four(q, x, y, z, f), z, d),
         18 => flop_wakes(x, y, z, f, q, d),
+        19 => gated_wakes(CounterKind::WhileBoth, s, four(q, x, y, z, f), x, z, f, d),
+        20 => gated_wakes(CounterKind::WhileEither, s, four(q, x, y, z, f), x, z, f, d),
+        21 => started_wakes(CounterKind::FromStart, s, four(q, x, y, z, f), z, d),
+        22 => started_wakes(CounterKind::FromStartAtZero, s, four(q, x, y, z, f), z, d),
         _ => false,
     }
 }

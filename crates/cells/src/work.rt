@@ -1,18 +1,20 @@
 // A cell worked out: one function for each family, and the one that picks among them.
 ghost use mathlib.Core.Path.{_≡_};
-ghost use Rattle.cells.specs.declared.table.Class.the-variants.{Flop, OneShot, Delay};
+ghost use Rattle.cells.specs.declared.table.Class.the-variants.{Flop, OneShot, Delay, Counter};
 ghost use Rattle.cells.specs.Reading.{slotsFrom};
 ghost use Rattle.cells.specs.Work;
 ghost use Rattle.cells.specs.Work.{lookupOut, gateOut, dFlop, syncDFlop, clearDFlop, flopNext, nextCount, nextPulse, pulses};
-ghost use Rattle.cells.specs.Work.{countAfter, pulseAfter, workAs, workOut};
+ghost use Rattle.cells.specs.Work.{countAfter, pulseAfter, startedBy, activeAfter, keptActive, countedUp, workAs, workOut};
 ghost use Rattle.cells.specs.Effect.{workedBy};
 use crate::cell::Config;
+use crate::cell::Count;
 use crate::cell::Pulses;
 use crate::cell::State;
 use crate::reading::QUARTERS;
 use crate::reading::four;
 use crate::reading::three;
 use crate::reading::two;
+use crate::table::CounterKind;
 use crate::table::FlopKind;
 use crate::table::GateKind;
 use crate::table::Slots;
@@ -168,6 +170,70 @@ fn pulse_after(retrigger: bool, d: Pulses, s: State, r: Slots) -> bool
     next_pulse(r.z, took, r.y, d, s.count, s.pulse)
 }
 
+// ---- counters
+
+// The largest count.
+const LARGEST_COUNT: Count = 65535;
+
+// Whether a counter that is started and stopped is active after this tick. `obeyed` says whether a start counts.
+fn started_by(obeyed: bool, r: Slots, active: bool) -> bool
+    ensures { λ q. ⌜ q ≡ startedBy obeyed r active ⌝ }
+{
+    if r.z | r.f {
+        false
+    } else {
+        (r.x & obeyed) | active
+    }
+}
+
+// Whether a counter is active in this tick, from what it kept.
+fn active_after(counter: CounterKind, r: Slots, count: Pulses, active: bool) -> bool
+    ensures { λ q. ⌜ q ≡ activeAfter counter r (count .0) active ⌝ }
+{
+    match counter {
+        CounterKind::WhileBoth => r.x & r.f,
+        CounterKind::WhileEither => r.x | r.f,
+        CounterKind::FromStart => started_by(true, r, active),
+        CounterKind::FromStartAtZero => started_by(count.0 == 0, r, active),
+    }
+}
+
+// What it keeps of that.
+fn kept_active(counter: CounterKind, old: bool, new: bool) -> bool
+    ensures { λ q. ⌜ q ≡ keptActive counter old new ⌝ }
+{
+    match counter {
+        CounterKind::WhileBoth => old,
+        CounterKind::WhileEither => old,
+        CounterKind::FromStart => new,
+        CounterKind::FromStartAtZero => new,
+    }
+}
+
+// A count with one more, if there is room.
+fn raised(count: Pulses) -> Pulses
+    ensures { λ n. ⌜ n ≡ pulses (Work.raised (count .0)) ⌝ }
+{
+    if count.0 < LARGEST_COUNT {
+        Pulses(count.0 + 1)
+    } else {
+        count
+    }
+}
+
+// A counter's count.
+fn counted_up(reset: bool, active: bool, clock: bool, count: Pulses) -> Pulses
+    ensures { λ n. ⌜ n ≡ pulses (countedUp reset active clock (count .0)) ⌝ }
+{
+    if reset {
+        Pulses(0)
+    } else if active & clock {
+        raised(count)
+    } else {
+        count
+    }
+}
+
 // What working a cell out gives: the same state and an output, or a new state and an output. A caller writes back only a new one.
 pub enum Effect {
     Same(bool),
@@ -204,6 +270,18 @@ fn delay(retrigger: bool, config: Config, s: State, r: Slots) -> Effect
     Effect::Next(next, pulse)
 }
 
+fn counter(counter: CounterKind, s: State, r: Slots) -> Effect
+    ensures { λ e. ⌜ workedBy s e ≡ workAs (Counter counter) 0 s r ⌝ }
+{
+    let active = active_after(counter, r, s.count, s.bit);
+    let count = counted_up(r.z, active, r.y, s.count);
+    let bit = kept_active(counter, s.bit, active);
+    let mut next = s;
+    next.count = count;
+    next.bit = bit;
+    Effect::Next(next, active)
+}
+
 // A cell worked out, whose slots hold the addresses x, y, z and f. Each arm reads the slots that its type uses. A number past the table is no type:
 // such a cell does nothing.
 pub fn work(
@@ -238,6 +316,10 @@ pub fn work(
         16 => one_shot(false, config, s, four(q, x, y, z, f)),
         17 => delay(false, config, s, four(q, x, y, z, f)),
         18 => flop(FlopKind::ClearDFlop, s, four(q, x, y, z, f)),
+        19 => counter(CounterKind::WhileBoth, s, four(q, x, y, z, f)),
+        20 => counter(CounterKind::WhileEither, s, four(q, x, y, z, f)),
+        21 => counter(CounterKind::FromStart, s, four(q, x, y, z, f)),
+        22 => counter(CounterKind::FromStartAtZero, s, four(q, x, y, z, f)),
         _ => Effect::Same(false),
     }
 }

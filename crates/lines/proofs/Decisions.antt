@@ -6,7 +6,7 @@ use native.Mathlib.Nat.{mod-eq-of-lt}
 use native.Mathlib.Omega.{arith}
 use lib.Dec.{eqb, eqb·suc-zero}
 use borrow.Author.Tests.{ltb-false, leb-false, not-false}
-use Rattle.cells.specs.Table.{slots}
+use Rattle.cells.specs.Table.{slots, typeCount}
 use Rattle.cells.proofs.Laws.{or-left, or-right}
 use Rattle.card.specs.declared.change.Change.{Change}
 use Rattle.card.specs.declared.change.Wires.{Wires}
@@ -80,7 +80,7 @@ clock-fits v h = let g = ltb-false 4 v h in omega arith
 
 pub kind-fits : (v : ℕ) → badCellType v ≡ false → v < 256
 unfolding badCellType
-kind-fits v h = let g = leb-false 19 v h in omega arith
+kind-fits v h = let g = leb-false typeCount v h in omega arith
 
 pub connector-fits : (v : ℕ) → badConnectorType v ≡ false → v < 256
 unfolding badConnectorType

@@ -1,5 +1,5 @@
 -- Document 01's last box: "Proved in one table, by computation on the definitions: 192, 128, codes 34952 and 65520 at p = 0, 3, 4, 8, JK 11, delay
--- 0, the four ticks above." With them the presets that are offered.
+-- 0, the four ticks above." With them the presets that are offered, and document 02's counter that is started once.
 use Prim.Native.Nat.{ℕ}
 use Prim.Native.String.{String}
 use mathlib.Core.Path.{_≡_, refl}
@@ -10,19 +10,20 @@ use lib.ListN.{replicate}
 use Rattle.words.specs.Bits.{withBit, wordOf, bitAt}
 use Rattle.words.specs.Listed.{listed}
 use Rattle.text.specs.Digits.{valueBy}
-use Rattle.text.specs.Decimal.{isDigit, digitsOf, leads, plain, numberIn, numberAt}
+use Rattle.text.specs.Decimal.{isDigit, digitsOf, leads, plain, numberIn, numberAt, decimalFrom, decimal}
 use Rattle.text.specs.Written.{bytesOf}
 use Rattle.cells.specs.declared.cell.Worked.{Worked}
 use Rattle.cells.specs.Table.{slots, rowOf}
-use Rattle.cells.specs.Work.{slotsOf, taken, workAs, workOut}
+use Rattle.cells.specs.Work.{slotsOf, taken, raised, workAs, workOut}
 use Rattle.cells.specs.Wake.{stirredAs, stirred, disagree, wakes}
 use Rattle.card.specs.Address.{cellCount}
 use Rattle.card.specs.Edits.{bitState, move, currentCell, currentConnector, putCell, putConnector, typed, setType, configuredState, configured, setConfig}
-use Rattle.card.specs.Edits.{wired, setSlots, setSource}
+use Rattle.card.specs.Edits.{statedAs, stated, setState, wired, setSlots, setSource}
+use Rattle.card.specs.Context.{configShown, stateAs}
 use Rattle.card.specs.Change.{changed}
 use Rattle.card.specs.Fresh.{clearState, fresh}
 use Rattle.card.specs.Presets.{numbers, presetTable, settingOf, offered}
-use Rattle.card.specs.Valid.{permittedBase, badPlace, badCellType, badConfig, unusedSlot, badAddress}
+use Rattle.card.specs.Valid.{permittedBase, badPlace, badCellType, badConfig, unusedSlot, badAddress, noConfig, badStateAs, badState, noState}
 use Rattle.ticks.specs.Reading.{levelAt, readsLevels, reads, slotsRead, mixed, view}
 use Rattle.ticks.specs.Levels.{linesOf}
 use Rattle.ticks.specs.Tick.{readNow, readLast, named, turnAt, outputsBelow, turned, tick}
@@ -88,9 +89,12 @@ offeredOf (v ∷ vs) = taking (offered v) v (offeredOf vs)
 line : String → Call
 line text = Calls.Call.line (bytesOf text) (replicate shortestReply 0) []
 
--- `T 0 0100 Q`
+-- `T 0 w Q`, and `T 0 0100 Q`
+quickWith : ℕ → Call
+quickWith w = Calls.Call.tick false (record { code = 0; sample = w })
+
 quick : Call
-quick = Calls.Call.tick false (record { code = 0; sample = 0x0100 })
+quick = quickWith 0x0100
 
 run : List Call
 run =
@@ -106,8 +110,28 @@ run =
     ∷ quick
     ∷ []
 
+-- document 02: a counter of type 22, started by TTL0 and stopped by TTL1, its clock in every tick; its count bars a start, and `F=0` frees it
+counterRun : List Call
+counterRun =
+    line "36CCA Y=22"
+    ∷ line "36CCB X=41 Y=192 F=42"
+    ∷ quickWith 0x0100
+    ∷ line "36CCA F=7"
+    ∷ quickWith 0x0100
+    ∷ line "36CCA Z?"
+    ∷ quickWith 0x0200
+    ∷ quickWith 0x0100
+    ∷ line "36CCA F=0"
+    ∷ quickWith 0x0000
+    ∷ quickWith 0x0100
+    ∷ line "36CCA F?"
+    ∷ []
+
+said : String → Reply
+said text = lineReply 0 (bytesOf text) []
+
 accepted : Reply
-accepted = lineReply 0 (bytesOf ":A\r\n") []
+accepted = said ":A\r\n"
 
 ran : (driven cells woken count : ℕ) → Reply
 ran driven cells woken count = tickReply (record { ran = true; driven = driven; cells = cells; woken = woken; count = count })
@@ -164,8 +188,25 @@ box =
           ∷ ran 0x0000 0x0000 0x0000 0
           ∷ []),
     )
+    -- "22 obeys start only while its count is 0": started, its count written while it is active, stopped, barred, freed, started
+    ∷ (
+      replies (answers cellCount fresh counterRun),
+      replies (
+          accepted ∷ accepted
+          ∷ ran 0x0000 0x0001 0x0001 1
+          ∷ accepted
+          ∷ ran 0x0000 0x0001 0x0001 1
+          ∷ said ":A 8\r\n"
+          ∷ ran 0x0000 0x0000 0x0001 1
+          ∷ ran 0x0000 0x0000 0x0001 1
+          ∷ accepted
+          ∷ ran 0x0000 0x0000 0x0001 1
+          ∷ ran 0x0000 0x0001 0x0001 1
+          ∷ said ":A 1\r\n"
+          ∷ []),
+    )
     ∷ []
 
 one-table : map (λ (e : Entry × Entry). e .0) box ≡ map (λ (e : Entry × Entry). e .1) box
-unfolding low high read lookup jk11 triggered clocked taking offeredOf line quick run accepted ran bytesOf ones onesIn withBit wordOf bitAt listed valueBy isDigit digitsOf leads plain numberIn numberAt rowOf slotsOf taken workAs workOut stirredAs stirred disagree wakes levelAt readsLevels reads slotsRead mixed view linesOf move currentCell currentConnector putCell putConnector typed setType configuredState configured setConfig wired setSlots setSource fresh presetTable settingOf offered readNow readLast named turnAt outputsBelow turned tick permittedBase badPlace badCellType badConfig unusedSlot badAddress isWord isWhole toEnd slotOf gave give pairRead pairsOf writeOf ccaWrite ccaRead ccaForm slotForm ccbForm readOf readForm cardForm plainForm addressed parse alone refusal changed changeFor responseTo decision decisionFor lineDecision lineOutcome replyOf Line.lineReply savedBytes afterCall answer answers
+unfolding low high read lookup jk11 triggered clocked taking offeredOf line quickWith quick run counterRun said accepted ran bytesOf ones onesIn withBit wordOf bitAt listed valueBy isDigit digitsOf leads plain numberIn numberAt decimalFrom decimal rowOf slotsOf taken raised workAs workOut stirredAs stirred disagree wakes levelAt readsLevels reads slotsRead mixed view linesOf move currentCell currentConnector putCell putConnector typed setType configuredState configured setConfig statedAs stated setState wired setSlots setSource configShown stateAs fresh presetTable settingOf offered readNow readLast named turnAt outputsBelow turned tick permittedBase badPlace badCellType badConfig unusedSlot badAddress noConfig badStateAs badState noState isWord isWhole toEnd slotOf gave give pairRead pairsOf writeOf ccaWrite ccaRead ccaForm slotForm ccbForm readOf readForm cardForm plainForm addressed parse alone refusal changed changeFor responseTo decision decisionFor lineDecision lineOutcome replyOf Line.lineReply savedBytes afterCall answer answers
 one-table = refl

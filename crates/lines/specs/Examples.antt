@@ -72,13 +72,18 @@ numbers =
     ∷ (number (at 33) "36CCB X=20", 6)
     -- 6, of a read
     ∷ (number (at 33) "36CCA F?", 6)
-    ∷ (number fresh "36CCA Y=19", 7)
+    ∷ (number fresh "36CCA Y=23", 7)
     -- 7: before 13
     ∷ (number (withPointer frontCard 33) "36CCA Y=3", 7)
     ∷ (number fresh "36CCA X=51", 8)
     ∷ (number (typedCard 2) "36CCA Z=16", 9)
     -- 9, of a read
     ∷ (number (typedCard 5) "36CCA Z?", 9)
+    -- 9: a counter has no configuration to write, and 4 comes before; its count is read
+    ∷ (number (typedCard 19) "36CCA Z=0", 9)
+    ∷ (number (typedCard 22) "36CCA Z=65536", 4)
+    ∷ (number (typedCard 22) "36CCA Z?", 0)
+    ∷ (number (typedCard 21) "36CCA F=65535", 0)
     ∷ (number (typedCard 5) "36CCB F=1", 10)
     -- 10: before 11
     ∷ (number (typedCard 5) "36CCB X=20 F=1", 10)

@@ -131,8 +131,8 @@ table =
     ∷ (load (part 0 4 ++ part 15 11 ++ part 4 11 ++ part 26 250), 14 ∷ [])
     ∷ (load (part 0 180 ++ part 186 6 ++ part 180 6 ++ part 192 84), 14 ∷ [])
     ∷ (load (part 0 4 ++ part 180 96 ++ part 4 176), 14 ∷ [])
-    -- 15: "cell type over 18, connector type over 2, clock over 4"
-    ∷ (with ((8, 19) ∷ (9, 0) ∷ (10, 0) ∷ []), 15 ∷ [])
+    -- 15: "cell type over 18, connector type over 2, clock over 4", where cell types now go to 22
+    ∷ (with ((8, 23) ∷ (9, 0) ∷ (10, 0) ∷ []), 15 ∷ [])
     ∷ (with ((184, 3) ∷ []), 15 ∷ [])
     ∷ (with ((3, 5) ∷ []), 15 ∷ [])
     -- 15: a configuration over its range, 16 in type 2 and 256 in type 3, and one of types that have none
@@ -140,6 +140,9 @@ table =
     ∷ (with ((42, 1) ∷ (43, 0) ∷ []), 15 ∷ [])
     ∷ (with ((65, 1) ∷ []), 15 ∷ [])
     ∷ (with ((20, 1) ∷ []), 15 ∷ [])
+    -- "A record holds 0 as a counter's configuration"
+    ∷ (with ((8, 19) ∷ (9, 0) ∷ (10, 0) ∷ (12, 128) ∷ []), 0 ∷ [])
+    ∷ (with ((8, 19) ∷ (9, 0) ∷ (10, 1) ∷ (12, 128) ∷ []), 15 ∷ [])
     -- 15: "unused slot ... not 0", Z of AND2 and X of a constant
     ∷ (with ((68, 1) ∷ []), 15 ∷ [])
     ∷ (with ((11, 64) ∷ []), 15 ∷ [])
@@ -150,6 +153,10 @@ table =
     ∷ (with ((156, 127) ∷ []), 15 ∷ [])
     ∷ (with ((99, 97) ∷ []), 15 ∷ [])
     ∷ (with ((168, 3) ∷ []), 15 ∷ [])
+    -- the same of the counters: the clock of type 19, the stop of type 21
+    ∷ (with ((8, 19) ∷ (9, 0) ∷ (10, 0) ∷ (12, 127) ∷ []), 15 ∷ [])
+    ∷ (with ((8, 21) ∷ (9, 0) ∷ (10, 0) ∷ (11, 128) ∷ (12, 128) ∷ (14, 42) ∷ []), 15 ∷ [])
+    ∷ (with ((8, 21) ∷ (9, 0) ∷ (10, 0) ∷ (11, 128) ∷ (12, 128) ∷ (14, 170) ∷ []), 0 ∷ [])
     -- 15: a reserved source, of an output and of an input; a reserved address in a slot, as a level and as an edge
     ∷ (with ((185, 17) ∷ []), 15 ∷ [])
     ∷ (with ((197, 49) ∷ []), 15 ∷ [])

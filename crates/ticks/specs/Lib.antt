@@ -3,6 +3,7 @@ pub mod Reading
 pub mod Levels
 pub mod Tick
 pub mod Rest
+pub mod Counting
 pub mod Examples
 pub mod RestExamples
 -- Another view of a rule above, or what only proofs use: laws say that they agree.

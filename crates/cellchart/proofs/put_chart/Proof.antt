@@ -1,15 +1,16 @@
--- `cellchart::put_chart` is safe and ends: the type stays at most 19, and each turn leaves one type fewer to print.
+-- `cellchart::put_chart` is safe and ends: the type stays within the table, and each turn leaves one type fewer to print.
 use Prim.Native.Nat.{_≤_, _-_}
 use native.Mathlib.Omega.{arith}
 use borrow.Author.Needs.{needs}
+use Rattle.cells.specs.Table.{typeCount}
 use Rattle.cellchart.proofs.put_chart.Statement.{statement}
 use Rattle.cellchart.proofs.put_chart.Tie as tie
 
 abbrev Inv-loop : tie.InvT-loop
-Inv-loop kind₀ kind = kind ≤ 19
+Inv-loop kind₀ kind = kind ≤ typeCount
 
 abbrev μ-loop : tie.MeasureT-loop
-μ-loop kind₀ kind = 19 - kind
+μ-loop kind₀ kind = typeCount - kind
 
 loop-holds : tie.Need-loop-holds Inv-loop μ-loop
 loop-holds c = omega arith

@@ -9,14 +9,14 @@ use borrow.Author.Needs.{needs}
 use lib.ListN.{drop, getD, length}
 use lib.Seq.{drop-cons, drop-length}
 use Rattle.cells.specs.declared.cell.State.{State}
-use Rattle.cells.specs.Work.{workOut}
-use Rattle.cellchart.specs.Chart.{readingOf, clear, duration, keptAfter}
+use Rattle.cells.specs.Work.{slotsOf, workOut}
+use Rattle.cellchart.specs.Chart.{clear, duration, keptAfter}
 use Rattle.cellchart.proofs.put_course.Statement.{statement}
 use Rattle.cellchart.proofs.put_course.Tie as tie
 
 -- the course from step i on: step i, and then the rest
 next : (kind : ℕ) (s : State) (steps : List ℕ) (i : ℕ) → i < length steps
-    → keptAfter kind (workOut kind duration s (readingOf (getD steps i 0)) .state) (drop (i + 1) steps) ≡ keptAfter kind s (drop i steps)
+    → keptAfter kind (workOut kind duration s (slotsOf (getD steps i 0)) .state) (drop (i + 1) steps) ≡ keptAfter kind s (drop i steps)
 next kind s steps i h = rw (add-one, drop-cons steps i 0)
 
 -- past the last step nothing is left

@@ -19,6 +19,12 @@ enum-told-3 c = search needs
 with-count-requires : tie.Need-with-count-requires
 with-count-requires c κs = search needs
 
+enum-told-4 : tie.Need-enum-told-4
+enum-told-4 c = search needs
+
+recounted-requires : tie.Need-recounted-requires
+recounted-requires c κs = search needs
+
 returns : tie.Need-returns
 unfolding statedAs
 returns c = rw (c .enum-told .given .1)
@@ -31,6 +37,10 @@ returns-3 : tie.Need-returns-3
 unfolding statedAs
 returns-3 c = rw (c .before .enum-told3 .given .1, c .with-count .ensures)
 
+returns-4 : tie.Need-returns-4
+unfolding statedAs
+returns-4 c = rw (c .before .enum-told4 .given .1, c .recounted .ensures)
+
 pub stated-as-spec : {M : Type 1} → statement M
 stated-as-spec =
     tie.close
@@ -40,6 +50,9 @@ stated-as-spec =
     with-bit-requires
     enum-told-3
     with-count-requires
+    enum-told-4
+    recounted-requires
     returns
     returns-2
-    returns-3)
+    returns-3
+    returns-4)

@@ -87,10 +87,27 @@ unfolding rowOf
 returns-19 c = at _ 18 (c .match .keys19)
 
 returns-20 : tie.Need-returns-20
-returns-20 c = sym (ap (λ (r : Row). r .class) (past-types _ (c .match .rest)))
+unfolding rowOf
+returns-20 c = at _ 19 (c .match .keys20)
+
+returns-21 : tie.Need-returns-21
+unfolding rowOf
+returns-21 c = at _ 20 (c .match .keys21)
+
+returns-22 : tie.Need-returns-22
+unfolding rowOf
+returns-22 c = at _ 21 (c .match .keys22)
+
+returns-23 : tie.Need-returns-23
+unfolding rowOf
+returns-23 c = at _ 22 (c .match .keys23)
+
+returns-24 : tie.Need-returns-24
+returns-24 c = sym (ap (λ (r : Row). r .class) (past-types _ (c .match .rest)))
 
 pub class-of-spec : {M : Type 1} → statement M
 class-of-spec =
     tie.close
     (tie.spec returns returns-2 returns-3 returns-4 returns-5 returns-6 returns-7 returns-8 returns-9 returns-10
-    returns-11 returns-12 returns-13 returns-14 returns-15 returns-16 returns-17 returns-18 returns-19 returns-20)
+    returns-11 returns-12 returns-13 returns-14 returns-15 returns-16 returns-17 returns-18 returns-19 returns-20
+    returns-21 returns-22 returns-23 returns-24)

@@ -31,6 +31,12 @@ enum-told-5 c = search needs
 timer-stirred-requires-2 : tie.Need-timer-stirred-requires-2
 timer-stirred-requires-2 c κs = search needs
 
+enum-known-class-2 : tie.Need-enum-known-class-2
+enum-known-class-2 c = search needs
+
+counter-stirred-requires : tie.Need-counter-stirred-requires
+counter-stirred-requires c κs = search needs
+
 returns : tie.Need-returns
 unfolding stirredAs
 returns c = rw (c .enum-told .given .1)
@@ -55,6 +61,10 @@ returns-6 : tie.Need-returns-6
 unfolding stirredAs
 returns-6 c = rw (c .before .enum-told5 .given .1, c .timer-stirred2 .ensures)
 
+returns-7 : tie.Need-returns-7
+unfolding stirredAs
+returns-7 c = rw (c .before .before .class2 .given .1, c .counter-stirred .ensures)
+
 pub stirred-as-spec : {M : Type 1} → statement M
 stirred-as-spec =
     tie.close
@@ -68,9 +78,12 @@ stirred-as-spec =
     timer-stirred-requires
     enum-told-5
     timer-stirred-requires-2
+    enum-known-class-2
+    counter-stirred-requires
     returns
     returns-2
     returns-3
     returns-4
     returns-5
-    returns-6)
+    returns-6
+    returns-7)

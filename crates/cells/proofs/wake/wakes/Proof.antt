@@ -8,7 +8,8 @@ use Rattle.cells.specs.declared.cell.State.{State}
 use Rattle.cells.specs.Table.{rowOf, masked, levelSlots, anySlot, slots, no-row}
 use Rattle.cells.specs.Reading.{readFrom, slotsFrom}
 use Rattle.cells.specs.Wake
-use Rattle.cells.specs.Wake.{timerStirred, stirredAs, moved}
+use Rattle.cells.specs.declared.table.CounterKind.the-variants.{WhileBoth, WhileEither, FromStart, FromStartAtZero}
+use Rattle.cells.specs.Wake.{timerStirred, counterStirred, stirredAs, moved}
 use Rattle.cells.proofs.Rows.{past-types}
 use borrow.Author.Needs.{needs}
 use Rattle.cells.proofs.wake.wakes.Statement.{statement}
@@ -86,6 +87,30 @@ timer-wakes-requires-6 c κs = search needs
 flop-wakes-requires-3 : tie.Need-flop-wakes-requires-3
 flop-wakes-requires-3 c κs = search needs
 
+four-requires-3 : tie.Need-four-requires-3
+four-requires-3 c κs = search needs
+
+gated-wakes-requires : tie.Need-gated-wakes-requires
+gated-wakes-requires c κs = search needs
+
+four-requires-4 : tie.Need-four-requires-4
+four-requires-4 c κs = search needs
+
+gated-wakes-requires-2 : tie.Need-gated-wakes-requires-2
+gated-wakes-requires-2 c κs = search needs
+
+four-requires-5 : tie.Need-four-requires-5
+four-requires-5 c κs = search needs
+
+started-wakes-requires : tie.Need-started-wakes-requires
+started-wakes-requires c κs = search needs
+
+four-requires-6 : tie.Need-four-requires-6
+four-requires-6 c κs = search needs
+
+started-wakes-requires-2 : tie.Need-started-wakes-requires-2
+started-wakes-requires-2 c κs = search needs
+
 at : (n k : ℕ) (s : State) (r m : Slots) (w : Bool) → n ≡ k → w ≡ (Wake.stirred k s r || moved k m) → w ≡ (Wake.stirred n s r || moved n m)
 at n k s r m w e h = h ∙ ap (λ (j : ℕ). Wake.stirred j s r || moved j m) (sym e)
 
@@ -113,9 +138,13 @@ flop-on false false z f = refl
 jk-on : (q x y : Bool) → (q || (x || y)) ≡ (q || anySlot (slots x y false false))
 jk-on q x y = ap (λ (b : Bool). q || b) (two-on x y)
 
-timer-on : (s : State) (r n : Slots) (z : Bool) → r ≡ n → (timerStirred s r || z) ≡ (timerStirred s n || anySlot (slots false false z false))
-timer-on s r n true e = ap (λ (t : Slots). timerStirred s t || true) e
-timer-on s r n false e = ap (λ (t : Slots). timerStirred s t || false) e
+-- a test of the readings beside the reset alone, and beside A, reset and B
+stirred-on : (p : Slots → Bool) (r n : Slots) (z : Bool) → r ≡ n → (p r || z) ≡ (p n || anySlot (slots false false z false))
+stirred-on p r n true e = ap (λ (t : Slots). p t || true) e
+stirred-on p r n false e = ap (λ (t : Slots). p t || false) e
+
+gated-on : (p : Slots → Bool) (r n : Slots) (x z f : Bool) → r ≡ n → (p r || ((x || z) || f)) ≡ (p n || anySlot (slots x false z f))
+gated-on p r n x z f e = ap (λ (t : Slots). p t || ((x || z) || f)) e ∙ flop-on (p n) x z f
 
 returns : tie.Need-returns
 unfolding rowOf Wake.stirred stirredAs moved
@@ -172,14 +201,14 @@ unfolding rowOf Wake.stirred stirredAs moved
 returns-9 c =
     let a = c .before .before .before .args in
     at (a .kind) 8 (a .s) _ _ _ (c .before .before .match .keys9)
-    (c .timer-wakes .ensures ∙ timer-on (a .s) (c .before .two .result) _ (readFrom (a .d .now) (a .z)) (c .before .two .ensures))
+    (c .timer-wakes .ensures ∙ stirred-on (timerStirred (a .s)) (c .before .two .result) _ (readFrom (a .d .now) (a .z)) (c .before .two .ensures))
 
 returns-10 : tie.Need-returns-10
 unfolding rowOf Wake.stirred stirredAs moved
 returns-10 c =
     let a = c .before .before .before .args in
     at (a .kind) 9 (a .s) _ _ _ (c .before .before .match .keys10)
-    (c .timer-wakes2 .ensures ∙ timer-on (a .s) (c .before .two2 .result) _ (readFrom (a .d .now) (a .z)) (c .before .two2 .ensures))
+    (c .timer-wakes2 .ensures ∙ stirred-on (timerStirred (a .s)) (c .before .two2 .result) _ (readFrom (a .d .now) (a .z)) (c .before .two2 .ensures))
 
 returns-11 : tie.Need-returns-11
 unfolding rowOf Wake.stirred stirredAs moved
@@ -208,28 +237,28 @@ unfolding rowOf Wake.stirred stirredAs moved
 returns-15 c =
     let a = c .before .before .before .args in
     at (a .kind) 14 (a .s) _ _ _ (c .before .before .match .keys15)
-    (c .timer-wakes3 .ensures ∙ timer-on (a .s) (c .before .two3 .result) _ (readFrom (a .d .now) (a .z)) (c .before .two3 .ensures))
+    (c .timer-wakes3 .ensures ∙ stirred-on (timerStirred (a .s)) (c .before .two3 .result) _ (readFrom (a .d .now) (a .z)) (c .before .two3 .ensures))
 
 returns-16 : tie.Need-returns-16
 unfolding rowOf Wake.stirred stirredAs moved
 returns-16 c =
     let a = c .before .before .before .args in
     at (a .kind) 15 (a .s) _ _ _ (c .before .before .match .keys16)
-    (c .timer-wakes4 .ensures ∙ timer-on (a .s) (c .before .two4 .result) _ (readFrom (a .d .now) (a .z)) (c .before .two4 .ensures))
+    (c .timer-wakes4 .ensures ∙ stirred-on (timerStirred (a .s)) (c .before .two4 .result) _ (readFrom (a .d .now) (a .z)) (c .before .two4 .ensures))
 
 returns-17 : tie.Need-returns-17
 unfolding rowOf Wake.stirred stirredAs moved
 returns-17 c =
     let a = c .before .before .before .args in
     at (a .kind) 16 (a .s) _ _ _ (c .before .before .match .keys17)
-    (c .timer-wakes5 .ensures ∙ timer-on (a .s) (c .before .four .result) _ (readFrom (a .d .now) (a .z)) (c .before .four .ensures))
+    (c .timer-wakes5 .ensures ∙ stirred-on (timerStirred (a .s)) (c .before .four .result) _ (readFrom (a .d .now) (a .z)) (c .before .four .ensures))
 
 returns-18 : tie.Need-returns-18
 unfolding rowOf Wake.stirred stirredAs moved
 returns-18 c =
     let a = c .before .before .before .args in
     at (a .kind) 17 (a .s) _ _ _ (c .before .before .match .keys18)
-    (c .timer-wakes6 .ensures ∙ timer-on (a .s) (c .before .four2 .result) _ (readFrom (a .d .now) (a .z)) (c .before .four2 .ensures))
+    (c .timer-wakes6 .ensures ∙ stirred-on (timerStirred (a .s)) (c .before .four2 .result) _ (readFrom (a .d .now) (a .z)) (c .before .four2 .ensures))
 
 returns-19 : tie.Need-returns-19
 unfolding rowOf Wake.stirred stirredAs moved
@@ -239,7 +268,37 @@ returns-19 c =
     (c .flop-wakes3 .ensures ∙ flop-on (readFrom (a .q .now) (a .y)) (readFrom (a .d .now) (a .x)) (readFrom (a .d .now) (a .z)) (readFrom (a .d .now) (a .f)))
 
 returns-20 : tie.Need-returns-20
+unfolding rowOf Wake.stirred stirredAs moved
 returns-20 c =
+    let a = c .before .before .before .args in
+    at (a .kind) 19 (a .s) _ _ _ (c .before .before .match .keys20)
+    (c .gated-wakes .ensures ∙ gated-on (counterStirred WhileBoth (a .s)) (c .before .four3 .result) _ (readFrom (a .d .now) (a .x)) (readFrom (a .d .now) (a .z)) (readFrom (a .d .now) (a .f))
+    (c .before .four3 .ensures))
+
+returns-21 : tie.Need-returns-21
+unfolding rowOf Wake.stirred stirredAs moved
+returns-21 c =
+    let a = c .before .before .before .args in
+    at (a .kind) 20 (a .s) _ _ _ (c .before .before .match .keys21)
+    (c .gated-wakes2 .ensures ∙ gated-on (counterStirred WhileEither (a .s)) (c .before .four4 .result) _ (readFrom (a .d .now) (a .x)) (readFrom (a .d .now) (a .z)) (readFrom (a .d .now) (a .f))
+    (c .before .four4 .ensures))
+
+returns-22 : tie.Need-returns-22
+unfolding rowOf Wake.stirred stirredAs moved
+returns-22 c =
+    let a = c .before .before .before .args in
+    at (a .kind) 21 (a .s) _ _ _ (c .before .before .match .keys22)
+    (c .started-wakes .ensures ∙ stirred-on (counterStirred FromStart (a .s)) (c .before .four5 .result) _ (readFrom (a .d .now) (a .z)) (c .before .four5 .ensures))
+
+returns-23 : tie.Need-returns-23
+unfolding rowOf Wake.stirred stirredAs moved
+returns-23 c =
+    let a = c .before .before .before .args in
+    at (a .kind) 22 (a .s) _ _ _ (c .before .before .match .keys23)
+    (c .started-wakes2 .ensures ∙ stirred-on (counterStirred FromStartAtZero (a .s)) (c .before .four6 .result) _ (readFrom (a .d .now) (a .z)) (c .before .four6 .ensures))
+
+returns-24 : tie.Need-returns-24
+returns-24 c =
     let a = c .before .args in
     let now = slotsFrom (a .q .now) (a .x) (a .y) (a .z) (a .f) in
     let other = slotsFrom (a .d .now) (a .x) (a .y) (a .z) (a .f) in
@@ -273,6 +332,14 @@ wakes-spec =
     four-requires-2
     timer-wakes-requires-6
     flop-wakes-requires-3
+    four-requires-3
+    gated-wakes-requires
+    four-requires-4
+    gated-wakes-requires-2
+    four-requires-5
+    started-wakes-requires
+    four-requires-6
+    started-wakes-requires-2
     returns
     returns-2
     returns-3
@@ -292,4 +359,8 @@ wakes-spec =
     returns-17
     returns-18
     returns-19
-    returns-20)
+    returns-20
+    returns-21
+    returns-22
+    returns-23
+    returns-24)

@@ -121,6 +121,30 @@ four-requires-8 c κs = search needs
 flop-requires-4 : tie.Need-flop-requires-4
 flop-requires-4 c κs = search needs
 
+four-requires-9 : tie.Need-four-requires-9
+four-requires-9 c κs = search needs
+
+counter-requires : tie.Need-counter-requires
+counter-requires c κs = search needs
+
+four-requires-10 : tie.Need-four-requires-10
+four-requires-10 c κs = search needs
+
+counter-requires-2 : tie.Need-counter-requires-2
+counter-requires-2 c κs = search needs
+
+four-requires-11 : tie.Need-four-requires-11
+four-requires-11 c κs = search needs
+
+counter-requires-3 : tie.Need-counter-requires-3
+counter-requires-3 c κs = search needs
+
+four-requires-12 : tie.Need-four-requires-12
+four-requires-12 c κs = search needs
+
+counter-requires-4 : tie.Need-counter-requires-4
+counter-requires-4 c κs = search needs
+
 at : (n k config : ℕ) (s : State) (r : Slots) (w : Worked) → n ≡ k → w ≡ workOut k config s r → w ≡ workOut n config s r
 at n k config s r w e h = h ∙ ap (λ (m : ℕ). workOut m config s r) (sym e)
 
@@ -201,8 +225,24 @@ unfolding rowOf workOut workAs
 returns-19 c = at _ 18 _ _ _ _ (c .before .before .match .keys19) cc
 
 returns-20 : tie.Need-returns-20
+unfolding rowOf workOut workAs
+returns-20 c = at _ 19 _ _ _ _ (c .before .before .match .keys20) cc
+
+returns-21 : tie.Need-returns-21
+unfolding rowOf workOut workAs
+returns-21 c = at _ 20 _ _ _ _ (c .before .before .match .keys21) cc
+
+returns-22 : tie.Need-returns-22
+unfolding rowOf workOut workAs
+returns-22 c = at _ 21 _ _ _ _ (c .before .before .match .keys22) cc
+
+returns-23 : tie.Need-returns-23
+unfolding rowOf workOut workAs
+returns-23 c = at _ 22 _ _ _ _ (c .before .before .match .keys23) cc
+
+returns-24 : tie.Need-returns-24
 unfolding workOut workAs
-returns-20 c =
+returns-24 c =
     let a = c .before .args in
     let r = slotsFrom (a .q .now) (a .x) (a .y) (a .z) (a .f) in
     sym (ap (λ (w : Row). workAs (w .class) (a .config) (a .s) (masked (w .used) r)) (past-types (a .kind) (c .match .rest)))
@@ -247,6 +287,14 @@ work-spec =
     delay-requires-3
     four-requires-8
     flop-requires-4
+    four-requires-9
+    counter-requires
+    four-requires-10
+    counter-requires-2
+    four-requires-11
+    counter-requires-3
+    four-requires-12
+    counter-requires-4
     returns
     returns-2
     returns-3
@@ -266,4 +314,8 @@ work-spec =
     returns-17
     returns-18
     returns-19
-    returns-20)
+    returns-20
+    returns-21
+    returns-22
+    returns-23
+    returns-24)

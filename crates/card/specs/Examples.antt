@@ -1,0 +1,56 @@
+-- What CCA F and Z do to each kind of state, and what they are refused, by computation.
+use Prim.Native.Nat.{ℕ}
+use mathlib.Core.Path.{_≡_, refl}
+use mathlib.Core.Bool.{Bool, true, false}
+use mathlib.Core.List.{List, [], _∷_, map}
+use Rattle.cells.specs.declared.cell.Cell.{Cell}
+use Rattle.cells.specs.declared.cell.State.{State}
+use Rattle.cells.specs.Table.{rowOf}
+use Rattle.cells.specs.Work.{pulses}
+use Rattle.card.specs.Edits.{configuredState, configured, statedAs, stated}
+use Rattle.card.specs.Context.{configShown}
+use Rattle.card.specs.Valid.{badConfig, noConfig, badStateAs, badState}
+
+-- bit, count and pulse
+abbrev Shown : Type 0
+Shown = Bool × ℕ × Bool
+
+-- a cell of a type with configuration 5, its bit set, count 3 and in a pulse
+full : ℕ → Cell
+full kind = record { kind = kind; config = 5; slots = []; state = record { bit = true; count = pulses 3; pulse = true } }
+
+shown : State → Shown
+shown s = (s .bit, s .count .0, s .pulse)
+
+-- given, expected
+abbrev states : List (Shown × Shown)
+states =
+    -- F: "0 or 1 for flip-flops, the count for timers, ending a pulse"; of a counter "the count and leaves "active" as it is"
+    (shown (stated (full 1) 0 .state), (false, 3, true))
+    ∷ (shown (stated (full 9) 7 .state), (true, 7, false))
+    ∷ (shown (stated (full 19) 7 .state), (true, 7, true))
+    ∷ (shown (stated (full 22) 0 .state), (true, 0, true))
+    -- Z "clears a timer's state"
+    ∷ (shown (configured (full 9) 7 .state), (false, 0, false))
+    ∷ (shown (configured (full 2) 7 .state), (true, 3, true))
+    ∷ []
+
+state-table : map (λ (e : Shown × Shown). e .0) states ≡ map (λ (e : Shown × Shown). e .1) states
+unfolding full shown rowOf configuredState configured statedAs stated
+state-table = refl
+
+-- what `36CCA Z?` gives: the configuration, and "a CCA Z read gives the count" of a counter
+abbrev reads : List (ℕ × ℕ)
+reads = (configShown (full 9), 5) ∷ (configShown (full 4), 5) ∷ (configShown (full 20), 3) ∷ (configShown (full 21), 3) ∷ []
+
+read-table : map (λ (e : ℕ × ℕ). e .0) reads ≡ map (λ (e : ℕ × ℕ). e .1) reads
+unfolding full rowOf configShown
+read-table = refl
+
+-- the tests behind 9 and 12 of a counter: "CCA Z writes are refused with 9", a read is not, and F takes any count
+abbrev tests : List (Bool × Bool)
+tests = (badConfig 19 0, true) ∷ (badConfig 22 1, true) ∷ (noConfig 20, false) ∷ (noConfig 5, true) ∷ (badState 21 65535, false) ∷ []
+
+test-table : map (λ (e : Bool × Bool). e .0) tests ≡ map (λ (e : Bool × Bool). e .1) tests
+unfolding rowOf badConfig noConfig badStateAs badState
+test-table = refl
