@@ -15,7 +15,7 @@ use Rattle.cells.specs.declared.table.CounterKind.{CounterKind}
 use Rattle.cells.specs.declared.table.CounterKind.the-variants.{WhileBoth, WhileEither, FromStart, FromStartAtZero}
 use Rattle.cells.specs.declared.cell.State.{State}
 use Rattle.cells.specs.Table.{rowOf, masked, levelSlots, anySlot, slots}
-use Rattle.cells.specs.Work.{constantOut, gateOut, flopNext, trigger, taken, nextCount, nextPulse, countAfter, pulseAfter}
+use Rattle.cells.specs.Work.{constantOut, gateOut, flopNext, trigger, taken, shotBusy, delayBusy, nextCount, nextPulse, countAfter, pulseAfter}
 use Rattle.cells.specs.Work.{keeping, holding, counting, activeAfter, startedBy, keptActive, raised, countedUp, countedAs, counter}
 use Rattle.cells.specs.Work.{workAs, workOut}
 use Rattle.cells.specs.Wake.{timerStirred, flopClock, counterStirred, stirredAs, stirred, hasEdges, NeverStirred, differ, disagreeOn}
@@ -168,24 +168,20 @@ quiet-clock s r h = and-or-left (r .y) (ltb 0 (s .count .0)) _ (or-right (trigge
 quiet-pulse : (s : State) (r : Slots) → timerStirred s r ≡ false → (r .y && s .pulse) ≡ false
 quiet-pulse s r h = and-or-right (r .y) (ltb 0 (s .count .0)) _ (or-right (trigger r) _ h)
 
-not-taken : (t : Bool) (r : Slots) (n : ℕ) → trigger r ≡ false → taken t r n ≡ false
+not-taken : (t : Bool) (r : Slots) (busy : Bool) → trigger r ≡ false → taken t r busy ≡ false
 unfolding taken
-not-taken t r n h = rw h
+not-taken t r busy h = rw h
 
--- a taken trigger aside, the duration does not matter
-count-quiet : (t : Bool) (d : ℕ) (s : State) (m n : Slots) → n .z ≡ m .z
-    → let c = countAfter t d s m in
-    (u : State) → u .count .0 ≡ c → timerStirred u n ≡ false → countAfter t d u n ≡ c
-count-quiet t d s m n z u e h =
-    rw (not-taken t n (u .count .0) (quiet-trigger u n h), z)
-    (count-again (m .z) (n .y) (u .count .0) _ e (quiet-clock u n h) ∙ e)
+-- a taken trigger aside, neither the duration nor when a timer is busy matters
+module _ (t : Bool) (d : ℕ) (s : State) (m n : Slots) (took busy : Bool) (z : n .z ≡ m .z) (u : State) (h : timerStirred u n ≡ false) where
+  count-quiet : u .count .0 ≡ countAfter took d s m → countAfter (taken t n busy) d u n ≡ countAfter took d s m
+  count-quiet e =
+      rw (not-taken t n busy (quiet-trigger u n h), z) (count-again (m .z) (n .y) (u .count .0) _ e (quiet-clock u n h) ∙ e)
 
-pulse-quiet : (t : Bool) (d : ℕ) (s : State) (m n : Slots) → n .z ≡ m .z
-    → let p = pulseAfter t d s m in
-    (u : State) → u .pulse ≡ p → timerStirred u n ≡ false → pulseAfter t d u n ≡ p
-pulse-quiet t d s m n z u e h =
-    rw (not-taken t n (u .count .0) (quiet-trigger u n h), z)
-    (pulse-again (m .z) (n .y) (u .count .0) (u .pulse) _ e (quiet-pulse u n h) (quiet-clock u n h) ∙ e)
+  pulse-quiet : u .pulse ≡ pulseAfter took d s m → pulseAfter (taken t n busy) d u n ≡ pulseAfter took d s m
+  pulse-quiet e =
+      rw (not-taken t n busy (quiet-trigger u n h), z)
+      (pulse-again (m .z) (n .y) (u .count .0) (u .pulse) _ e (quiet-pulse u n h) (quiet-clock u n h) ∙ e)
 
 stop-again : (z f b : Bool) → cond (z || false) false (cond (z || f) false b) ≡ cond (z || f) false b
 stop-again true f b = refl
@@ -256,11 +252,13 @@ again-as (Gate g) config s e m n fit same h =
 again-as (Flop f) config s e m n fit same h = ap (holding s) (flop-again f e m n (s .bit) fit same h)
 again-as (OneShot t) config s e m n fit same h =
     let u = workAs (OneShot t) config s m .state in
-    ap (λ (c : ℕ). counting s c (s .pulse) (ltb 0 c)) (count-quiet t config s m n (same .z (fit .z)) u refl h)
+    ap (λ (c : ℕ). counting s c (s .pulse) (ltb 0 c))
+    (count-quiet t config s m n (taken t m (shotBusy s)) (shotBusy u) (same .z (fit .z)) u h refl)
 again-as (Delay t) config s e m n fit same h =
     let u = workAs (Delay t) config s m .state in
-    let c = count-quiet t config s m n (same .z (fit .z)) u refl h in
-    let p = pulse-quiet t config s m n (same .z (fit .z)) u refl h in
+    let took = taken t m (delayBusy s) in
+    let c = count-quiet t config s m n took (delayBusy u) (same .z (fit .z)) u h refl in
+    let p = pulse-quiet t config s m n took (delayBusy u) (same .z (fit .z)) u h refl in
     λ i. counting s (c i) (p i) (p i)
 again-as (Counter k) config s e m n fit same h = counter-again k s e m n fit same h
 

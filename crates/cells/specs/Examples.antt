@@ -49,6 +49,9 @@ trigger-clock = slots true true false false
 abbrev trigger-clock-reset : Slots
 trigger-clock-reset = slots true true true false
 
+abbrev other-trigger : Slots
+other-trigger = slots false false false true
+
 abbrev other-trigger-clock : Slots
 other-trigger-clock = slots false true false true
 
@@ -89,8 +92,15 @@ table =
     ∷ (pulsed 9 1 0 true nothing, (0, true, true))
     ∷ (pulsed 9 1 0 true clock, (0, false, false))
     -- "A taken trigger sets count d and ends a pulse"; "Reset also ends the pulse"
-    ∷ (pulsed 15 2 0 true trigger, (2, false, false))
+    ∷ (pulsed 9 2 0 true trigger, (2, false, false))
     ∷ (pulsed 15 2 0 true trigger-clock-reset, (0, false, false))
+    -- document 02: 15 and 17 "ignore triggers during the pulse as well, also with duration 0"; the clock keeps its effect. Type 9 takes them
+    ∷ (pulsed 15 2 0 true trigger, (0, true, true))
+    ∷ (pulsed 15 2 0 true trigger-clock, (0, false, false))
+    ∷ (pulsed 17 0 0 true other-trigger, (0, true, true))
+    ∷ (pulsed 17 0 0 true other-trigger-clock, (0, false, false))
+    ∷ (pulsed 17 0 0 false other-trigger-clock, (0, true, true))
+    ∷ (pulsed 9 0 0 true trigger-clock, (0, true, true))
     -- "Types 15 and 17 ignore triggers while the count is above 0"; type 9 takes them
     ∷ (pulsed 15 2 1 false trigger-clock, (0, true, true))
     ∷ (pulsed 17 2 2 false other-trigger-clock, (1, false, false))
@@ -127,6 +137,10 @@ one-table = refl
 wakeful : (kind count : ℕ) → Bool → Slots → Bool
 wakeful kind count active r = stirred kind (record { count = pulses count; bit = active; pulse = false }) r
 
+-- a timer with this count and this pulse is
+stirredTimer : (kind count : ℕ) → Bool → Slots → Bool
+stirredTimer kind count pulse r = stirred kind (record { count = pulses count; bit = false; pulse = pulse }) r
+
 -- given, expected
 abbrev waking : List (Bool × Bool)
 waking =
@@ -144,8 +158,10 @@ waking =
     ∷ (wakeful 22 3 false trigger, true)
     ∷ (wakeful 21 0 false stop-clock, true)
     ∷ (wakeful 21 3 true (slots false false true false), false)
+    -- a trigger that a delay ignores in its pulse "still wakes"
+    ∷ (stirredTimer 17 0 true other-trigger, true)
     ∷ []
 
 who-wakes : map (λ (e : Bool × Bool). e .0) waking ≡ map (λ (e : Bool × Bool). e .1) waking
-unfolding wakeful rowOf stirredAs stirred
+unfolding wakeful stirredTimer rowOf stirredAs stirred
 who-wakes = refl

@@ -3,7 +3,7 @@ ghost use mathlib.Core.Path.{_≡_};
 ghost use Rattle.cells.specs.declared.table.Class.the-variants.{Flop, OneShot, Delay, Counter};
 ghost use Rattle.cells.specs.Reading.{slotsFrom};
 ghost use Rattle.cells.specs.Work;
-ghost use Rattle.cells.specs.Work.{lookupOut, gateOut, dFlop, syncDFlop, clearDFlop, flopNext, nextCount, nextPulse, pulses};
+ghost use Rattle.cells.specs.Work.{lookupOut, gateOut, dFlop, syncDFlop, clearDFlop, flopNext, shotBusy, delayBusy, nextCount, nextPulse, pulses};
 ghost use Rattle.cells.specs.Work.{countAfter, pulseAfter, startedBy, activeAfter, keptActive, countedUp, workAs, workOut};
 ghost use Rattle.cells.specs.Effect.{workedBy};
 use crate::cell::Config;
@@ -110,10 +110,25 @@ fn flop_next(flop: FlopKind, r: Slots, bit: bool) -> bool
 }
 
 // Whether a timer takes its trigger.
-fn taken(retrigger: bool, r: Slots, count: Pulses) -> bool
-    ensures { λ q. ⌜ q ≡ Work.taken retrigger r (count .0) ⌝ }
+fn taken(retrigger: bool, r: Slots, busy: bool) -> bool
+    ensures { λ q. ⌜ q ≡ Work.taken retrigger r busy ⌝ }
 {
-    (r.x | r.f) & (retrigger | !(0 < count.0))
+    (r.x | r.f) & (retrigger | !busy)
+}
+
+// A one-shot is busy while it counts, a delay in its pulse as well.
+fn shot_busy(s: State) -> bool
+    ensures { λ q. ⌜ q ≡ shotBusy s ⌝ }
+{
+    let count = s.count;
+    0 < count.0
+}
+
+fn delay_busy(s: State) -> bool
+    ensures { λ q. ⌜ q ≡ delayBusy s ⌝ }
+{
+    let count = s.count;
+    (0 < count.0) | s.pulse
 }
 
 // A timer's count. A one-shot's and a delay's go the same way.
@@ -154,20 +169,17 @@ fn next_pulse(reset: bool, taken: bool, clock: bool, d: Pulses, count: Pulses, p
     }
 }
 
-// A timer's count after this tick, of duration `d`.
-fn count_after(retrigger: bool, d: Pulses, s: State, r: Slots) -> Pulses
-    ensures { λ n. ⌜ n ≡ pulses (countAfter retrigger (d .0) s r) ⌝ }
+// A timer's count after this tick, in which the trigger is taken or not, and a delay's pulse; `d` is the duration.
+fn count_after(taken: bool, d: Pulses, s: State, r: Slots) -> Pulses
+    ensures { λ n. ⌜ n ≡ pulses (countAfter taken (d .0) s r) ⌝ }
 {
-    let took = taken(retrigger, r, s.count);
-    next_count(r.z, took, r.y, d, s.count)
+    next_count(r.z, taken, r.y, d, s.count)
 }
 
-// A delay's pulse after this tick.
-fn pulse_after(retrigger: bool, d: Pulses, s: State, r: Slots) -> bool
-    ensures { λ q. ⌜ q ≡ pulseAfter retrigger (d .0) s r ⌝ }
+fn pulse_after(taken: bool, d: Pulses, s: State, r: Slots) -> bool
+    ensures { λ q. ⌜ q ≡ pulseAfter taken (d .0) s r ⌝ }
 {
-    let took = taken(retrigger, r, s.count);
-    next_pulse(r.z, took, r.y, d, s.count, s.pulse)
+    next_pulse(r.z, taken, r.y, d, s.count, s.pulse)
 }
 
 // ---- counters
@@ -253,7 +265,8 @@ fn flop(flop: FlopKind, s: State, r: Slots) -> Effect
 fn one_shot(retrigger: bool, config: Config, s: State, r: Slots) -> Effect
     ensures { λ e. ⌜ workedBy s e ≡ workAs (OneShot retrigger) config s r ⌝ }
 {
-    let count = count_after(retrigger, Pulses(config), s, r);
+    let took = taken(retrigger, r, shot_busy(s));
+    let count = count_after(took, Pulses(config), s, r);
     let mut next = s;
     next.count = count;
     Effect::Next(next, 0 < count.0)
@@ -262,8 +275,9 @@ fn one_shot(retrigger: bool, config: Config, s: State, r: Slots) -> Effect
 fn delay(retrigger: bool, config: Config, s: State, r: Slots) -> Effect
     ensures { λ e. ⌜ workedBy s e ≡ workAs (Delay retrigger) config s r ⌝ }
 {
-    let count = count_after(retrigger, Pulses(config), s, r);
-    let pulse = pulse_after(retrigger, Pulses(config), s, r);
+    let took = taken(retrigger, r, delay_busy(s));
+    let count = count_after(took, Pulses(config), s, r);
+    let pulse = pulse_after(took, Pulses(config), s, r);
     let mut next = s;
     next.count = count;
     next.pulse = pulse;

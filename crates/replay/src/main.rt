@@ -1,10 +1,11 @@
 // Stored runs of plrun: for each, its name and then what plrun prints for it.
 //
 // `pair-a` and `pair-b` differ only in which ticks are quick, so that what they print differs only
-// in woken sets and their counts. `busy` sessions are random and busy with every rule; `counter-corners` is
-// worked out by hand from their rules. The wirings that end in `.lines` are those of the folder
-// examples. `edge` and `late` are worked out by hand from the rules of ticks; `count-quick` and
-// `count-full` are one counter made of flip-flops, ticked both ways.
+// in woken sets and their counts. `busy` sessions are random and busy with every rule. The
+// `corners` are worked out by hand from the rules of counters and of triggers during a pulse. The
+// wirings that end in `.lines` are those of the folder examples. `edge` and `late` are worked out by
+// hand from the rules of ticks; `count-quick` and `count-full` are one counter made of flip-flops,
+// ticked both ways.
 // `long` is more than a buffer of input and of output: lines cut at every place by the end of a
 // block of 2048 bytes, lines of thousands of bytes, NUL bytes, and a last line without LF. Ticks,
 // pointer and loads of the store come again and again, so that a card, store or line that is lost
@@ -34,6 +35,7 @@ fn main() {
     replay(b"busy-2.in");
     replay(b"busy-3.in");
     replay(b"counter-corners.in");
+    replay(b"strobe-corners.in");
     replay(b"clock.lines");
     replay(b"n-pulses.lines");
     replay(b"pass-n-m.lines");
@@ -44,6 +46,7 @@ fn main() {
     replay(b"conditional-pulse.lines");
     replay(b"counter.lines");
     replay(b"seen.lines");
+    replay(b"bounce.lines");
     replay(b"readout.lines");
     replay(b"comes-to-rest.lines");
     replay(b"never-rests.lines");
