@@ -1,11 +1,12 @@
-// Prints what the table says of each cell type, and courses of two timers and of the counters.
+// Prints what the table says of each cell type, courses of two timers and of the counters, and how the gates of four slots look.
 //
 // A chart line: the type, the used slots, the edge slots, the largest configuration; `-` for none.
+// A line of a gate: the type, the readings X Y Z F, and how many slots it looks at.
 // A line of a course: the readings X Y Z F, then the count, bit, pulse and output that they lead to. A counter's bit is "active", where it keeps that.
 ghost use mathlib.Core.Path.{_≡_};
 ghost use Rattle.cells.specs.Effect.{workedBy};
 ghost use Rattle.cells.specs.Reading.{slotsFrom};
-ghost use Rattle.cells.specs.Work.{slotsOf, workOut};
+ghost use Rattle.cells.specs.Work.{looked, slotsOf, workOut};
 ghost use Rattle.cellchart.specs.Chart.{digitOf, clear, duration, keptAfter};
 use cells::cell::Config;
 use cells::cell::Pulses;
@@ -18,7 +19,11 @@ use cells::table::TYPES;
 use cells::table::packed;
 use cells::table::row_of;
 use cells::table::unpacked;
+use cells::work::DECIDES_AND;
+use cells::work::DECIDES_OR;
 use cells::work::Effect;
+use cells::work::Looked;
+use cells::work::look;
 
 // Of both timers.
 const DURATION: Config = 2;
@@ -224,6 +229,46 @@ fn put_course(kind: u8, steps: [u8; 6]) -> State
     s
 }
 
+// How a gate of four slots looks at these readings.
+fn look_at(deciding: bool, r: Slots) -> Looked
+    ensures { λ l. ⌜ l ≡ looked deciding r ⌝ }
+{
+    let q = levels(r);
+    look(deciding, 0, 1, 2, 3, &q)
+}
+
+fn put_look(kind: u8, r: Slots, l: Looked) {
+    put_number(kind as u16);
+    put(b' ');
+    put(digit(r.x));
+    put(digit(r.y));
+    put(digit(r.z));
+    put(digit(r.f));
+    put(b' ');
+    put_number(l.slots as u16);
+    put(b'\n');
+}
+
+// The readings X Y Z F that a number has from its highest bit to its lowest.
+fn readings(n: u32) -> Slots {
+    let r = unpacked(n);
+    Slots {
+        x: r.f,
+        y: r.z,
+        z: r.y,
+        f: r.x,
+    }
+}
+
+// A gate under all sixteen readings.
+fn put_looks(kind: u8, deciding: bool) {
+    for n in 0..16u32 {
+        let r = readings(n);
+        let l = look_at(deciding, r);
+        put_look(kind, r, l);
+    }
+}
+
 fn main() {
     put_chart();
     put_course(9, DELAY);
@@ -232,4 +277,6 @@ fn main() {
     put_course(20, WHILE_EITHER);
     put_course(21, FROM_START);
     put_course(22, FROM_START_AT_ZERO);
+    put_looks(10, DECIDES_AND);
+    put_looks(11, DECIDES_OR);
 }

@@ -1,5 +1,6 @@
 pub mod Rows
 pub mod Packed
 pub mod Tests
+pub mod Gates
 pub mod Laws
 pub mod Counters

@@ -7,7 +7,7 @@ use mathlib.Core.List.{List, [], _∷_, map}
 use Rattle.cells.specs.declared.table.Slots.{Slots}
 use Rattle.cells.specs.declared.cell.Worked.{Worked}
 use Rattle.cells.specs.Table.{slots, rowOf}
-use Rattle.cells.specs.Work.{pulses, taken, raised, workAs, workOut}
+use Rattle.cells.specs.Work.{pulses, taken, raised, decidesAnd, decidesOr, looked, workAs, workOut}
 use Rattle.cells.specs.Wake.{stirredAs, stirred}
 
 -- a timer's count, its pulse and its output; of a counter the count, "active" as it is kept, and the output
@@ -165,3 +165,30 @@ waking =
 who-wakes : map (λ (e : Bool × Bool). e .0) waking ≡ map (λ (e : Bool × Bool). e .1) waking
 unfolding wakeful stirredTimer rowOf stirredAs stirred
 who-wakes = refl
+
+-- ---- four-input gates
+
+-- the answer of a gate, and how many slots it looked at
+seen : (deciding x y z f : Bool) → Bool × ℕ
+seen v x y z f = (looked v (slots x y z f) .out, looked v (slots x y z f) .slots)
+
+-- given, expected
+abbrev looks : List ((Bool × ℕ) × (Bool × ℕ))
+looks =
+    -- AND4: F, Z, Y and X decide with a 0, the first of them in this order; none does
+    (seen decidesAnd false false false false, (false, 1))
+    ∷ (seen decidesAnd false false false true, (false, 2))
+    ∷ (seen decidesAnd false false true true, (false, 3))
+    ∷ (seen decidesAnd false true true true, (false, 4))
+    ∷ (seen decidesAnd true true true true, (true, 4))
+    -- OR4: they decide with a 1
+    ∷ (seen decidesOr true true true true, (true, 1))
+    ∷ (seen decidesOr true true true false, (true, 2))
+    ∷ (seen decidesOr true true false false, (true, 3))
+    ∷ (seen decidesOr true false false false, (true, 4))
+    ∷ (seen decidesOr false false false false, (false, 4))
+    ∷ []
+
+four-looks : map (λ (e : (Bool × ℕ) × (Bool × ℕ)). e .0) looks ≡ map (λ (e : (Bool × ℕ) × (Bool × ℕ)). e .1) looks
+unfolding seen looked
+four-looks = refl

@@ -2,6 +2,7 @@
 -- In every definition `r` holds the readings of the used slots; a slot that is not used reads low.
 use Prim.Native.Nat.{ℕ, _+_, _-_, _*_}
 use mathlib.Core.Bool.{Bool, true, false, not, _&&_, _||_, Bool·beq, cond}
+use mathlib.Core.List.{List, [], _∷_}
 use lib.Dec.{eqb, ltb}
 use Rattle.words.specs.Bits.{bitAt, bitNumber}
 use Rattle.cells.specs.declared.table.Slots.{Slots}
@@ -16,6 +17,7 @@ use Rattle.cells.specs.declared.table.CounterKind.the-variants.{WhileBot
 use Rattle.cells.specs.declared.cell.State.{State}
 use Rattle.cells.specs.declared.cell.Worked.{Worked}
 use Rattle.cells.specs.declared.cell.Pulses.{Pulses}
+use Rattle.cells.specs.declared.work.Looked.{Looked}
 use Rattle.cells.specs.Table.{slots, rowOf, masked}
 
 -- a number of pulses
@@ -46,6 +48,23 @@ gateOut Or2 code r = r .x || r .y
 gateOut Xor2 code r = not (Bool·beq (r .x) (r .y))
 gateOut And4 code r = (r .x && r .y) && (r .z && r .f)
 gateOut Or4 code r = (r .x || r .y) || (r .z || r .f)
+
+-- document 02, "Four-input gates, last slot first": AND4 and OR4 "look at F first, then Z, Y, X, and stop as soon as one value decides", and say "how
+-- many slots" they looked at: "the place in that order of the first that decides, 4 where none does". The answer is then the value that
+-- decides, and the other one where none does
+abbrev pub lookOn : (deciding : Bool) → ℕ → List Bool → Looked
+lookOn v place [] = record { out = not v; slots = place }
+lookOn v place (b ∷ bs) = cond (Bool·beq b v) (record { out = v; slots = place + 1 }) (lookOn v (place + 1) bs)
+
+unfoldable pub looked : (deciding : Bool) → Slots → Looked
+looked v r = lookOn v 0 (r .f ∷ r .z ∷ r .y ∷ r .x ∷ [])
+
+-- the value that decides: "A 0 decides AND4, a 1 decides OR4"
+abbrev pub decidesAnd : Bool
+decidesAnd = false
+
+abbrev pub decidesOr : Bool
+decidesOr = true
 
 -- type 1: "reset gives 0; else preset gives 1; else a clock edge takes D; else hold"
 abbrev pub dFlop : Slots → Bool → Bool

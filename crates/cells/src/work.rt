@@ -3,7 +3,7 @@ ghost use mathlib.Core.Path.{_≡_};
 ghost use Rattle.cells.specs.declared.table.Class.the-variants.{Flop, OneShot, Delay, Counter};
 ghost use Rattle.cells.specs.Reading.{slotsFrom};
 ghost use Rattle.cells.specs.Work;
-ghost use Rattle.cells.specs.Work.{lookupOut, gateOut, dFlop, syncDFlop, clearDFlop, flopNext, shotBusy, delayBusy, nextCount, nextPulse, pulses};
+ghost use Rattle.cells.specs.Work.{lookupOut, looked, dFlop, syncDFlop, clearDFlop, flopNext, shotBusy, delayBusy, nextCount, nextPulse, pulses};
 ghost use Rattle.cells.specs.Work.{countAfter, pulseAfter, startedBy, activeAfter, keptActive, countedUp, workAs, workOut};
 ghost use Rattle.cells.specs.Effect.{workedBy};
 use crate::cell::Config;
@@ -12,11 +12,11 @@ use crate::cell::Pulses;
 use crate::cell::State;
 use crate::reading::QUARTERS;
 use crate::reading::four;
+use crate::reading::read;
 use crate::reading::three;
 use crate::reading::two;
 use crate::table::CounterKind;
 use crate::table::FlopKind;
-use crate::table::GateKind;
 use crate::table::Slots;
 use crate::table::packed;
 
@@ -27,19 +27,44 @@ fn lookup(code: Config, r: Slots) -> bool
     words::bit(code as u64, packed(r.x, r.y, r.z, r.f))
 }
 
-// What a gate answers.
-fn gate_out(gate: GateKind, code: Config, r: Slots) -> bool
-    ensures { λ q. ⌜ q ≡ gateOut gate code r ⌝ }
+// What a gate of four slots answers, and how many slots it looked at.
+pub struct Looked {
+    pub out: bool,
+    pub slots: u8,
+}
+
+// A gate of four slots looks at F first, then at Z, Y and X, and stops at the first slot whose reading decides: a low one decides AND4, a high one OR4.
+pub fn look(deciding: bool, x: u8, y: u8, z: u8, f: u8, q: &[u64; QUARTERS]) -> Looked
+    ensures { λ l. ⌜ l ≡ looked deciding (slotsFrom (now (q .entry)) x y z f) ⌝ }
 {
-    match gate {
-        GateKind::Lookup => lookup(code, r),
-        GateKind::And2 => r.x & r.y,
-        GateKind::Or2 => r.x | r.y,
-        GateKind::Xor2 => r.x ^ r.y,
-        GateKind::And4 => (r.x & r.y) & (r.z & r.f),
-        GateKind::Or4 => (r.x | r.y) | (r.z | r.f),
+    if read(q, f) == deciding {
+        return Looked {
+            out: deciding,
+            slots: 1,
+        };
+    }
+    if read(q, z) == deciding {
+        return Looked {
+            out: deciding,
+            slots: 2,
+        };
+    }
+    if read(q, y) == deciding {
+        return Looked {
+            out: deciding,
+            slots: 3,
+        };
+    }
+    Looked {
+        out: read(q, x),
+        slots: 4,
     }
 }
+
+// The readings that decide.
+pub const DECIDES_AND: bool = false;
+
+pub const DECIDES_OR: bool = true;
 
 fn d_flop(r: Slots, bit: bool) -> bool
     ensures { λ q. ⌜ q ≡ dFlop r bit ⌝ }
@@ -316,13 +341,28 @@ pub fn work(
         2 => Effect::Same(lookup(config, two(q, x, y))),
         3 => Effect::Same(lookup(config, three(q, x, y, z))),
         4 => Effect::Same(lookup(config, four(q, x, y, z, f))),
-        5 => Effect::Same(gate_out(GateKind::And2, config, two(q, x, y))),
-        6 => Effect::Same(gate_out(GateKind::Or2, config, two(q, x, y))),
-        7 => Effect::Same(gate_out(GateKind::Xor2, config, two(q, x, y))),
+        5 => {
+            let r = two(q, x, y);
+            Effect::Same(r.x & r.y)
+        }
+        6 => {
+            let r = two(q, x, y);
+            Effect::Same(r.x | r.y)
+        }
+        7 => {
+            let r = two(q, x, y);
+            Effect::Same(r.x ^ r.y)
+        }
         8 => one_shot(true, config, s, three(q, x, y, z)),
         9 => delay(true, config, s, three(q, x, y, z)),
-        10 => Effect::Same(gate_out(GateKind::And4, config, four(q, x, y, z, f))),
-        11 => Effect::Same(gate_out(GateKind::Or4, config, four(q, x, y, z, f))),
+        10 => {
+            let l = look(DECIDES_AND, x, y, z, f, q);
+            Effect::Same(l.out)
+        }
+        11 => {
+            let l = look(DECIDES_OR, x, y, z, f, q);
+            Effect::Same(l.out)
+        }
         12 => flop(FlopKind::SyncDFlop, s, four(q, x, y, z, f)),
         13 => flop(FlopKind::Jk, s, three(q, x, y, z)),
         14 => one_shot(false, config, s, three(q, x, y, z)),

@@ -7,7 +7,9 @@ use Rattle.cells.specs.declared.cell.Worked.{Worked}
 use Rattle.cells.specs.declared.table.Row.{Row}
 use Rattle.cells.specs.Table.{rowOf, masked}
 use Rattle.cells.specs.Reading.{slotsFrom}
-use Rattle.cells.specs.Work.{workAs, workOut}
+use Rattle.cells.specs.Work.{keeping, workAs, workOut}
+use Rattle.cells.specs.declared.work.Looked.{Looked}
+use Rattle.cells.proofs.Gates.{looked-and, looked-or}
 use Rattle.cells.proofs.Rows.{past-types}
 use borrow.Author.Needs.{needs}
 use Rattle.cells.proofs.work.work.Statement.{statement}
@@ -40,20 +42,11 @@ lookup-requires-3 c κs = search needs
 two-requires-2 : tie.Need-two-requires-2
 two-requires-2 c κs = search needs
 
-gate-out-requires : tie.Need-gate-out-requires
-gate-out-requires c κs = search needs
-
 two-requires-3 : tie.Need-two-requires-3
 two-requires-3 c κs = search needs
 
-gate-out-requires-2 : tie.Need-gate-out-requires-2
-gate-out-requires-2 c κs = search needs
-
 two-requires-4 : tie.Need-two-requires-4
 two-requires-4 c κs = search needs
-
-gate-out-requires-3 : tie.Need-gate-out-requires-3
-gate-out-requires-3 c κs = search needs
 
 three-requires-2 : tie.Need-three-requires-2
 three-requires-2 c κs = search needs
@@ -67,20 +60,14 @@ three-requires-3 c κs = search needs
 delay-requires : tie.Need-delay-requires
 delay-requires c κs = search needs
 
+look-requires : tie.Need-look-requires
+look-requires c κs = search needs
+
+look-requires-2 : tie.Need-look-requires-2
+look-requires-2 c κs = search needs
+
 four-requires-3 : tie.Need-four-requires-3
 four-requires-3 c κs = search needs
-
-gate-out-requires-4 : tie.Need-gate-out-requires-4
-gate-out-requires-4 c κs = search needs
-
-four-requires-4 : tie.Need-four-requires-4
-four-requires-4 c κs = search needs
-
-gate-out-requires-5 : tie.Need-gate-out-requires-5
-gate-out-requires-5 c κs = search needs
-
-four-requires-5 : tie.Need-four-requires-5
-four-requires-5 c κs = search needs
 
 flop-requires-2 : tie.Need-flop-requires-2
 flop-requires-2 c κs = search needs
@@ -103,44 +90,44 @@ three-requires-6 c κs = search needs
 delay-requires-2 : tie.Need-delay-requires-2
 delay-requires-2 c κs = search needs
 
-four-requires-6 : tie.Need-four-requires-6
-four-requires-6 c κs = search needs
+four-requires-4 : tie.Need-four-requires-4
+four-requires-4 c κs = search needs
 
 one-shot-requires-3 : tie.Need-one-shot-requires-3
 one-shot-requires-3 c κs = search needs
 
-four-requires-7 : tie.Need-four-requires-7
-four-requires-7 c κs = search needs
+four-requires-5 : tie.Need-four-requires-5
+four-requires-5 c κs = search needs
 
 delay-requires-3 : tie.Need-delay-requires-3
 delay-requires-3 c κs = search needs
 
-four-requires-8 : tie.Need-four-requires-8
-four-requires-8 c κs = search needs
+four-requires-6 : tie.Need-four-requires-6
+four-requires-6 c κs = search needs
 
 flop-requires-4 : tie.Need-flop-requires-4
 flop-requires-4 c κs = search needs
 
-four-requires-9 : tie.Need-four-requires-9
-four-requires-9 c κs = search needs
+four-requires-7 : tie.Need-four-requires-7
+four-requires-7 c κs = search needs
 
 counter-requires : tie.Need-counter-requires
 counter-requires c κs = search needs
 
-four-requires-10 : tie.Need-four-requires-10
-four-requires-10 c κs = search needs
+four-requires-8 : tie.Need-four-requires-8
+four-requires-8 c κs = search needs
 
 counter-requires-2 : tie.Need-counter-requires-2
 counter-requires-2 c κs = search needs
 
-four-requires-11 : tie.Need-four-requires-11
-four-requires-11 c κs = search needs
+four-requires-9 : tie.Need-four-requires-9
+four-requires-9 c κs = search needs
 
 counter-requires-3 : tie.Need-counter-requires-3
 counter-requires-3 c κs = search needs
 
-four-requires-12 : tie.Need-four-requires-12
-four-requires-12 c κs = search needs
+four-requires-10 : tie.Need-four-requires-10
+four-requires-10 c κs = search needs
 
 counter-requires-4 : tie.Need-counter-requires-4
 counter-requires-4 c κs = search needs
@@ -170,15 +157,15 @@ returns-5 c = at _ 4 _ _ _ _ (c .before .before .match .keys5) cc
 
 returns-6 : tie.Need-returns-6
 unfolding rowOf workOut workAs
-returns-6 c = at _ 5 _ _ _ _ (c .before .before .match .keys6) (rw (c .gate-out .ensures, c .before .two2 .ensures))
+returns-6 c = at _ 5 _ _ _ _ (c .before .before .match .keys6) (rw (c .before .two2 .ensures))
 
 returns-7 : tie.Need-returns-7
 unfolding rowOf workOut workAs
-returns-7 c = at _ 6 _ _ _ _ (c .before .before .match .keys7) (rw (c .gate-out2 .ensures, c .before .two3 .ensures))
+returns-7 c = at _ 6 _ _ _ _ (c .before .before .match .keys7) (rw (c .before .two3 .ensures))
 
 returns-8 : tie.Need-returns-8
 unfolding rowOf workOut workAs
-returns-8 c = at _ 7 _ _ _ _ (c .before .before .match .keys8) (rw (c .gate-out3 .ensures, c .before .two4 .ensures))
+returns-8 c = at _ 7 _ _ _ _ (c .before .before .match .keys8) (rw (c .before .two4 .ensures))
 
 returns-9 : tie.Need-returns-9
 unfolding rowOf workOut workAs
@@ -190,11 +177,19 @@ returns-10 c = at _ 9 _ _ _ _ (c .before .before .match .keys10) (rw (c .delay .
 
 returns-11 : tie.Need-returns-11
 unfolding rowOf workOut workAs
-returns-11 c = at _ 10 _ _ _ _ (c .before .before .match .keys11) cc
+returns-11 c =
+    let a = c .before .before .args in
+    let r = slotsFrom (a .q .now) (a .x) (a .y) (a .z) (a .f) in
+    at (a .kind) 10 (a .config) (a .s) r _ (c .before .match .keys11)
+    (ap (λ (l : Looked). keeping (a .s) (l .out)) (c .look .ensures) ∙ ap (keeping (a .s)) (looked-and (a .config) r))
 
 returns-12 : tie.Need-returns-12
 unfolding rowOf workOut workAs
-returns-12 c = at _ 11 _ _ _ _ (c .before .before .match .keys12) cc
+returns-12 c =
+    let a = c .before .before .args in
+    let r = slotsFrom (a .q .now) (a .x) (a .y) (a .z) (a .f) in
+    at (a .kind) 11 (a .config) (a .s) r _ (c .before .match .keys12)
+    (ap (λ (l : Looked). keeping (a .s) (l .out)) (c .look2 .ensures) ∙ ap (keeping (a .s)) (looked-or (a .config) r))
 
 returns-13 : tie.Need-returns-13
 unfolding rowOf workOut workAs
@@ -260,20 +255,15 @@ work-spec =
     four-requires-2
     lookup-requires-3
     two-requires-2
-    gate-out-requires
     two-requires-3
-    gate-out-requires-2
     two-requires-4
-    gate-out-requires-3
     three-requires-2
     one-shot-requires
     three-requires-3
     delay-requires
+    look-requires
+    look-requires-2
     four-requires-3
-    gate-out-requires-4
-    four-requires-4
-    gate-out-requires-5
-    four-requires-5
     flop-requires-2
     three-requires-4
     flop-requires-3
@@ -281,19 +271,19 @@ work-spec =
     one-shot-requires-2
     three-requires-6
     delay-requires-2
-    four-requires-6
+    four-requires-4
     one-shot-requires-3
-    four-requires-7
+    four-requires-5
     delay-requires-3
-    four-requires-8
+    four-requires-6
     flop-requires-4
-    four-requires-9
+    four-requires-7
     counter-requires
-    four-requires-10
+    four-requires-8
     counter-requires-2
-    four-requires-11
+    four-requires-9
     counter-requires-3
-    four-requires-12
+    four-requires-10
     counter-requires-4
     returns
     returns-2
