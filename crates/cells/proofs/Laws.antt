@@ -14,7 +14,7 @@ use Rattle.cells.specs.declared.table.FlopKind.the-variants.{DFlop, Sync
 use Rattle.cells.specs.declared.table.CounterKind.{CounterKind}
 use Rattle.cells.specs.declared.table.CounterKind.the-variants.{WhileBoth, WhileEither, FromStart, FromStartAtZero}
 use Rattle.cells.specs.declared.cell.State.{State}
-use Rattle.cells.specs.Table.{rowOf, masked, levelSlots, anySlot, slots}
+use Rattle.cells.specs.Table.{rowOf, masked, levelSlots, anySlot, slots, constantType, largestConstant}
 use Rattle.cells.specs.Work.{constantOut, gateOut, flopNext, trigger, taken, shotBusy, delayBusy, nextCount, nextPulse, countAfter, pulseAfter}
 use Rattle.cells.specs.Work.{keeping, holding, counting, activeAfter, startedBy, keptActive, raised, countedUp, countedAs, counter}
 use Rattle.cells.specs.Work.{workAs, workOut}
@@ -424,6 +424,11 @@ disagree-trans kind a b c p q =
 pub constant-works : (config : ℕ) (s : State) (r : Slots) → workOut 0 config s r ≡ keeping s (constantOut config)
 unfolding workOut workAs rowOf
 constant-works config s r = refl
+
+-- its largest configuration
+pub constant-largest : rowOf constantType .largest ≡ largestConstant
+unfolding rowOf
+constant-largest = refl
 
 -- ---- the slots that read otherwise
 

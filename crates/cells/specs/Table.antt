@@ -51,6 +51,13 @@ only-Z = slots false false true false
 abbrev pub largestConfig : ℕ
 largestConfig = 65535
 
+-- document 02, "Constants are 0 or 1": the type of constants, and the largest of them
+abbrev pub constantType : ℕ
+constantType = 0
+
+abbrev pub largestConstant : ℕ
+largestConstant = 1
+
 -- a one-shot or a delay takes a trigger while its count is above 0 (retriggerable), or ignores it
 abbrev pub retriggerable : Bool
 retriggerable = true
@@ -65,7 +72,7 @@ chartLine types used edge config = record { types = types; used = used; edge = e
 -- clock, reset, stop with all but reset edge-sensitive"; they have no configuration
 abbrev pub chart : List ChartLine
 chart =
-    chartLine ((0, Constant) ∷ []) no-slot no-slot (some largestConfig)
+    chartLine ((constantType, Constant) ∷ []) no-slot no-slot (some largestConstant)
     ∷ chartLine ((1, Flop DFlop) ∷ (12, Flop SyncDFlop) ∷ []) XYZF only-Y none
     ∷ chartLine ((2, Gate Lookup) ∷ []) XY no-slot (some 15)
     ∷ chartLine ((3, Gate Lookup) ∷ []) XYZ no-slot (some 255)

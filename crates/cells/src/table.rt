@@ -144,9 +144,14 @@ const EDGE: [u8; TYPES] = [
     XYF,
 ];
 
+// The type of constants, and the largest of them.
+pub const CONSTANT: u8 = 0;
+
+pub const LARGEST_CONSTANT: Config = 1;
+
 // The largest configuration, 0 where there is none.
 const LARGEST: [Config; TYPES] = [
-    65535,
+    LARGEST_CONSTANT,
     0,
     15,
     255,

@@ -1,4 +1,5 @@
--- Save and load are inverse: a line that saves has room for the record, the record of a reached card loads, and a loaded card saves as its bytes.
+-- Save and load are inverse: a line that saves has room for the record, the record of a reached card loads, and a loaded card saves as its bytes, with
+-- constants above 1 made 1.
 use Prim.Native.Nat.{ℕ, _≤_}
 use mathlib.Core.Path.{_≡_, refl, sym, ap, _∙_}
 use mathlib.Core.Bool.{Bool, true, false, _&&_, cond, true≢false}
@@ -125,4 +126,5 @@ save-load n more =
       saves = line-saves n;
       save-load = λ calls text reply store s. written n (end n (freshOf n) calls) text reply store (fresh-reached-valid n more calls) s;
       load-save = λ d bytes text reply store ok s. bytes-are n _ text reply store s ∙ Records.save-load n configWidth d bytes ok;
+      load-same = λ d bytes text reply store ok small s. bytes-are n _ text reply store s ∙ Records.save-same n configWidth d bytes ok small;
     }

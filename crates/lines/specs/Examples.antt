@@ -77,6 +77,10 @@ numbers =
     ∷ (number (withPointer frontCard 33) "36CCA Y=3", 7)
     ∷ (number fresh "36CCA X=51", 8)
     ∷ (number (typedCard 2) "36CCA Z=16", 9)
+    -- 9: "CCA Z at a constant cell takes 0 or 1 and refuses others with 9"; 4 comes before
+    ∷ (number fresh "36CCA Z=2", 9)
+    ∷ (number fresh "36CCA Z=65536", 4)
+    ∷ (number fresh "36CCA Z=1", 0)
     -- 9, of a read
     ∷ (number (typedCard 5) "36CCA Z?", 9)
     -- 9: a counter has no configuration to write, and 4 comes before; its count is read

@@ -1,4 +1,5 @@
--- Demand 2 of records: save and load are inverse, said of lines and lists of calls, on a card of n cells.
+-- Demand 2 of records: save and load are inverse, said of lines and lists of calls, on a card of n cells. "Byte-for-byte saving of a loaded record
+-- therefore excepts such records" that hold a constant above 1 (document 02).
 use Prim.Native.Nat.{ℕ, _≤_}
 use mathlib.Core.Path.{_≡_}
 use mathlib.Core.Bool.{true}
@@ -8,7 +9,7 @@ use Rattle.text.specs.Written.{bytesOf}
 use Rattle.card.specs.declared.card.Card.{Card}
 use Rattle.card.specs.Edits.{clearedCell}
 use Rattle.card.specs.Fresh.{freshOf}
-use Rattle.saved.specs.Record.{configWidth, recordLength, loadNumber, loaded}
+use Rattle.saved.specs.Record.{configWidth, recordLength, loadNumber, loaded, normalRecord, SmallConstants}
 use Rattle.lines.specs.Line.{shortestReply, lineOutcome, storeAfter}
 use Rattle.lines.specs.Calls.{Call, savedBytes, end}
 
@@ -42,6 +43,9 @@ pub record SaveLoad (n : ℕ) : Type 0 where
   pub save-load : (calls : List Call) (text reply store : List ℕ) → let c = end n (freshOf n) calls in
       Saves n c text (length reply) (length store)
       → Written n c (savedBytes n c text (length reply) (length store)) store (storeAfter n c text (length reply) store)
-  -- an accepted load, and a save of what it gave: the same bytes
+  -- an accepted load, and a save of what it gave: the record with its constants above 1 made 1
   pub load-save : (d : Card) (bytes text : List ℕ) (reply store : ℕ) → let c = loaded n configWidth d bytes in
-      loadNumber n configWidth bytes ≡ 0 → Saves n c text reply store → savedBytes n c text reply store ≡ bytes
+      loadNumber n configWidth bytes ≡ 0 → Saves n c text reply store → savedBytes n c text reply store ≡ normalRecord n configWidth bytes
+  -- and the same bytes where it has none
+  pub load-same : (d : Card) (bytes text : List ℕ) (reply store : ℕ) → let c = loaded n configWidth d bytes in
+      loadNumber n configWidth bytes ≡ 0 → SmallConstants n configWidth bytes → Saves n c text reply store → savedBytes n c text reply store ≡ bytes

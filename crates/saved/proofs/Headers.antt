@@ -12,17 +12,23 @@ use lib.Dec.{eqb}
 use lib.ListN.{length, getD, take, drop, length-append, length-take, length-drop, List·getD-eq-default}
 use lib.Seq.{drop-cons, drop-drop, take-add, take-all, length-take-le, getD-take, getD-drop}
 use borrow.Author.Tests.{eq-eqb, eqb-true, eqb-false}
+use Rattle.cells.proofs.Rows.{and-left}
 use Rattle.words.specs.Listed.{listed}
 use Rattle.words.proofs.Listed.{length-listed}
 use Rattle.card.specs.Address.{firstCell, firstConnector, connectorCount}
 use Rattle.card.specs.Valid.{valid}
 use Rattle.saved.specs.Record.{field, bigEndian, bigValue, triggerField, cellField, connectorField, fieldsFrom, encode, triggerLength, cellLength}
-use Rattle.saved.specs.Record.{connectorLength, recordLength, triggerIn, cellIn, connectorIn, cellsIn, connectorsIn, sameBytes, loadNumber}
+use Rattle.saved.specs.Record.{connectorLength, recordLength, triggerIn, cellIn, connectorIn, cellsIn, loadCells, connectorsIn, sameBytes, loadNumber}
 use Rattle.saved.specs.Headers.{Bytes, everyBelow, startsAt, numberedAt, triggerHeaded, cellHeaded, connectorHeaded, headed}
 use Rattle.saved.proofs.Fields.{fields-snoc, big-back, same-eq, same-append}
 use Rattle.saved.proofs.Records.{cell-length, connector-length, other-length}
 
 -- ---- every index below a number
+
+-- one more is tested
+pub every-next : (f : ℕ → Bool) (i : ℕ) → everyBelow f (i + 1) ≡ (everyBelow f i && f i)
+unfolding everyBelow
+every-next f i = rw add-one
 
 pub every-same : (f g : ℕ → Bool) (n : ℕ) → ((i : ℕ) → i < n → f i ≡ g i) → everyBelow f n ≡ everyBelow g n
 unfolding everyBelow
@@ -222,6 +228,11 @@ module _ (n width : ℕ) (bytes : List ℕ) (all : Bytes bytes) (sized : length 
       (sym (part-length bytes 0 triggerLength (omega arith)))
       ∙ ap₂ _&&_ trigger-headed (same-append front back cellBytes connectorBytes long ∙ ap₂ _&&_ cells-headed connectors-headed)
 
+-- bytes with the heads of a record have its length
+pub headed-length : (n width : ℕ) (bytes : List ℕ) → headed n width bytes ≡ true → length bytes ≡ recordLength n width
+unfolding headed
+headed-length n width bytes h = eqb-true (length bytes) (recordLength n width) (and-left (eqb (length bytes) (recordLength n width)) _ h)
+
 -- ---- the law
 
 module _ (n width : ℕ) (bytes : List ℕ) (all : Bytes bytes) where
@@ -238,7 +249,7 @@ module _ (n width : ℕ) (bytes : List ℕ) (all : Bytes bytes) where
 
   -- so the number of a load goes by the heads first and then by the values
   pub number-headed : loadNumber n width bytes
-      ≡ cond (headed n width bytes) (cond (valid n (triggerIn bytes) (cellsIn n width bytes) (connectorsIn n width bytes)) 0 15) 14
+      ≡ cond (headed n width bytes) (cond (valid n (triggerIn bytes) (loadCells n width bytes) (connectorsIn n width bytes)) 0 15) 14
   unfolding loadNumber
   number-headed = rw same-headed
 
@@ -246,7 +257,7 @@ module _ (n width : ℕ) (bytes : List ℕ) (all : Bytes bytes) where
   pub fourteen : eqb (loadNumber n width bytes) 14 ≡ not (headed n width bytes)
   fourteen =
       ap (λ (k : ℕ). eqb k 14) number-headed
-      ∙ told (headed n width bytes) (valid n (triggerIn bytes) (cellsIn n width bytes) (connectorsIn n width bytes))
+      ∙ told (headed n width bytes) (valid n (triggerIn bytes) (loadCells n width bytes) (connectorsIn n width bytes))
     where
       told : (h v : Bool) → eqb (cond h (cond v 0 15) 14) 14 ≡ not h
       told true true = refl

@@ -2,17 +2,18 @@
 -- a load, that a record holds one card's settings, and that a load gives a valid card.
 use Prim.Native.Nat.{ℕ, suc, _+_, _*_, _^_, _≤_, _<_}
 use mathlib.Core.Path.{_≡_, refl, sym, ap, _∙_}
-use mathlib.Core.Bool.{Bool, true, false, cond}
+use mathlib.Core.Bool.{Bool, true, false, _&&_, cond}
 use mathlib.Core.List.{List, [], _∷_, _++_, map, append-assoc, append-nil}
 use native.Mathlib.Nat.{zero-add, le-of-lt, lt-of-le-of-lt, mul-le-mul-right}
 use native.Mathlib.Omega.{arith}
-use lib.Dec.{eqb, lit<}
+use lib.Dec.{eqb, ltb, lit<}
 use lib.ListN.{length, getD, take, drop, length-append, length-map, drop-of-length-le, List·getD-append, List·getD-map}
 use lib.Seq.{take-at, take-all, drop-at, drop-drop, drop-append-le, getD-drop, getD-append-add, ext-getD, sets-eq}
-use borrow.Author.Tests.{le-ltb}
-use Rattle.words.proofs.Listed.{length-listed, listed-at}
+use borrow.Author.Tests.{le-ltb, eqb-true}
+use Rattle.words.proofs.Listed.{length-listed, listed-at, listed-same}
 use Rattle.cells.specs.declared.cell.Cell.{Cell}
-use Rattle.cells.specs.Table.{largestConfig}
+use Rattle.cells.specs.Table.{largestConfig, constantType, largestConstant}
+use Rattle.cells.proofs.Laws.{constant-largest}
 use Rattle.card.specs.declared.card.Card.{Card}
 use Rattle.card.specs.declared.card.Connector.{Connector}
 use Rattle.card.specs.Address.{connectorCount}
@@ -20,11 +21,11 @@ use Rattle.card.specs.Connectors.{noConnector}
 use Rattle.card.specs.Fresh.{clearState, noCell}
 use Rattle.card.specs.Valid.{validCell, valid, validCard}
 use Rattle.card.specs.Edits.{clearedCell}
-use Rattle.card.proofs.Settings.{every-at, Sound, split, cell-slots, cell-config, valid-cleared, valid-first}
+use Rattle.card.proofs.Settings.{every-at, Sound, split, cell-slots, cell-config, config-most, valid-cleared, valid-first}
 use Rattle.card.proofs.Slots.{four}
 use Rattle.saved.specs.Record.{bigEndian, bigValue, triggerField, cellField, connectorField, fieldsFrom, encode, configWidth, triggerLength, cellLength}
 use Rattle.saved.specs.Record.{connectorLength, recordLength, triggerIn, cellIn, connectorIn, cellsIn, connectorsIn, recordOf, sameBytes, loadNumber}
-use Rattle.saved.specs.Record.{poweredUp, loaded, savedTo}
+use Rattle.saved.specs.Record.{normalCell, loadCells, normalRecord, SmallConstants, poweredUp, loaded, savedTo}
 use Rattle.saved.proofs.Fields.{fields-length, field-at, fields-map, length-big, big-read, same-refl, same-sound, same-not}
 
 -- ---- the fields of a record
@@ -206,27 +207,40 @@ encode-cleared width trigger cells connectors =
 
 -- ---- loads
 
--- the cells that stand in some bytes, with others behind them
-cells-taken : (n width : ℕ) (bytes : List ℕ) (rest : List Cell) → take n (cellsIn n width bytes ++ rest) ≡ cellsIn n width bytes
-cells-taken n width bytes rest = take-at (cellsIn n width bytes) rest n (length-listed (cellIn width bytes) n)
+-- the cells that a load gives, with others behind them
+cells-taken : (n width : ℕ) (bytes : List ℕ) (rest : List Cell) → take n (loadCells n width bytes ++ rest) ≡ loadCells n width bytes
+cells-taken n width bytes rest = take-at (loadCells n width bytes) rest n (length-listed (λ i. normalCell (cellIn width bytes i)) n)
 
-cells-all : (n width : ℕ) (bytes : List ℕ) → take n (cellsIn n width bytes) ≡ cellsIn n width bytes
-cells-all n width bytes = take-all n (cellsIn n width bytes) (omega (arith, length-listed (cellIn width bytes) n))
+cells-all : (n width : ℕ) (bytes : List ℕ) → take n (loadCells n width bytes) ≡ loadCells n width bytes
+cells-all n width bytes = take-all n (loadCells n width bytes) (omega (arith, length-listed (λ i. normalCell (cellIn width bytes i)) n))
+
+-- settings whose constants are 0 or 1 are in normal form
+normal-small : (cell : Cell) → (cell .kind ≡ constantType → cell .config ≤ largestConstant) → normalCell cell ≡ cell
+unfolding normalCell
+normal-small cell small = ap with-config (go (eqb (cell .kind) constantType) refl)
+  where
+    with-config : ℕ → Cell
+    with-config v = record { kind = cell .kind; config = v; slots = cell .slots; state = cell .state }
+
+    go : (b : Bool) → eqb (cell .kind) constantType ≡ b → cond (b && ltb largestConstant (cell .config)) largestConstant (cell .config) ≡ cell .config
+    go true e = rw (le-ltb largestConstant (cell .config) (small (eqb-true (cell .kind) constantType e)))
+    go false e = refl
+
+pub small-normal : (n width : ℕ) (bytes : List ℕ) → SmallConstants n width bytes → loadCells n width bytes ≡ cellsIn n width bytes
+small-normal n width bytes small =
+    listed-same (λ i. normalCell (cellIn width bytes i)) (cellIn width bytes) n (λ i h. normal-small (cellIn width bytes i) (small i h))
 
 -- a load by the settings that stand in its bytes
-module _ (n width : ℕ) (bytes : List ℕ) (trigger : ℕ) (connectors : List Connector) (et : triggerIn bytes ≡ trigger)
-    (ek : connectorsIn n width bytes ≡ connectors) where
-  pub number-from : (cells rest : List Cell) → cells ≡ cellsIn n width bytes ++ rest
-      → loadNumber n width bytes
-      ≡ cond (sameBytes (encode width trigger (take n cells) connectors) bytes) (cond (valid n trigger cells connectors) 0 15) 14
-  unfolding loadNumber valid
-  number-from cells rest ec =
-      rw (et, ek, ec, cells-taken n width bytes rest, cells-all n width bytes)
+pub valid-from : (n width : ℕ) (bytes : List ℕ) (cells rest : List Cell) → cells ≡ loadCells n width bytes ++ rest
+    → valid n (triggerIn bytes) cells (connectorsIn n width bytes) ≡ valid n (triggerIn bytes) (loadCells n width bytes) (connectorsIn n width bytes)
+valid-from n width bytes cells rest e =
+    valid-first n (triggerIn bytes) cells (loadCells n width bytes) (connectorsIn n width bytes)
+    (ap (take n) e ∙ cells-taken n width bytes rest ∙ sym (cells-all n width bytes))
 
-  pub loaded-from : (d : Card) (cells : List Cell) → cells ≡ cellsIn n width bytes ++ drop n (d .cells) → loadNumber n width bytes ≡ 0
-      → loaded n width d bytes ≡ poweredUp n trigger cells connectors
-  unfolding loaded
-  loaded-from d cells ec e = rw (e, et, ec, ek)
+pub loaded-from : (n width : ℕ) (d : Card) (bytes : List ℕ) (cells : List Cell) → cells ≡ loadCells n width bytes ++ drop n (d .cells)
+    → loadNumber n width bytes ≡ 0 → loaded n width d bytes ≡ poweredUp n (triggerIn bytes) cells (connectorsIn n width bytes)
+unfolding loaded
+loaded-from n width d bytes cells ec e = rw (e, ec)
 
 -- a refused load changes nothing
 pub load-refused : (n width : ℕ) (d : Card) (bytes : List ℕ) → eqb (loadNumber n width bytes) 0 ≡ false → loaded n width d bytes ≡ d
@@ -263,31 +277,36 @@ accepted false v e = absurd (omega arith)
 
 module _ (n width : ℕ) (d : Card) (bytes : List ℕ) (ok : loadNumber n width bytes ≡ 0) where
   tests : (sameBytes (encode width (triggerIn bytes) (cellsIn n width bytes) (connectorsIn n width bytes)) bytes ≡ true)
-      × (valid n (triggerIn bytes) (cellsIn n width bytes) (connectorsIn n width bytes) ≡ true)
+      × (valid n (triggerIn bytes) (loadCells n width bytes) (connectorsIn n width bytes) ≡ true)
   unfolding loadNumber
   tests = accepted _ _ ok
 
   cells : List Cell
-  cells = cellsIn n width bytes ++ drop n (d .cells)
+  cells = loadCells n width bytes ++ drop n (d .cells)
 
   powered : loaded n width d bytes ≡ poweredUp n (triggerIn bytes) cells (connectorsIn n width bytes)
   unfolding cells
-  powered = loaded-from n width bytes (triggerIn bytes) (connectorsIn n width bytes) refl refl d cells refl ok
+  powered = loaded-from n width d bytes cells refl ok
 
-  -- a card that was loaded saves as the bytes that it was loaded from
-  pub save-load : recordOf n width (loaded n width d bytes) ≡ bytes
-  unfolding recordOf cells
+  -- a card that was loaded saves as the bytes that it was loaded from, with constants above 1 made 1
+  pub save-load : recordOf n width (loaded n width d bytes) ≡ normalRecord n width bytes
+  unfolding recordOf normalRecord cells
   save-load =
       ap (recordOf n width) powered
       ∙ ap (λ (l : List Cell). encode width (triggerIn bytes) l (connectorsIn n width bytes)) (cells-taken n width bytes (drop n (d .cells)))
+
+  -- and as the same bytes where it has none
+  pub save-same : SmallConstants n width bytes → recordOf n width (loaded n width d bytes) ≡ bytes
+  unfolding normalRecord
+  save-same small =
+      save-load
+      ∙ ap (λ (l : List Cell). encode width (triggerIn bytes) l (connectorsIn n width bytes)) (small-normal n width bytes small)
       ∙ same-sound _ bytes (tests .0)
 
-  -- and its settings are valid
+  -- its settings are valid
   pub loaded-valid : validCard n (loaded n width d bytes) ≡ true
   unfolding validCard cells
-  loaded-valid =
-      let first = cells-taken n width bytes (drop n (d .cells)) ∙ sym (cells-all n width bytes) in
-      ap (validCard n) powered ∙ valid-first n (triggerIn bytes) cells (cellsIn n width bytes) (connectorsIn n width bytes) first ∙ tests .1
+  loaded-valid = ap (validCard n) powered ∙ valid-from n width bytes cells (drop n (d .cells)) refl ∙ tests .1
 
 -- ---- saves
 
@@ -355,25 +374,43 @@ module _ (n width : ℕ) (wide : largestConfig < 256 ^ width) (c : Card) (ok : v
   pub cleared-taken : (rest : List Cell) → take n (map clearedCell (take n (c .cells)) ++ rest) ≡ map clearedCell (take n (c .cells))
   cleared-taken rest = take-at (map clearedCell (take n (c .cells))) rest n (length-map (take n (c .cells)) clearedCell ∙ count)
 
+  -- and its constants are 0 or 1
+  small : SmallConstants n width (recordOf n width c)
+  small i h k =
+      let cell = getD (take n (c .cells)) i noCell in
+      let inside : i < length (take n (c .cells)) = omega (arith, count) in
+      let read : cellIn width (recordOf n width c) i ≡ clearedCell cell =
+      sym (listed-at (cellIn width (recordOf n width c)) n i noCell h)
+      ∙ ap (λ (l : List Cell). getD l i noCell) cells-back ∙ List·getD-map clearedCell (take n (c .cells)) i noCell in
+      let most = config-most n cell (first-valid n (c .trigger) (c .cells) (c .connectors) settings i inside) in
+      let kind : cell .kind ≡ constantType = sym (ap (λ (x : Cell). x .kind) read) ∙ k in
+      rw read (rw (kind, constant-largest) at most)
+
+  loads-back : loadCells n width (recordOf n width c) ≡ map clearedCell (take n (c .cells))
+  loads-back = small-normal n width (recordOf n width c) small ∙ cells-back
+
   pub load-accepts : loadNumber n width (recordOf n width c) ≡ 0
-  unfolding recordOf
+  unfolding loadNumber recordOf
   load-accepts =
-      let cells = map clearedCell (take n (c .cells)) ++ [] in
-      let read = ap (λ (l : List Cell). l ++ []) (sym cells-back) in
-      number-from n width (recordOf n width c) (c .trigger) (c .connectors) trigger-back connectors-back cells [] read
-      ∙ rw (
-        cleared-taken [],
+      let cells = map clearedCell (take n (c .cells)) in
+      let all : take n cells ≡ cells = take-all n cells (omega (arith, length-map (take n (c .cells)) clearedCell, count)) in
+      rw (
+        trigger-back,
+        cells-back,
+        loads-back,
+        connectors-back,
         encode-cleared width (c .trigger) (take n (c .cells)) (c .connectors),
         same-refl (recordOf n width c),
-        valid-cleared n (c .trigger) cells (c .cells) (c .connectors) (cleared-taken []),
+        valid-cleared n (c .trigger) cells (c .cells) (c .connectors) all,
         settings,
       )
 
   pub load-save : (d : Card) → loaded n width d (recordOf n width c)
       ≡ poweredUp n (c .trigger) (map clearedCell (take n (c .cells)) ++ drop n (d .cells)) (c .connectors)
   load-save d =
-      loaded-from n width (recordOf n width c) (c .trigger) (c .connectors) trigger-back connectors-back d _
-      (ap (λ (l : List Cell). l ++ drop n (d .cells)) (sym cells-back)) load-accepts
+      loaded-from n width d (recordOf n width c) (map clearedCell (take n (c .cells)) ++ drop n (d .cells))
+      (ap (λ (l : List Cell). l ++ drop n (d .cells)) (sym loads-back)) load-accepts
+      ∙ (λ k. poweredUp n (trigger-back k) (map clearedCell (take n (c .cells)) ++ drop n (d .cells)) (connectors-back k))
 
 -- valid cards with one record have the same settings
 pub one-record : (n width : ℕ) → largestConfig < 256 ^ width → (c d : Card) → validCard n c ≡ true → validCard n d ≡ true

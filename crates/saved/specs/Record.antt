@@ -1,5 +1,6 @@
--- Document 01, "Saved record": the settings as bytes, and a load. Stated over the number n of cells and the width of the configuration.
-use Prim.Native.Nat.{ℕ, zero, suc, _+_, _-_, _*_, _/_, _%_, _^_}
+-- Document 01, "Saved record", and document 02, "Constants are 0 or 1": the settings as bytes, and a load. Stated over the number n of cells and the width of the configuration.
+use Prim.Native.Nat.{ℕ, zero, suc, _+_, _-_, _*_, _/_, _%_, _^_, _<_, _≤_}
+use mathlib.Core.Path.{_≡_}
 use mathlib.Core.Bool.{Bool, true, false, _&&_, cond}
 use mathlib.Core.List.{List, [], _∷_, _++_}
 use lib.Dec.{eqb, ltb}
@@ -7,6 +8,7 @@ use lib.ListN.{length, getD, take, drop}
 use lib.Seq.{sets}
 use Rattle.words.specs.Listed.{listed}
 use Rattle.cells.specs.declared.cell.Cell.{Cell}
+use Rattle.cells.specs.Table.{constantType, largestConstant}
 use Rattle.card.specs.declared.card.Card.{Card}
 use Rattle.card.specs.declared.card.Connector.{Connector}
 use Rattle.card.specs.Address.{firstCell, firstConnector, connectorCount}
@@ -93,6 +95,17 @@ connectorIn n width bytes k =
 abbrev pub cellsIn : ℕ → ℕ → List ℕ → List Cell
 cellsIn n width bytes = listed (cellIn width bytes) n
 
+-- document 02, "Constants are 0 or 1": "A stored record with a larger number still loads, as 1": a cell in its normal form
+abbrev pub normalConfig : (kind config : ℕ) → ℕ
+normalConfig kind config = cond (eqb kind constantType && ltb largestConstant config) largestConstant config
+
+unfoldable pub normalCell : Cell → Cell
+normalCell cell = record { kind = cell .kind; config = normalConfig (cell .kind) (cell .config); slots = cell .slots; state = cell .state }
+
+-- the cells that a load gives
+abbrev pub loadCells : ℕ → ℕ → List ℕ → List Cell
+loadCells n width bytes = listed (λ i. normalCell (cellIn width bytes i)) n
+
 abbrev pub connectorsIn : ℕ → ℕ → List ℕ → List Connector
 connectorsIn n width bytes = listed (connectorIn n width bytes) connectorCount
 
@@ -109,11 +122,12 @@ sameBytes (a ∷ s) [] = false
 sameBytes (a ∷ s) (b ∷ bs) = eqb a b && sameBytes s bs
 
 -- 14: "record not 276 bytes; a field's length, tag, or a cell number or connector address out of order": the settings read out of the bytes,
--- written again, are not these bytes; byte by byte in specs/Headers. 15: "record value no line could set" and what else `valid` says
+-- written again, are not these bytes; byte by byte in specs/Headers. 15: "record value no line could set" and what else `valid` says, of the
+-- settings in normal form: a constant's own number is no cause for it
 unfoldable pub loadNumber : ℕ → ℕ → List ℕ → ℕ
 loadNumber n width bytes =
     cond (sameBytes (encode width (triggerIn bytes) (cellsIn n width bytes) (connectorsIn n width bytes)) bytes)
-    (cond (valid n (triggerIn bytes) (cellsIn n width bytes) (connectorsIn n width bytes)) 0 15) 14
+    (cond (valid n (triggerIn bytes) (loadCells n width bytes) (connectorsIn n width bytes)) 0 15) 14
 
 -- "A load is a power-up: fresh, with these settings"; "by HOME and by a load, all are" edited
 abbrev pub poweredUp : ℕ → ℕ → List Cell → List Connector → Card
@@ -123,7 +137,15 @@ poweredUp n trigger cells connectors = started trigger cells connectors (2 ^ n -
 unfoldable pub loaded : ℕ → ℕ → Card → List ℕ → Card
 loaded n width c bytes =
     cond (eqb (loadNumber n width bytes) 0)
-    (poweredUp n (triggerIn bytes) (cellsIn n width bytes ++ drop n (c .cells)) (connectorsIn n width bytes)) c
+    (poweredUp n (triggerIn bytes) (loadCells n width bytes ++ drop n (c .cells)) (connectorsIn n width bytes)) c
+
+-- what a save after an accepted load writes: the record with its constants above 1 made 1; "saved as 1 afterwards"
+unfoldable pub normalRecord : ℕ → ℕ → List ℕ → List ℕ
+normalRecord n width bytes = encode width (triggerIn bytes) (loadCells n width bytes) (connectorsIn n width bytes)
+
+-- no constant of the record is above 1
+abbrev pub SmallConstants : ℕ → ℕ → List ℕ → Type 0
+SmallConstants n width bytes = (i : ℕ) → i < n → cellIn width bytes i .kind ≡ constantType → cellIn width bytes i .config ≤ largestConstant
 
 -- the store after a save: the record at its front and beyond it as it was; a store too short is untouched
 unfoldable pub savedTo : ℕ → ℕ → Card → List ℕ → List ℕ

@@ -1,17 +1,18 @@
 -- Document 01, "Saved record" and rows 14 and 15, as one table by computation: a whole record written out from the document, what it loads as, and
 -- what a load gives where bytes of it are others.
-use Prim.Native.Nat.{ℕ}
+use Prim.Native.Nat.{ℕ, _/_, _%_}
 use mathlib.Core.Path.{_≡_, refl}
 use mathlib.Core.List.{List, [], _∷_, _++_, map}
 use lib.ListN.{set, take, drop}
 use Rattle.words.specs.Listed.{listed}
 use Rattle.cells.specs.Table.{rowOf}
 use Rattle.card.specs.Address.{cellCount}
-use Rattle.card.specs.Fresh.{fresh}
+use Rattle.card.specs.Fresh.{clearState, fresh}
+use Rattle.card.specs.Context.{configShown}
 use Rattle.card.specs.Valid.{permittedBase, badClock, frontDriven, badCellType, badConnectorType, badAddress, validSlot, validSlots, validCell}
 use Rattle.card.specs.Valid.{validConnector, every, valid}
 use Rattle.saved.specs.Record.{bigEndian, cellField, connectorField, fieldsFrom, encode, configWidth, bigValue, triggerIn, cellIn, connectorIn, recordOf}
-use Rattle.saved.specs.Record.{sameBytes, loadNumber, loaded}
+use Rattle.saved.specs.Record.{normalCell, sameBytes, loadNumber, loaded}
 
 -- ---- a record
 
@@ -94,12 +95,30 @@ load bytes = loadNumber cellCount configWidth bytes ∷ []
 with : List (ℕ × ℕ) → List ℕ
 with changes = load (changed changes whole)
 
+-- what `36CCA Z?` reads of cell 1, the constant, after a load of this one
+constantRead : ℕ → List ℕ
+constantRead v = configShown (normalCell (cellIn configWidth (changed ((9, v / 256) ∷ (10, v % 256) ∷ []) whole) 0)) ∷ []
+
 -- given, expected
 abbrev table : List (List ℕ × List ℕ)
 table =
-    -- it loads, and saved again it is the same
+    -- it loads; saved again it is the same, but for its constant 258, which is loaded as 1, reads 1 and is saved as 1
     (load whole, 0 ∷ [])
-    ∷ (recordOf cellCount configWidth (loaded cellCount configWidth fresh whole), whole)
+    ∷ (recordOf cellCount configWidth (loaded cellCount configWidth fresh whole), changed ((9, 0) ∷ (10, 1) ∷ []) whole)
+    ∷ (constantRead 258, 1 ∷ [])
+    -- constants 64 and 2 are loaded as 1, and not by their low bit; 1 and 0 stay
+    ∷ (constantRead 64, 1 ∷ [])
+    ∷ (constantRead 2, 1 ∷ [])
+    ∷ (constantRead 1, 1 ∷ [])
+    ∷ (constantRead 0, 0 ∷ [])
+    ∷ (with ((9, 0) ∷ (10, 2) ∷ []), 0 ∷ [])
+    -- "a card handed in with constant 64 ... shows 64 where its configuration is ... saved"
+    ∷ (
+      cellField configWidth 0 (record { kind = 0; config = 64; slots = 0 ∷ 0 ∷ 0 ∷ 0 ∷ []; state = clearState }),
+      2 ∷ 0 ∷ 8 ∷ 1 ∷ 0 ∷ 0 ∷ 64 ∷ 0 ∷ 0 ∷ 0 ∷ 0 ∷ [],
+    )
+    -- a lookup's code is loaded as it stands
+    ∷ (configShown (normalCell (cellIn configWidth whole 4)) ∷ [], 65520 ∷ [])
     -- the values in it
     ∷ (triggerIn whole ∷ [], 3 ∷ [])
     ∷ (cellRead 0, 0 ∷ 258 ∷ 0 ∷ 0 ∷ 0 ∷ 0 ∷ [])
@@ -172,5 +191,5 @@ table =
     ∷ []
 
 examples : map (λ (e : List ℕ × List ℕ). e .0) table ≡ map (λ (e : List ℕ × List ℕ). e .1) table
-unfolding whole part changed cellRead connectorRead load with listed rowOf fresh permittedBase badClock frontDriven badCellType badConnectorType badAddress validSlot validSlots validCell validConnector every valid bigEndian cellField connectorField fieldsFrom encode bigValue cellIn connectorIn recordOf sameBytes loadNumber loaded
+unfolding whole part changed cellRead connectorRead load with constantRead configShown listed rowOf fresh permittedBase badClock frontDriven badCellType badConnectorType badAddress validSlot validSlots validCell validConnector every valid bigEndian cellField connectorField fieldsFrom encode bigValue cellIn normalCell connectorIn recordOf sameBytes loadNumber loaded
 examples = refl

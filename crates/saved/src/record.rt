@@ -8,8 +8,9 @@ ghost use lib.ListN.{length, take, drop};
 ghost use lib.Seq.{sets};
 ghost use Rattle.card.specs.Address.{cellCount, connectorCount};
 ghost use Rattle.saved.specs.Record.{configWidth, cellLength, connectorLength, triggerLength, recordLength};
-ghost use Rattle.saved.specs.Record.{cellField, connectorField, fieldsFrom, encode, sameBytes};
-ghost use Rattle.saved.specs.Record.{cellIn, connectorIn, cellsIn, connectorsIn, loadNumber, loaded, savedTo};
+ghost use Rattle.saved.specs.Headers.{everyBelow, numberedAt, headed};
+ghost use Rattle.saved.specs.Record.{cellField, connectorField, fieldsFrom, encode, normalConfig, normalCell, loadCells};
+ghost use Rattle.saved.specs.Record.{cellIn, connectorIn, connectorsIn, loadNumber, loaded, savedTo};
 use card::card::Card;
 use card::card::Connector;
 use card::card::started;
@@ -23,6 +24,8 @@ use cells::cell::Cell;
 use cells::cell::Config;
 use cells::cell::Pulses;
 use cells::cell::State;
+use cells::table::CONSTANT;
+use cells::table::LARGEST_CONSTANT;
 
 // A field is its tag, the number of the bytes that follow in two bytes, and these bytes.
 const HEAD: usize = 3;
@@ -213,18 +216,41 @@ fn connector_in(bytes: &[u8], k: usize) -> Connector
     }
 }
 
-// The first n cells of a record in the place of others. By recursion, as `card::edits::cleared`.
+// A constant above the largest is loaded as the largest; anything else as it stands.
+fn normal_config(kind: u8, config: Config) -> Config
+    ensures { λ r. ⌜ r ≡ normalConfig kind config ⌝ }
+{
+    if (kind == CONSTANT) & (LARGEST_CONSTANT < config) {
+        LARGEST_CONSTANT
+    } else {
+        config
+    }
+}
+
+// The cell that a load gives for field number i.
+fn load_cell(bytes: &[u8], i: usize) -> Cell
+    requires { ⌜ length (now bytes) ≡ recordLength cellCount configWidth ⌝ }
+    requires { ⌜ i < cellCount ⌝ }
+    ensures { λ r. ⌜ r ≡ normalCell (cellIn configWidth (now (bytes .entry)) i) ⌝ }
+{
+    let mut cell = cell_in(bytes, i);
+    let config = normal_config(cell.kind, cell.config);
+    cell.config = config;
+    cell
+}
+
+// The first n cells that a load gives, in the place of others. By recursion, as `card::edits::cleared`.
 fn cells_in(bytes: &[u8], cells: [Cell; CELLS], n: usize) -> [Cell; CELLS]
     requires { ⌜ length (now bytes) ≡ recordLength cellCount configWidth ⌝ }
     requires { ⌜ n ≤ cellCount ⌝ }
-    ensures { λ r. ⌜ r ≡ cellsIn n configWidth (now (bytes .entry)) ++ drop n cells ⌝ }
+    ensures { λ r. ⌜ r ≡ loadCells n configWidth (now (bytes .entry)) ++ drop n cells ⌝ }
 {
     if n == 0 {
         return cells;
     }
     let i = n - 1;
     let mut next = cells_in(bytes, cells, i);
-    next[i] = cell_in(bytes, i);
+    next[i] = load_cell(bytes, i);
     next
 }
 
@@ -241,30 +267,77 @@ fn connectors_in(bytes: &[u8], connectors: [Connector; CONNECTORS]) -> [Connecto
     next
 }
 
-// The same bytes.
-fn same(a: &[u8], b: &[u8]) -> bool
-    ensures { λ r. ⌜ r ≡ sameBytes (now (a .entry)) (now (b .entry)) ⌝ }
+// ---- the heads of fields
+
+// Whether a field of a tag and a size starts at a place, and a number comes behind its head: that of a cell, or the address of a connector.
+fn numbered_at(bytes: &[u8], at: usize, tag: u8, size: u8, number: u8) -> bool
+    requires { ⌜ at + 4 ≤ length (now bytes) ⌝ }
+    ensures { λ q. ⌜ q ≡ numberedAt (now (bytes .entry)) at tag size number ⌝ }
 {
-    if a.len() != b.len() {
+    let head = (tag == bytes[at]) & ((0 == bytes[at + 1]) & (size == bytes[at + 2]));
+    head & (number == bytes[at + 3])
+}
+
+// So each of `count` fields in a row, every one `step` bytes long, with numbers from `first` on.
+fn all_numbered(
+    bytes: &[u8],
+    start: usize,
+    step: usize,
+    count: u8,
+    tag: u8,
+    size: u8,
+    first: u8,
+) -> bool
+    requires { ⌜ (start + count * step ≤ length (now bytes)) × (4 ≤ step) × (count + first < 256) ⌝ }
+    ensures { λ q. ⌜ q ≡ everyBelow (λ i. numberedAt (now (bytes .entry)) (start + i * step) tag size (i + first)) count ⌝ }
+{
+    let mut ok = true;
+    for i in 0..count {
+        let at = start + i as usize * step;
+        let v = numbered_at(bytes, at, tag, size, i + first);
+        ok = ok & v;
+    }
+    ok
+}
+
+// Whether the bytes have a record's length and the heads of its fields. What the fields hold is another question.
+fn is_headed(bytes: &[u8]) -> bool
+    ensures { λ q. ⌜ q ≡ headed cellCount configWidth (now (bytes .entry)) ⌝ }
+{
+    if bytes.len() != RECORD_LENGTH {
         return false;
     }
-    for i in 0..a.len() {
-        if a[i] != b[i] {
-            return false;
-        }
-    }
-    true
+    let trigger = (TRIGGER_TAG == bytes[0]) & ((0 == bytes[1]) & (TRIGGER_SIZE == bytes[2]));
+    let cells = all_numbered(
+        bytes,
+        TRIGGER_LENGTH,
+        CELL_LENGTH,
+        CELLS as u8,
+        CELL_TAG,
+        CELL_SIZE,
+        FIRST_CELL,
+    );
+    let connectors = all_numbered(
+        bytes,
+        CONNECTORS_AT,
+        CONNECTOR_LENGTH,
+        CONNECTORS as u8,
+        CONNECTOR_TAG,
+        CONNECTOR_SIZE,
+        FIRST_CONNECTOR,
+    );
+    trigger & (cells & connectors)
 }
 
 // ---- load and save
 
 // A load of any bytes. The card powers up with them, and every cell counts as edited; a refused load leaves it as it was. k is 0, 14 where
-// these are not the bytes of a record, or 15 where its settings are none that lines can set.
+// these are not the bytes of a record, or 15 where its settings, constants above 1 made 1, are none that lines can set.
 pub fn load(card: Card, bytes: &[u8]) -> Loaded
     ensures { λ r. ⌜ r .card ≡ loaded cellCount configWidth card (now (bytes .entry)) ⌝ }
     ensures { λ r. ⌜ r .k ≡ loadNumber cellCount configWidth (now (bytes .entry)) ⌝ }
 {
-    if bytes.len() != RECORD_LENGTH {
+    if !is_headed(bytes) {
         return Loaded { card: card, k: 14 };
     }
     let trigger = bytes[HEAD];
@@ -272,10 +345,6 @@ pub fn load(card: Card, bytes: &[u8]) -> Loaded
     let connectors = card.connectors;
     let cells = cells_in(bytes, cells, CELLS);
     let connectors = connectors_in(bytes, connectors);
-    let again = encoded(trigger, cells, connectors);
-    if !same(&again, bytes) {
-        return Loaded { card: card, k: 14 };
-    }
     let next = started(trigger, cells, connectors, ALL_EDITED);
     if !valid_settings(trigger, cells, connectors) {
         return Loaded { card: card, k: 15 };

@@ -8,13 +8,13 @@ use borrow.Author.Needs.{needs}
 use Rattle.words.specs.Listed.{listed}
 use Rattle.words.proofs.Listed.{listed-next}
 use Rattle.card.specs.Fresh.{noCell}
-use Rattle.saved.specs.Record.{configWidth, cellIn, cellsIn}
+use Rattle.saved.specs.Record.{configWidth, cellIn, normalCell, loadCells}
 use borrow.Fn.Kinds.{In}
 use borrow.Fn.PlainCycle.{Measures, is, falls, and}
 use Rattle.saved.proofs.record.cells_in.Reads as cells-in
 use Rattle.saved.proofs.record.cells_in.Kinds as cells-in-kinds
 use Rattle.saved.proofs.record.+cells_in.Lts-cells_in as cells-in-lts
-use Rattle.saved.proofs.record.cell_in.Reads as cell-in-reads
+use Rattle.saved.proofs.record.load_cell.Reads as load-cell-reads
 use Rattle.saved.proofs.record.+cells_in.{statement}
 use Rattle.saved.proofs.record.+cells_in.Tie.{close}
 
@@ -31,8 +31,8 @@ cells-in-below t =
 cells-in-returns : (t : ℕ) → cells-in-lts.Need-returns (
   cells-in-below t,
   cells-in.Post,
-  cell-in-reads.Asked,
-  cell-in-reads.Learnt,
+  load-cell-reads.Asked,
+  load-cell-reads.Learnt,
 ) (cells-in-at t) cells-in.Post
 unfolding listed
 cells-in-returns t c = rw (c .if1 .taken)
@@ -40,70 +40,70 @@ cells-in-returns t c = rw (c .if1 .taken)
 cells-in-sub-i : (t : ℕ) → cells-in-lts.Need-sub-i (
   cells-in-below t,
   cells-in.Post,
-  cell-in-reads.Asked,
-  cell-in-reads.Learnt,
+  load-cell-reads.Asked,
+  load-cell-reads.Learnt,
 ) (cells-in-at t) cells-in.Post
 cells-in-sub-i t c = search needs
 
 cells-in-cells-in-requires : (t : ℕ) → cells-in-lts.Need-cells-in-requires (
   cells-in-below t,
   cells-in.Post,
-  cell-in-reads.Asked,
-  cell-in-reads.Learnt,
+  load-cell-reads.Asked,
+  load-cell-reads.Learnt,
 ) (cells-in-at t) cells-in.Post
 cells-in-cells-in-requires t c κs = search needs
 
-cells-in-cell-in-requires : (t : ℕ) → cells-in-lts.Need-cell-in-requires (
+cells-in-load-cell-requires : (t : ℕ) → cells-in-lts.Need-load-cell-requires (
   cells-in-below t,
   cells-in.Post,
-  cell-in-reads.Asked,
-  cell-in-reads.Learnt,
+  load-cell-reads.Asked,
+  load-cell-reads.Learnt,
 ) (cells-in-at t) cells-in.Post
-cells-in-cell-in-requires t c κs = search needs
+cells-in-load-cell-requires t c κs = search needs
 
 cells-in-mul-next : (t : ℕ) → cells-in-lts.Need-mul-next (
   cells-in-below t,
   cells-in.Post,
-  cell-in-reads.Asked,
-  cell-in-reads.Learnt,
+  load-cell-reads.Asked,
+  load-cell-reads.Learnt,
 ) (cells-in-at t) cells-in.Post
 cells-in-mul-next t c = search needs
 
 cells-in-array-set-from-next : (t : ℕ) → cells-in-lts.Need-array-set-from-next (
   cells-in-below t,
   cells-in.Post,
-  cell-in-reads.Asked,
-  cell-in-reads.Learnt,
+  load-cell-reads.Asked,
+  load-cell-reads.Learnt,
 ) (cells-in-at t) cells-in.Post
 cells-in-array-set-from-next t c = search needs
 
 cells-in-returns-2 : (t : ℕ) → cells-in-lts.Need-returns-2 (
   cells-in-below t,
   cells-in.Post,
-  cell-in-reads.Asked,
-  cell-in-reads.Learnt,
+  load-cell-reads.Asked,
+  load-cell-reads.Learnt,
 ) (cells-in-at t) cells-in.Post
 cells-in-returns-2 t c =
     let a = c .before .before .before .before .args in
     let i : ℕ = a .n - 1 in
     let one : i + 1 ≡ a .n = omega arith in
-    listed-next (cellIn configWidth (a .bytes .now)) i (a .cells) (c .before .cells-in .result) _ noCell (c .before .cells-in .ensures)
-    (c .cell-in .ensures) (search needs)
-    ∙ ap (λ (k : ℕ). cellsIn k configWidth (a .bytes .now) ++ drop k (a .cells)) one
+    listed-next (λ k. normalCell (cellIn configWidth (a .bytes .now) k)) i (a .cells) (c .before .cells-in .result) _ noCell (c .before .cells-in .ensures)
+    (c .load-cell .ensures) (search needs)
+    ∙ ap (λ (k : ℕ). loadCells k configWidth (a .bytes .now) ++ drop k (a .cells)) one
 
 pub +cells-in-spec : {M : Type 1} → statement M
 +cells-in-spec = close μ-cells-in λ t. cells-in-lts.spec (
   cells-in-below t,
   cells-in.Post,
-  cell-in-reads.Asked,
-  cell-in-reads.Learnt,
+  load-cell-reads.Asked,
+  load-cell-reads.Learnt,
 )
     (cells-in-at t)
     cells-in.Post
     (cells-in-returns t)
     (cells-in-sub-i t)
     (cells-in-cells-in-requires t)
-    (cells-in-cell-in-requires t)
+    (cells-in-load-cell-requires t)
     (cells-in-mul-next t)
     (cells-in-array-set-from-next t)
     (cells-in-returns-2 t)

@@ -1,0 +1,54 @@
+-- `saved::record::is_headed` meets its contract: the length, the head of the trigger, and those of the two rows of fields.
+use mathlib.Core.Path.{_≡_, refl, sym, ap, _∙_}
+use borrow.Author.Tests.{eq-eqb, ne-eqb}
+use Rattle.card.specs.Address.{cellCount}
+use Rattle.saved.specs.Record.{configWidth, recordLength}
+use Rattle.saved.specs.Headers.{startsAt, triggerHeaded, cellHeaded, connectorHeaded, headed}
+use borrow.Author.Needs.{needs}
+use Rattle.saved.proofs.record.is_headed.Statement.{statement}
+use Rattle.saved.proofs.record.is_headed.Tie as tie
+
+returns : tie.Need-returns
+unfolding headed
+returns c = rw (ne-eqb _ (recordLength cellCount configWidth) (c .if1 .taken))
+
+shared-slice-read-trigger : tie.Need-shared-slice-read-trigger
+shared-slice-read-trigger c = search needs
+
+shared-slice-read-trigger-2 : tie.Need-shared-slice-read-trigger-2
+shared-slice-read-trigger-2 c = search needs
+
+shared-slice-read-trigger-3 : tie.Need-shared-slice-read-trigger-3
+shared-slice-read-trigger-3 c = search needs
+
+cast-all-numbered : tie.Need-cast-all-numbered
+cast-all-numbered c = search needs
+
+all-numbered-requires : tie.Need-all-numbered-requires
+all-numbered-requires c κs = search needs
+
+cast-all-numbered-2 : tie.Need-cast-all-numbered-2
+cast-all-numbered-2 c = search needs
+
+all-numbered-requires-2 : tie.Need-all-numbered-requires-2
+all-numbered-requires-2 c κs = search needs
+
+returns-2 : tie.Need-returns-2
+unfolding headed startsAt triggerHeaded cellHeaded connectorHeaded
+returns-2 c =
+    let test = c .before .before .before .before .before in
+    rw (c .all-numbered2 .ensures, c .before .all-numbered .ensures, eq-eqb _ (recordLength cellCount configWidth) (test .if1 .left))
+
+pub is-headed-spec : {M : Type 1} → statement M
+is-headed-spec =
+    tie.close
+    (tie.spec
+    returns
+    shared-slice-read-trigger
+    shared-slice-read-trigger-2
+    shared-slice-read-trigger-3
+    cast-all-numbered
+    all-numbered-requires
+    cast-all-numbered-2
+    all-numbered-requires-2
+    returns-2)

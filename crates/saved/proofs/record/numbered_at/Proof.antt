@@ -1,0 +1,50 @@
+-- `saved::record::numbered_at` meets its contract: byte by byte; the size has one byte, so that the high one is 0.
+use mathlib.Core.Path.{_≡_}
+use Prim.Native.Nat.{_/_, _%_}
+use native.Mathlib.Omega.{arith}
+use Rattle.saved.specs.Headers.{startsAt, numberedAt}
+use borrow.Author.Needs.{needs}
+use Rattle.saved.proofs.record.numbered_at.Statement.{statement}
+use Rattle.saved.proofs.record.numbered_at.Tie as tie
+
+shared-slice-read-head : tie.Need-shared-slice-read-head
+shared-slice-read-head c = search needs
+
+add-head : tie.Need-add-head
+add-head c = search needs
+
+shared-slice-read-head-2 : tie.Need-shared-slice-read-head-2
+shared-slice-read-head-2 c = search needs
+
+add-head-2 : tie.Need-add-head-2
+add-head-2 c = search needs
+
+shared-slice-read-head-3 : tie.Need-shared-slice-read-head-3
+shared-slice-read-head-3 c = search needs
+
+add-result : tie.Need-add-result
+add-result c = search needs
+
+shared-slice-read-result : tie.Need-shared-slice-read-result
+shared-slice-read-result c = search needs
+
+returns : tie.Need-returns
+unfolding startsAt numberedAt
+returns c =
+    let a = c .before .before .before .before .args in
+    let high : a .size / 256 ≡ 0 = omega arith in
+    let low : a .size % 256 ≡ a .size = omega arith in
+    rw (high, low)
+
+pub numbered-at-spec : {M : Type 1} → statement M
+numbered-at-spec =
+    tie.close
+    (tie.spec
+    shared-slice-read-head
+    add-head
+    shared-slice-read-head-2
+    add-head-2
+    shared-slice-read-head-3
+    add-result
+    shared-slice-read-result
+    returns)
