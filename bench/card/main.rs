@@ -65,6 +65,7 @@ mod trigger {
     pub struct Input {
         pub code: u8,
         pub sample: u16,
+        pub attached: u16,
     }
 
     #[repr(C)]
@@ -203,9 +204,14 @@ fn waking(n: usize) -> Vec<String> {
     (1..=16).flat_map(cell).collect()
 }
 
-fn show(answer: &Answer, Input { code, sample }: Input, kind: &str) {
+fn show(answer: &Answer, input: Input, kind: &str) {
+    let Input {
+        code,
+        sample,
+        attached,
+    } = input;
     println!(
-        "T {code} {sample:04x} {}",
+        "T {code} {sample:04x} {attached:04x} {}",
         if kind == "quick" { 'Q' } else { 'F' }
     );
     if answer.ran {
@@ -261,7 +267,11 @@ fn main() {
     let (mut checksum, mut woken) = (0u32, 0u64);
     for _ in 0..n {
         let sample = if moving { random.next() as u16 } else { 0 };
-        let input = Input { code, sample };
+        let input = Input {
+            code,
+            sample,
+            attached: 0xffff,
+        };
         let Some(tick) = tick else {
             black_box(input);
             continue;

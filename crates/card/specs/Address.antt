@@ -10,6 +10,13 @@ cellCount = 16
 abbrev pub connectorCount : ℕ
 connectorCount = 16
 
+-- how many of the connectors are on the front, BNC1-8; the others are on the backplane
+abbrev pub frontCount : ℕ
+frontCount = 8
+
+abbrev pub onBackplane : ℕ → Bool
+onBackplane k = leb frontCount k
+
 -- "1-16 cells, 33-40 front connectors BNC1-8, 41-48 backplane TTL0-7": the first base of the cells and of the connectors
 abbrev pub firstCell : ℕ
 firstCell = 1

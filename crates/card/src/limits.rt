@@ -13,6 +13,11 @@ pub const FIRST_CONNECTOR: u8 = 33;
 
 pub const CONNECTORS_END: u8 = FIRST_CONNECTOR + CONNECTORS as u8;
 
+// How many of the connectors are on the front, and the word of those that are not: the backplane.
+pub const FRONT: u16 = 8;
+
+pub const BACKPLANE: u16 = 0xffff << FRONT;
+
 // The bases that addresses have, and the largest address.
 pub const BASES: u32 = 64;
 

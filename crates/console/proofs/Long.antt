@@ -15,9 +15,9 @@ use Rattle.console.specs.Console.{tickLine, plainReply, byLine, entered}
 long-line : (n : ℕ) (c : Card) (t store : List ℕ) → longestLine < length t → entered n c t store ≡ byLine n c t store
 unfolding entered tickLine
 long-line n c t store h =
-    let ten : length t ≡ 10 → ⊥ = omega arith in
+    let fifteen : length t ≡ 15 → ⊥ = omega arith in
     let one : length t ≡ 1 → ⊥ = omega arith in
-    rw (ne-eqb (length t) 10 ten, ne-eqb (length t) 1 one)
+    rw (ne-eqb (length t) 15 fifteen, ne-eqb (length t) 1 one)
 
 pub entered-long : (n : ℕ) (c : Card) (t u store : List ℕ) → longestLine < length t → longestLine < length u → entered n c t store ≡ entered n c u store
 entered-long n c t u store ht hu =

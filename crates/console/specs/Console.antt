@@ -16,20 +16,29 @@ use Rattle.console.specs.declared.TickLine.{TickLine}
 
 -- ---- a tick
 
--- "`T c w F` or `T c w Q` (clock, one digit 0-9; sample, four hex digits, letters small ...; full or quick)"
+-- "`T c w F` or `T c w Q` (clock, one digit 0-9; sample, four hex digits, letters small ...; full or quick)"; document 02, 5: "T lines of the program
+-- carry" what is attached "as four more hex digits after the sample"
 abbrev pub tickHead : List ℕ → Bool
 tickHead t = (eqb (getD t 0 0) 84 && eqb (getD t 1 0) 32) && (isDigit (getD t 2 0) && eqb (getD t 3 0) 32)
 
-abbrev pub tickTail : List ℕ → Bool
-tickTail t = hexAt t 4 .ok && (eqb (getD t 8 0) 32 && (eqb (getD t 9 0) 70 || eqb (getD t 9 0) 81))
+abbrev pub tickWords : List ℕ → Bool
+tickWords t = (hexAt t 4 .ok && eqb (getD t 8 0) 32) && (hexAt t 9 .ok && eqb (getD t 13 0) 32)
+
+abbrev pub tickKind : List ℕ → Bool
+tickKind t = eqb (getD t 14 0) 70 || eqb (getD t 14 0) 81
 
 abbrev pub noTick : TickLine
-noTick = record { ok = false; full = false; input = record { code = 0; sample = 0 } }
+noTick = record { ok = false; full = false; input = record { code = 0; sample = 0; attached = 0 } }
 
 unfoldable pub tickLine : List ℕ → TickLine
 tickLine t =
-    cond (eqb (length t) 10 && (tickHead t && tickTail t))
-    (record { ok = true; full = eqb (getD t 9 0) 70; input = record { code = getD t 2 0 - 48; sample = hexAt t 4 .value } }) noTick
+    cond (eqb (length t) 15 && (tickHead t && (tickWords t && tickKind t)))
+    (record {
+      ok = true;
+      full = eqb (getD t 14 0) 70;
+      input = record { code = getD t 2 0 - 48; sample = hexAt t 4 .value; attached = hexAt t 9 .value };
+    })
+    noTick
 
 -- "A tick prints `T` driven, cells, set (hex), count (decimal), or `T -` idle"
 abbrev pub word : ℕ → List ℕ

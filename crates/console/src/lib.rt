@@ -35,23 +35,30 @@ pub struct Entered {
 pub fn tick_line(text: &[u8]) -> TickLine
     ensures { λ r. ⌜ r ≡ tickLine (now (text .entry)) ⌝ }
 {
-    let none = Input { code: 0, sample: 0 };
-    if text.len() != 10 {
-        return TickLine {
-            ok: false,
-            full: false,
-            input: none,
-        };
+    let nothing = Input {
+        code: 0,
+        sample: 0,
+        attached: 0,
+    };
+    let none = TickLine {
+        ok: false,
+        full: false,
+        input: nothing,
+    };
+    if text.len() != 15 {
+        return none;
     }
     let code = text[2];
-    let word = text::hex4_at(text, 4);
-    let kind = text[9];
+    let sample = text::hex4_at(text, 4);
+    let attached = text::hex4_at(text, 9);
+    let kind = text[14];
     let head = ((text[0] == b'T') & (text[1] == b' ')) & (text::is_digit(code) & (text[3] == b' '));
-    let tail = word.ok & ((text[8] == b' ') & ((kind == b'F') | (kind == b'Q')));
-    if head & tail {
+    let words = (sample.ok & (text[8] == b' ')) & (attached.ok & (text[13] == b' '));
+    if head & (words & ((kind == b'F') | (kind == b'Q'))) {
         let input = Input {
             code: code - 48,
-            sample: word.value,
+            sample: sample.value,
+            attached: attached.value,
         };
         TickLine {
             ok: true,
@@ -59,11 +66,7 @@ pub fn tick_line(text: &[u8]) -> TickLine
             input: input,
         }
     } else {
-        TickLine {
-            ok: false,
-            full: false,
-            input: none,
-        }
+        none
     }
 }
 

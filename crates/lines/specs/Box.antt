@@ -25,7 +25,7 @@ use Rattle.card.specs.Fresh.{clearState, fresh}
 use Rattle.card.specs.Presets.{numbers, presetTable, settingOf, offered}
 use Rattle.card.specs.Valid.{permittedBase, badPlace, badCellType, badConfig, unusedSlot, badAddress, noConfig, badStateAs, badState, noState}
 use Rattle.ticks.specs.Reading.{levelAt, readsLevels, reads, slotsRead, mixed, view}
-use Rattle.ticks.specs.Levels.{linesOf}
+use Rattle.ticks.specs.Levels.{effectiveSample, linesOf}
 use Rattle.ticks.specs.Tick.{readNow, readLast, named, turnAt, outputsBelow, turned, tick}
 use Rattle.lines.specs.Grammar.{isWord, isWhole, toEnd, slotOf, gave, give, pairRead, pairsOf, writeOf, ccaWrite, ccaRead, ccaForm, slotForm, ccbForm}
 use Rattle.lines.specs.Grammar.{readOf, readForm, cardForm, plainForm, addressed, parse}
@@ -89,9 +89,9 @@ offeredOf (v ∷ vs) = taking (offered v) v (offeredOf vs)
 line : String → Call
 line text = Calls.Call.line (bytesOf text) (replicate shortestReply 0) []
 
--- `T 0 w Q`, and `T 0 0100 Q`
+-- `T 0 w ffff Q`, and `T 0 0100 ffff Q`
 quickWith : ℕ → Call
-quickWith w = Calls.Call.tick false (record { code = 0; sample = w })
+quickWith w = Calls.Call.tick false (record { code = 0; sample = w; attached = 0xffff })
 
 quick : Call
 quick = quickWith 0x0100
@@ -208,5 +208,5 @@ box =
     ∷ []
 
 one-table : map (λ (e : Entry × Entry). e .0) box ≡ map (λ (e : Entry × Entry). e .1) box
-unfolding low high read lookup jk11 triggered clocked taking offeredOf line quickWith quick run counterRun said accepted ran bytesOf ones onesIn withBit wordOf bitAt listed valueBy isDigit digitsOf leads plain numberIn numberAt decimalFrom decimal rowOf slotsOf taken raised workAs workOut stirredAs stirred disagree wakes levelAt readsLevels reads slotsRead mixed view linesOf move currentCell currentConnector putCell putConnector typed setType configuredState configured setConfig statedAs stated setState wired setSlots setSource configShown stateAs fresh presetTable settingOf offered readNow readLast named turnAt outputsBelow turned tick permittedBase badPlace badCellType badConfig unusedSlot badAddress noConfig badStateAs badState noState isWord isWhole toEnd slotOf gave give pairRead pairsOf writeOf ccaWrite ccaRead ccaForm slotForm ccbForm readOf readForm cardForm plainForm addressed parse alone refusal changed changeFor responseTo decision decisionFor lineDecision lineOutcome replyOf Line.lineReply savedBytes afterCall answer answers
+unfolding low high read lookup jk11 triggered clocked taking offeredOf line quickWith quick run counterRun said accepted ran bytesOf ones onesIn withBit wordOf bitAt listed valueBy isDigit digitsOf leads plain numberIn numberAt decimalFrom decimal rowOf slotsOf taken raised workAs workOut stirredAs stirred disagree wakes levelAt readsLevels reads slotsRead mixed view effectiveSample linesOf move currentCell currentConnector putCell putConnector typed setType configuredState configured setConfig statedAs stated setState wired setSlots setSource configShown stateAs fresh presetTable settingOf offered readNow readLast named turnAt outputsBelow turned tick permittedBase badPlace badCellType badConfig unusedSlot badAddress noConfig badStateAs badState noState isWord isWhole toEnd slotOf gave give pairRead pairsOf writeOf ccaWrite ccaRead ccaForm slotForm ccbForm readOf readForm cardForm plainForm addressed parse alone refusal changed changeFor responseTo decision decisionFor lineDecision lineOutcome replyOf Line.lineReply savedBytes afterCall answer answers
 one-table = refl

@@ -12,7 +12,8 @@ use Rattle.lines.specs.Calls.{Call, Reply, end, answers}
 use Rattle.lines.specs.Calls.Call.{line, load, tick}
 use Rattle.lines.specs.Calls.Reply.{lineReply, loadReply, tickReply}
 
--- "Both cards get the same lines, records, clock codes and samples, and buffers of the same lengths, whatever these hold"
+-- "Both cards get the same lines, records, clock codes and samples, and buffers of the same lengths, whatever these hold"; of a tick also the word of
+-- what is attached (document 02, 5: "their agreement covers torn cables")
 pub data SameCall : Call → Call → Type 0 where
   same-line : (text reply other store another : List ℕ) → length reply ≡ length other → length store ≡ length another
       → SameCall (line text reply store) (line text other another)

@@ -21,7 +21,7 @@ use Rattle.ticks.specs.declared.tick.Input.{Input}
 use Rattle.ticks.specs.declared.tick.Wires.{Wires}
 use Rattle.ticks.specs.declared.tick.Turned.{Turned}
 use Rattle.ticks.specs.Reading.{slotsRead, view}
-use Rattle.ticks.specs.Levels.{linesOf}
+use Rattle.ticks.specs.Levels.{effectiveSample, linesOf}
 use Rattle.ticks.specs.Tick.{readNow, readLast, named, outputsBelow, turned, wiresOf, lines, turnedIn, ticked, idle, tick}
 use Rattle.ticks.specs.FastPath.{steadyWires, sleptAll}
 use Rattle.ticks.specs.Rest.{AtRest, stillAnswer, restAnswer, steady, cellRests, allRest}
@@ -66,12 +66,13 @@ steady-memory m e =
 
 -- then the connectors are driven by that view, now and before
 pub last-lines : (n : ℕ) (c : Card) (input : Input) (v : ℕ) (l : Lines) → StillMemory (c .memory) → v ≡ wordOf (viewLast n (c .memory)) 64
-    → l ≡ linesOf (bitAt v) (bitAt v) (c .connectors) (input .sample) → l ≡ lines n c input
+    → l ≡ linesOf (bitAt v) (bitAt v) (c .connectors) (effectiveSample (input .sample) (input .attached)) → l ≡ lines n c input
 last-lines n c input v l s ev el =
     let m = c .memory in
-    el ∙ ap (λ (x : ℕ). linesOf (bitAt x) (bitAt x) (c .connectors) (input .sample)) ev
-    ∙ lines-built (viewLast n m) (viewLast n m) (c .connectors) (input .sample)
-    ∙ (λ k. linesOf (viewLast n m) (view n 0 (sym (s .outputs2) k) (sym (s .outputs2) k) (sym (s .levels2) k)) (c .connectors) (input .sample))
+    let sample = effectiveSample (input .sample) (input .attached) in
+    el ∙ ap (λ (x : ℕ). linesOf (bitAt x) (bitAt x) (c .connectors) sample) ev
+    ∙ lines-built (viewLast n m) (viewLast n m) (c .connectors) sample
+    ∙ (λ k. linesOf (viewLast n m) (view n 0 (sym (s .outputs2) k) (sym (s .outputs2) k) (sym (s .levels2) k)) (c .connectors) sample)
 
 -- another clock's tick is idle, and leaves a card at rest
 pub idle-rests : (n : ℕ) (c : Card) (input : Input) → (input .code ≡ c .trigger → ⊥) → AtRest n c input

@@ -2,6 +2,7 @@
 pub mod AtRest
 pub mod Counting
 pub mod Counts
+pub mod Effective
 pub mod FastPath
 pub mod Sleep
 pub mod Ticks

@@ -18,44 +18,52 @@ use Rattle.card.specs.Address.{connectorCount, firstCell, firstConnector, among
 use Rattle.card.proofs.Places.{among-in, among-below, among-above}
 use Rattle.ticks.specs.Reading.{levelAt, readsLevels, reads, slotsRead, mixed, view}
 
+-- ---- two words under a mask
+
+-- x where the mask is set, y elsewhere
+abbrev pub merged : (x y mask : ℕ) → ℕ
+merged x y mask = bitXor y (bitAnd (bitXor x y) mask)
+
+merged-rule : (x y mask : Bool) → not (Bool·beq y (not (Bool·beq x y) && mask)) ≡ cond mask x y
+merged-rule true true true = refl
+merged-rule true true false = refl
+merged-rule true false true = refl
+merged-rule true false false = refl
+merged-rule false true true = refl
+merged-rule false true false = refl
+merged-rule false false true = refl
+merged-rule false false false = refl
+
+pub merged-bit : (x y mask j : ℕ) → bitAt (merged x y mask) j ≡ cond (bitAt mask j) (bitAt x j) (bitAt y j)
+merged-bit x y mask j =
+    bit-xor y (bitAnd (bitXor x y) mask) j
+    ∙ ap (λ (b : Bool). not (Bool·beq (bitAt y j) b)) (bit-and (bitXor x y) mask j)
+    ∙ ap (λ (b : Bool). not (Bool·beq (bitAt y j) (b && bitAt mask j))) (bit-xor x y j)
+    ∙ merged-rule (bitAt x j) (bitAt y j) (bitAt mask j)
+
+pub merged-lt : (n x y mask : ℕ) → x < 2 ^ n → y < 2 ^ n → merged x y mask < 2 ^ n
+merged-lt n x y mask hx hy =
+    xor-lt n y (bitAnd (bitXor x y) mask) hy (lt-of-le-of-lt (and-le-l (bitXor x y) mask) (xor-lt n x y hx hy))
+
 -- ---- the word of a view
 
 -- below under the mask of i ones, the others above it
 unfoldable pub mix : ℕ → ℕ → ℕ → ℕ
-mix i below others = bitXor others (bitAnd (bitXor below others) (2 ^ i - 1))
-
-masked-in : (o b : Bool) → not (Bool·beq o (not (Bool·beq b o) && true)) ≡ b
-masked-in true true = refl
-masked-in true false = refl
-masked-in false true = refl
-masked-in false false = refl
-
-masked-out : (o x : Bool) → not (Bool·beq o (x && false)) ≡ o
-masked-out true true = refl
-masked-out true false = refl
-masked-out false true = refl
-masked-out false false = refl
+mix i below others = merged below others (2 ^ i - 1)
 
 mix-bit : (i below others j : ℕ) → bitAt (mix i below others) j ≡ mixed i below others j
 unfolding mix mixed
-mix-bit i below others j =
-    bit-xor others (bitAnd (bitXor below others) (2 ^ i - 1)) j
-    ∙ ap (λ (x : Bool). not (Bool·beq (bitAt others j) x)) (bit-and (bitXor below others) (2 ^ i - 1) j)
-    ∙ ap (λ (x : Bool). not (Bool·beq (bitAt others j) (x && bitAt (2 ^ i - 1) j))) (bit-xor below others j)
-    ∙ go (decLt j i)
+mix-bit i below others j = merged-bit below others (2 ^ i - 1) j ∙ ap (λ (b : Bool). cond b (bitAt below j) (bitAt others j)) (go (decLt j i))
   where
-    go : Dec (j < i) → not (Bool·beq (bitAt others j) (not (Bool·beq (bitAt below j) (bitAt others j)) && bitAt (2 ^ i - 1) j))
-        ≡ cond (ltb j i) (bitAt below j) (bitAt others j)
-    go (yes h) = rw (bit-ones i j h, lt-ltb j i h) (masked-in (bitAt others j) (bitAt below j))
+    go : Dec (j < i) → bitAt (2 ^ i - 1) j ≡ ltb j i
+    go (yes h) = bit-ones i j h ∙ sym (lt-ltb j i h)
     go (no h) =
         let g : i ≤ j = omega arith in
-        rw (bit-above (2 ^ i - 1) i j (ones-lt i) g, le-ltb j i g) (masked-out (bitAt others j) (not (Bool·beq (bitAt below j) (bitAt others j))))
+        bit-above (2 ^ i - 1) i j (ones-lt i) g ∙ sym (le-ltb j i g)
 
 pub mix-lt : (n i below others : ℕ) → below < 2 ^ n → others < 2 ^ n → mix i below others < 2 ^ n
 unfolding mix
-mix-lt n i below others b o =
-    xor-lt n others (bitAnd (bitXor below others) (2 ^ i - 1)) o
-    (lt-of-le-of-lt (and-le-l (bitXor below others) (2 ^ i - 1)) (xor-lt n below others b o))
+mix-lt n i below others = merged-lt n below others (2 ^ i - 1)
 
 -- a base is low, or a cell's, or a connector's
 pub level-cell : (n : ℕ) (cells connectors : ℕ → Bool) (j : ℕ) → j < n → levelAt n cells connectors (1 + j) ≡ cells j

@@ -1,4 +1,4 @@
--- Document 01, "One tick", 1 and 2: what the output connectors are driven to, and the levels.
+-- Document 01, "One tick", 1 and 2: what the output connectors are driven to, and the levels; and the sample that the levels are made of.
 use Prim.Native.Nat.{ℕ}
 use mathlib.Core.Bool.{Bool, false, _&&_, cond}
 use mathlib.Core.List.{List}
@@ -6,10 +6,18 @@ use lib.Dec.{eqb}
 use lib.ListN.{getD}
 use Rattle.words.specs.Bits.{bitAt, wordOf}
 use Rattle.card.specs.declared.card.Connector.{Connector}
-use Rattle.card.specs.Address.{connectorCount}
+use Rattle.card.specs.Address.{connectorCount, onBackplane}
 use Rattle.card.specs.Connectors.{openDrain, pushPull, isOutput, noConnector}
 use Rattle.ticks.specs.declared.connectors.Lines.{Lines}
 use Rattle.ticks.specs.Reading.{reads}
+
+-- document 02, 5: "which lines have something attached. An unattached line samples low on the front and high on the backplane, before the connector
+-- rule is applied": connector k, and the word that the rule then takes for the sample
+abbrev pub effectiveAt : ℕ → ℕ → ℕ → Bool
+effectiveAt sample attached k = cond (bitAt attached k) (bitAt sample k) (onBackplane k)
+
+unfoldable pub effectiveSample : ℕ → ℕ → ℕ
+effectiveSample sample attached = wordOf (effectiveAt sample attached) connectorCount
 
 -- "each output connector is driven from its source address"; the driven word is "0 for inputs"
 abbrev pub drivenBit : (ℕ → Bool) → (ℕ → Bool) → Connector → Bool

@@ -23,7 +23,7 @@ use Rattle.ticks.specs.declared.tick.Turned.{Turned}
 use Rattle.ticks.specs.declared.tick.Answer.{Answer}
 use Rattle.ticks.specs.declared.tick.Ticked.{Ticked}
 use Rattle.ticks.specs.Reading.{slotsRead, view}
-use Rattle.ticks.specs.Levels.{linesOf}
+use Rattle.ticks.specs.Levels.{effectiveSample, linesOf}
 
 -- ---- what a cell reads
 
@@ -112,7 +112,7 @@ linesIn n m connectors sample =
     linesOf (view n 0 (m .outputs) (m .outputs) (m .levels)) (view n 0 (m .outputs2) (m .outputs2) (m .levels2)) connectors sample
 
 abbrev pub lines : (n : ℕ) → Card → Input → Lines
-lines n c input = linesIn n (c .memory) (c .connectors) (input .sample)
+lines n c input = linesIn n (c .memory) (c .connectors) (effectiveSample (input .sample) (input .attached))
 
 -- the memory moved on by a tick with these words
 abbrev pub moved : Memory → (driven outputs levels : ℕ) → Memory

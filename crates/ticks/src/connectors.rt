@@ -3,11 +3,12 @@ ghost use mathlib.Core.Bool.{Bool};
 ghost use mathlib.Core.Path.{_≡_};
 ghost use Prim.Native.Nat.{ℕ, _^_, _<_};
 ghost use Rattle.words.specs.Bits.{bitAt};
-ghost use Rattle.ticks.specs.Levels.{drivenBit, linesOf};
+ghost use Rattle.ticks.specs.Levels.{effectiveSample, drivenBit, linesOf};
 ghost use Rattle.ticks.specs.Words.{ReadsAs, levelIn};
 use crate::view::ALL;
 use crate::view::quarters;
 use card::card::Connector;
+use card::limits::BACKPLANE;
 use card::limits::CONNECTORS;
 use card::limits::OPEN_DRAIN;
 use card::limits::PUSH_PULL;
@@ -18,6 +19,13 @@ use cells::reading::read;
 pub struct Lines {
     pub driven: u16,
     pub levels: u16,
+}
+
+// What counts as sampled: the sample where something is attached; of the other lines those of the backplane are high.
+pub fn effective(sample: u16, attached: u16) -> u16
+    ensures { λ r. ⌜ r ≡ effectiveSample sample attached ⌝ }
+{
+    BACKPLANE ^ ((sample ^ BACKPLANE) & attached)
 }
 
 // What a connector drives, by what the addresses read.

@@ -5,6 +5,7 @@ ghost use Rattle.words.specs.Bits.{bitAt};
 ghost use Rattle.card.specs.Address.{cellCount};
 ghost use Rattle.ticks.specs.Rest.{steady, cellRests, allRest, Decides, AtRest};
 use crate::connectors::drive;
+use crate::connectors::effective;
 use crate::tick::Input;
 use crate::tick::Wires;
 use crate::view::quarters;
@@ -73,7 +74,8 @@ pub fn at_rest(card: Card, input: Input) -> bool
     }
     let view = sees(0, m.outputs, m.outputs, m.levels);
     let connectors = card.connectors;
-    let l = drive(connectors, view, view, input.sample);
+    let sample = effective(input.sample, input.attached);
+    let l = drive(connectors, view, view, sample);
     if (l.driven != m.driven) | (l.levels != m.levels) {
         return false;
     }

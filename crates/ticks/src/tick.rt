@@ -10,11 +10,13 @@ ghost use Rattle.cells.specs.Work.{workOut};
 ghost use Rattle.card.specs.Address.{cellCount};
 ghost use Rattle.ticks.specs.Reading.{slotsRead};
 ghost use Rattle.ticks.specs.FastPath.{turnedTo, sleptAll};
+ghost use Rattle.ticks.specs.Levels.{effectiveSample};
 ghost use Rattle.ticks.specs.Tick;
 ghost use Rattle.ticks.specs.Tick.{turned, turnedIn, wiresOf, linesIn, ranWith};
 ghost use Rattle.ticks.specs.Words.{ReadsAs, MovesAs, shiftedAt};
 use crate::connectors::Lines;
 use crate::connectors::drive;
+use crate::connectors::effective;
 use crate::rest::all_rest;
 use crate::rest::unchanged;
 use crate::view::sees;
@@ -38,11 +40,12 @@ const ALL_CELLS: CellWord = ALL_EDITED as CellWord;
 
 const CELL_SETS: EditedSet = ALL_EDITED + 1;
 
-// What comes in with a tick: the code of its clock, and the word sampled at the connectors.
+// What comes in with a tick: the code of its clock, the word sampled at the connectors, and which of them have something attached.
 #[repr(C)]
 pub struct Input {
     pub code: u8,
     pub sample: u16,
+    pub attached: u16,
 }
 
 // What the readers of a tick see besides its own outputs: the levels of this tick, of the last one that ran (2) and of the one before (3), and
@@ -158,12 +161,13 @@ fn is_quiet(cells: [Cell; CELLS], edited: EditedSet, w: Wires) -> bool
 //
 // The two kinds stand side by side, since a card in a value that branches meet in is copied once more.
 
-// The connectors, driven from the last tick's words.
-fn lines_in(connectors: [Connector; CONNECTORS], m: Memory, sample: u16) -> Lines
-    ensures { λ l. ⌜ l ≡ linesIn cellCount m connectors sample ⌝ }
+// The connectors, driven from the last tick's words, and the levels of what comes in.
+fn lines_in(connectors: [Connector; CONNECTORS], m: Memory, input: Input) -> Lines
+    ensures { λ l. ⌜ l ≡ linesIn cellCount m connectors (effectiveSample (input .sample) (input .attached)) ⌝ }
 {
     let now = sees(0, m.outputs, m.outputs, m.levels);
     let before = sees(0, m.outputs2, m.outputs2, m.levels2);
+    let sample = effective(input.sample, input.attached);
     drive(connectors, now, before, sample)
 }
 
@@ -292,7 +296,7 @@ pub fn full_tick(card: Card, input: Input) -> Ticked
     }
     let m = card.memory;
     let connectors = card.connectors;
-    let l = lines_in(connectors, m, input.sample);
+    let l = lines_in(connectors, m, input);
     turn_each(true, card, l)
 }
 
@@ -305,7 +309,7 @@ pub fn quick_tick(card: Card, input: Input) -> Ticked
     }
     let m = card.memory;
     let connectors = card.connectors;
-    let l = lines_in(connectors, m, input.sample);
+    let l = lines_in(connectors, m, input);
     let cells = card.cells;
     if is_quiet(cells, card.edited, wires_of(m, l.levels)) {
         return ran_with(card, l, m.outputs, 0);

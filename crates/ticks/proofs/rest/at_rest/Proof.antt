@@ -10,6 +10,7 @@ use Rattle.card.specs.declared.card.Card.{Card}
 use Rattle.card.specs.Address.{cellCount}
 use Rattle.ticks.specs.declared.connectors.Lines.{Lines}
 use Rattle.ticks.specs.declared.tick.Input.{Input}
+use Rattle.ticks.specs.Levels.{linesOf}
 use Rattle.ticks.specs.Tick
 use Rattle.ticks.proofs.FastPath.{steady-wires, rest-seen}
 use Rattle.ticks.proofs.AtRest.{StillMemory, viewLast, memory-steady, steady-memory, last-lines, idle-rests, still-rests, rests-still}
@@ -38,6 +39,9 @@ returns-2 c =
 sees-requires : tie.Need-sees-requires
 sees-requires c κs = search needs
 
+effective-requires : tie.Need-effective-requires
+effective-requires c κs = search needs
+
 drive-requires : tie.Need-drive-requires
 drive-requires c κs = search needs
 
@@ -48,10 +52,11 @@ record Driven (card : Card) (input : Input) (words : Lines) : Type 0 where
   memory : StillMemory (card .memory)
   lines : words ≡ Tick.lines cellCount card input
 
-driven : (d : tie.After-drive) → let a = d .before .before .before .before .before .before .before .before .before .before .args in
+driven : (d : tie.After-drive) → let a = d .before .before .before .before .before .before .before .before .before .before .before .args in
     Driven (a .card) (a .input) (d .drive .result)
 driven d =
-    let s = d .before .before in
+    let e = d .before in
+    let s = e .before .before in
     let i = s .before in
     let u = i .before in
     let k = u .before .before .before in
@@ -62,13 +67,14 @@ driven d =
       own = k .if1 .left;
       edited = eqb-true (a .card .edited) 0 (not-false _ (or-left _ _ (i .if2 .left)));
       memory = still;
-      lines = last-lines cellCount (a .card) (a .input) (s .sees .result) (d .drive .result) still (s .sees .ensures) (d .drive .ensures);
+      lines = last-lines cellCount (a .card) (a .input) (s .sees .result) (d .drive .result) still (s .sees .ensures)
+          (d .drive .ensures ∙ ap (linesOf _ _ (a .card .connectors)) (e .effective .ensures));
     }
 
 returns-3 : tie.Need-returns-3
 returns-3 c =
     let d = c .before .before .before .before .before in
-    let a = d .before .before .before .before .before .before .before .before .before .before .args in
+    let a = d .before .before .before .before .before .before .before .before .before .before .before .args in
     let known = driven d in (
       λ e. absurd (false≢true e),
       λ rest. let s = rests-still cellCount (a .card) (a .input) (known .own) rest in
@@ -84,8 +90,8 @@ returns-4 : tie.Need-returns-4
 returns-4 c =
     let i = c .before .before in
     let d = i .before .before .before .before .before in
-    let v = d .before .before .sees in
-    let a = d .before .before .before .before .before .before .before .before .before .before .args in
+    let v = d .before .before .before .sees in
+    let a = d .before .before .before .before .before .before .before .before .before .before .before .args in
     let m = a .card .memory in
     let w = d .drive .result in
     let known = driven d in
@@ -110,6 +116,7 @@ at-rest-spec =
     unchanged-requires
     returns-2
     sees-requires
+    effective-requires
     drive-requires
     returns-3
     all-rest-requires

@@ -1,8 +1,7 @@
 -- `ticks::tick::lines_in` meets its contract: the connectors read the words of two views as the views.
-use mathlib.Core.Path.{ap₂, _∙_}
-use Prim.Native.Nat.{ℕ}
+use mathlib.Core.Path.{_∙_}
 use Rattle.words.specs.Bits.{bitAt}
-use Rattle.ticks.specs.Levels.{linesOf}
+use Rattle.ticks.specs.Levels.{effectiveSample, linesOf}
 use Rattle.ticks.proofs.Ticks.{lines-built}
 use borrow.Author.Needs.{needs}
 use Rattle.ticks.proofs.tick.lines_in.Statement.{statement}
@@ -14,16 +13,21 @@ sees-requires c κs = search needs
 sees-requires-2 : tie.Need-sees-requires-2
 sees-requires-2 c κs = search needs
 
+effective-requires : tie.Need-effective-requires
+effective-requires c κs = search needs
+
 drive-requires : tie.Need-drive-requires
 drive-requires c κs = search needs
 
 returns : tie.Need-returns
 returns c =
-    let a = c .before .before .before .args in
+    let e = c .before in
+    let now = e .before .before in
+    let a = now .before .args in
+    let sample = effectiveSample (a .input .sample) (a .input .attached) in
     c .drive .ensures
-    ∙ ap₂ (λ (x y : ℕ). linesOf (bitAt x) (bitAt y) (a .connectors) (a .sample)) (c .before .before .sees .ensures)
-    (c .before .sees2 .ensures)
-    ∙ lines-built _ _ (a .connectors) (a .sample)
+    ∙ (λ k. linesOf (bitAt (now .sees .ensures k)) (bitAt (e .before .sees2 .ensures k)) (a .connectors) (e .effective .ensures k))
+    ∙ lines-built _ _ (a .connectors) sample
 
 pub lines-in-spec : {M : Type 1} → statement M
-lines-in-spec = tie.close (tie.spec sees-requires sees-requires-2 drive-requires returns)
+lines-in-spec = tie.close (tie.spec sees-requires sees-requires-2 effective-requires drive-requires returns)
