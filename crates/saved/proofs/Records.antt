@@ -25,7 +25,7 @@ use Rattle.card.proofs.Settings.{every-at, Sound, split, cell-slots, cell-confi
 use Rattle.card.proofs.Slots.{four}
 use Rattle.saved.specs.Record.{bigEndian, bigValue, triggerField, cellField, connectorField, fieldsFrom, encode, configWidth, triggerLength, cellLength}
 use Rattle.saved.specs.Record.{connectorLength, recordLength, triggerIn, cellIn, connectorIn, cellsIn, connectorsIn, recordOf, sameBytes, loadNumber}
-use Rattle.saved.specs.Record.{normalCell, loadCells, normalRecord, SmallConstants, poweredUp, loaded, savedTo}
+use Rattle.saved.specs.Record.{normalConfig, normalCell, loadCells, normalRecord, SmallConstants, poweredUp, loaded, savedTo}
 use Rattle.saved.proofs.Fields.{fields-length, field-at, fields-map, length-big, big-read, same-refl, same-sound, same-not}
 
 -- ---- the fields of a record
@@ -222,9 +222,9 @@ normal-small cell small = ap with-config (go (eqb (cell .kind) constantType) ref
     with-config : ℕ → Cell
     with-config v = record { kind = cell .kind; config = v; slots = cell .slots; state = cell .state }
 
-    go : (b : Bool) → eqb (cell .kind) constantType ≡ b → cond (b && ltb largestConstant (cell .config)) largestConstant (cell .config) ≡ cell .config
-    go true e = rw (le-ltb largestConstant (cell .config) (small (eqb-true (cell .kind) constantType e)))
-    go false e = refl
+    go : (b : Bool) → eqb (cell .kind) constantType ≡ b → normalConfig (cell .kind) (cell .config) ≡ cell .config
+    go true e = rw (e, le-ltb largestConstant (cell .config) (small (eqb-true (cell .kind) constantType e)))
+    go false e = rw e
 
 pub small-normal : (n width : ℕ) (bytes : List ℕ) → SmallConstants n width bytes → loadCells n width bytes ≡ cellsIn n width bytes
 small-normal n width bytes small =

@@ -272,30 +272,34 @@ unfolding rowOf Wake.stirred stirredAs moved
 returns-20 c =
     let a = c .before .before .before .args in
     at (a .kind) 19 (a .s) _ _ _ (c .before .before .match .keys20)
-    (c .gated-wakes .ensures ∙ gated-on (counterStirred WhileBoth (a .s)) (c .before .four3 .result) _ (readFrom (a .d .now) (a .x)) (readFrom (a .d .now) (a .z)) (readFrom (a .d .now) (a .f))
-    (c .before .four3 .ensures))
+    (c .gated-wakes .ensures
+    ∙ gated-on (counterStirred WhileBoth (a .s)) (c .before .four3 .result) _
+    (readFrom (a .d .now) (a .x)) (readFrom (a .d .now) (a .z)) (readFrom (a .d .now) (a .f)) (c .before .four3 .ensures))
 
 returns-21 : tie.Need-returns-21
 unfolding rowOf Wake.stirred stirredAs moved
 returns-21 c =
     let a = c .before .before .before .args in
     at (a .kind) 20 (a .s) _ _ _ (c .before .before .match .keys21)
-    (c .gated-wakes2 .ensures ∙ gated-on (counterStirred WhileEither (a .s)) (c .before .four4 .result) _ (readFrom (a .d .now) (a .x)) (readFrom (a .d .now) (a .z)) (readFrom (a .d .now) (a .f))
-    (c .before .four4 .ensures))
+    (c .gated-wakes2 .ensures
+    ∙ gated-on (counterStirred WhileEither (a .s)) (c .before .four4 .result) _
+    (readFrom (a .d .now) (a .x)) (readFrom (a .d .now) (a .z)) (readFrom (a .d .now) (a .f)) (c .before .four4 .ensures))
 
 returns-22 : tie.Need-returns-22
 unfolding rowOf Wake.stirred stirredAs moved
 returns-22 c =
     let a = c .before .before .before .args in
     at (a .kind) 21 (a .s) _ _ _ (c .before .before .match .keys22)
-    (c .started-wakes .ensures ∙ stirred-on (counterStirred FromStart (a .s)) (c .before .four5 .result) _ (readFrom (a .d .now) (a .z)) (c .before .four5 .ensures))
+    (c .started-wakes .ensures
+    ∙ stirred-on (counterStirred FromStart (a .s)) (c .before .four5 .result) _ (readFrom (a .d .now) (a .z)) (c .before .four5 .ensures))
 
 returns-23 : tie.Need-returns-23
 unfolding rowOf Wake.stirred stirredAs moved
 returns-23 c =
     let a = c .before .before .before .args in
     at (a .kind) 22 (a .s) _ _ _ (c .before .before .match .keys23)
-    (c .started-wakes2 .ensures ∙ stirred-on (counterStirred FromStartAtZero (a .s)) (c .before .four6 .result) _ (readFrom (a .d .now) (a .z)) (c .before .four6 .ensures))
+    (c .started-wakes2 .ensures
+    ∙ stirred-on (counterStirred FromStartAtZero (a .s)) (c .before .four6 .result) _ (readFrom (a .d .now) (a .z)) (c .before .four6 .ensures))
 
 returns-24 : tie.Need-returns-24
 returns-24 c =

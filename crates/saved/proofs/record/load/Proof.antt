@@ -20,7 +20,8 @@ use Rattle.saved.proofs.record.load.Tie as tie
 number : (c : tie.After-is-headed)
     → let bytes = c .before .before .args .bytes .now in
     loadNumber cellCount configWidth bytes
-    ≡ cond (c .is-headed .result) (cond (valid cellCount (triggerIn bytes) (loadCells cellCount configWidth bytes) (connectorsIn cellCount configWidth bytes)) 0 15) 14
+    ≡ cond (c .is-headed .result)
+    (cond (valid cellCount (triggerIn bytes) (loadCells cellCount configWidth bytes) (connectorsIn cellCount configWidth bytes)) 0 15) 14
 number c =
     let bytes = c .before .before .args .bytes .now in
     let v = valid cellCount (triggerIn bytes) (loadCells cellCount configWidth bytes) (connectorsIn cellCount configWidth bytes) in
