@@ -9,6 +9,7 @@ use Rattle.card.specs.declared.card.Card.{Card}
 use Rattle.card.specs.Fresh.{freshOf}
 use Rattle.saved.specs.Record.{configWidth, recordLength}
 use Rattle.console.specs.Console.{longestPrint, Entry, entered}
+use Rattle.printed.specs.Print.{printLength, printedTo}
 use Rattle.runner.specs.declared.State.{State}
 use Rattle.runner.specs.declared.Run.{Run}
 
@@ -87,9 +88,14 @@ pub record Counted (r : Run) : Type 0 where
   pub by-bytes : r .printed ≤ longestPrint * r .taken
 
 -- a run that has taken this input: as many bytes as its reads gave have brought card and line where they stand, and what they print is as long as what
--- was handed to write
+-- was handed to write, unless the run is quiet
 pub record Ran (n : ℕ) (r : Run) (input : List ℕ) : Type 0 where
   pub taken : length input ≡ r .taken
   pub card : r .card ≡ takesAll n (startState n) input .card
   pub len : r .len ≡ length (cut (takesAll n (startState n) input .line))
   pub printed : r .printed ≡ length (takesAll n (startState n) input .printed)
+
+-- what plprint does with this input: the buffer holds the wiring of the card that it leaves
+pub record Wired (n : ℕ) (input : List ℕ) (len : ℕ) (before after : List ℕ) : Type 0 where
+  pub text : after ≡ printedTo n (takesAll n (startState n) input .card) before
+  pub size : len ≡ printLength n (takesAll n (startState n) input .card) (length before)

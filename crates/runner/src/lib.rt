@@ -7,7 +7,8 @@
 //
 // What bytes of input do is a definition, `takesAll`. `turn` does it for the bytes of its read, and
 // `run_from` for all that its reads gave, one after the other. The calls that read and write stand
-// in `read_at` and `write_front`; no contract can say which bytes come and go there.
+// in `read_at` and `write_front`; no contract can say which bytes come and go there. `print_from` is
+// the run of plprint: nothing that the lines print is written, and at the end the card's wiring is.
 ghost use mathlib.Core.Bool.{true, _&&_};
 ghost use mathlib.Core.List.{List, _++_};
 ghost use mathlib.Core.Path.{_≡_};
@@ -17,9 +18,10 @@ ghost use lib.ListN.{length, take, getD};
 ghost use Rattle.card.specs.Address.{cellCount};
 ghost use Rattle.card.specs.Fresh.{fresh};
 ghost use Rattle.console.specs.Console.{longestPrint, entered};
-ghost use Rattle.runner.specs.Run.{part, takesAll, kept, cut, keptOf, flushed, blockLength, outputLength, mostReads, stateOf, runStateOf, Counted, Ran};
+ghost use Rattle.runner.specs.Run.{part, takesAll, kept, cut, keptOf, flushed, blockLength, outputLength, mostReads, stateOf, runStateOf, Counted, Ran, Wired};
 use card::card::Card;
 use libc::STDOUT_FILENO;
+use printed::parts::TEXT_MOST;
 
 // `blockLength`: of a block of input.
 const BLOCK: usize = 2048;
@@ -59,20 +61,21 @@ pub struct Run {
     pub len: usize,
     // bytes that the last read gave: 0 at the input's end, and where it failed
     pub got: usize,
-    // bytes that were then handed to write, from the front of the output
+    // bytes that its lines printed, at the front of the output: they were handed to write, unless
+    // the run is quiet
     pub used: usize,
-    // what write answered
+    // what write answered; in a quiet run, true
     pub wrote: bool,
     // nothing has failed, and the input goes on
     pub going: bool,
-    // bytes that all reads gave, and that were handed to write
+    // bytes that all reads gave, and that their lines printed
     pub taken: u64,
     pub printed: u64,
     // reads that may still be made
     pub left: u64,
 }
 
-// How many bytes were handed to write, and what it answered.
+// How many bytes were printed, and what write answered.
 pub struct Written {
     pub used: usize,
     pub wrote: bool,
@@ -191,12 +194,18 @@ fn read_behind(input: i32, block: &mut [u8], line: &[u8], len: usize) -> usize
     read_at(input, block, len)
 }
 
-// One write, of the first `used` bytes.
-fn write_front(out: &[u8], used: usize) -> Written
+// One write, of the first `used` bytes; where they are not shown, none.
+fn write_front(out: &[u8], used: usize, shows: bool) -> Written
     requires { ⌜ used ≤ length (now out) ⌝ }
     ensures { λ r. ⌜ r .used ≡ used ⌝ }
     ensures { λ r. ⌜ r .used ≤ length (now (out .entry)) ⌝ }
 {
+    if !shows {
+        return Written {
+            used: used,
+            wrote: true,
+        };
+    }
     let wrote = io::write_all(STDOUT_FILENO, &out[0..used]);
     Written {
         used: used,
@@ -204,8 +213,8 @@ fn write_front(out: &[u8], used: usize) -> Written
     }
 }
 
-// One read, and what its lines print. After a write that failed nothing more is written, so that
-// what came out is never without its middle.
+// One read, and what its lines print, where that is shown. After a write that failed nothing more
+// is written, so that what came out is never without its middle.
 fn turn(
     run: Run,
     input: i32,
@@ -213,6 +222,7 @@ fn turn(
     line: &mut [u8; LINE],
     store: &mut [u8; STORE],
     out: &mut [u8; OUTPUT],
+    shows: bool,
 ) -> Run
     requires { ⌜ run .len ≤ kept ⌝ }
     requires { ⌜ length (now line) ≡ kept ⌝ }
@@ -239,7 +249,7 @@ fn turn(
     };
     let got = read_behind(input, block, line, len);
     let next = take_block(s, block, len + got, line, store, out);
-    let written = write_front(out, next.used);
+    let written = write_front(out, next.used, shows);
     let after = next.card;
     Run {
         card: after,
@@ -274,8 +284,9 @@ fn start() -> Run
     }
 }
 
-// A fresh card and a store of zeros, fed with the lines of an input to its end.
-pub fn run_from(input: i32) -> Run
+// A fresh card and a store of zeros, fed with the lines of an input to its end; what they print is
+// written where it is shown.
+fn run_with(input: i32, shows: bool) -> Run
     ensures { λ r. ⌜ ((bytes : List ℕ) × Ran cellCount r bytes) ⌝ }
     ensures { λ r. ⌜ r .left < mostReads ⌝ }
     ensures { λ r. ⌜ r .going ≡ (ltb 0 (r .got) && r .wrote) ⌝ }
@@ -287,7 +298,37 @@ pub fn run_from(input: i32) -> Run
     let mut store = [0u8; STORE];
     let mut r = start();
     while r.left > 0 && r.going {
-        r = turn(r, input, &mut block, &mut line, &mut store, &mut out);
+        r = turn(r, input, &mut block, &mut line, &mut store, &mut out, shows);
     }
     r
+}
+
+// What the lines of an input print goes to standard output.
+pub fn run_from(input: i32) -> Run
+    ensures { λ r. ⌜ ((bytes : List ℕ) × Ran cellCount r bytes) ⌝ }
+    ensures { λ r. ⌜ r .left < mostReads ⌝ }
+    ensures { λ r. ⌜ r .going ≡ (ltb 0 (r .got) && r .wrote) ⌝ }
+    ensures { λ r. ⌜ (r .going ≡ true → r .left ≡ 0) ⌝ }
+{
+    run_with(input, true)
+}
+
+// The wiring of the card that the lines of an input leave, at the front of a buffer. What the lines
+// print is not written.
+fn wiring_from(input: i32, buffer: &mut [u8]) -> usize
+    ensures { λ r. ⌜ ((bytes : List ℕ) × Wired cellCount bytes r (now (buffer .entry)) (now (buffer .exit))) ⌝ }
+    ensures { λ r. ⌜ r ≤ length (now (buffer .exit)) ⌝ }
+{
+    let run = run_with(input, false);
+    let card = run.card;
+    let printed = printed::print::print(card, buffer);
+    printed.len
+}
+
+// The lines of an input, and then the wiring of the card to standard output, and nothing else. The
+// buffer has room for any wiring.
+pub fn print_from(input: i32) {
+    let mut text = [0u8; TEXT_MOST];
+    let len = wiring_from(input, &mut text);
+    io::write_all(STDOUT_FILENO, &text[0..len]);
 }

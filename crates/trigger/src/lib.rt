@@ -2,14 +2,17 @@
 ghost use mathlib.Core.Bool.{true, false};
 ghost use mathlib.Core.Path.{_≡_};
 ghost use Prim.Native.Nat.{_≤_};
+ghost use lib.ListN.{length};
 ghost use Rattle.card.specs.Address.{cellCount};
 ghost use Rattle.card.specs.Fresh;
 ghost use Rattle.ticks.specs.Rest.{Decides, AtRest};
 ghost use Rattle.ticks.specs.Tick.{tick};
 ghost use Rattle.saved.specs.Record.{configWidth, loadNumber, loaded};
 ghost use Rattle.lines.specs.Line.{shortestReply, lineResult, resultOf};
+ghost use Rattle.printed.specs.Print.{printNumber, printLength, printedTo};
 use card::card::Card;
 use lines::line::Answered;
+use printed::print::Printed;
 use saved::record::Loaded;
 use ticks::tick::Input;
 use ticks::tick::Ticked;
@@ -67,4 +70,15 @@ pub extern "C" fn trigger_line(
     ensures { λ r. ⌜ r .len ≤ shortestReply ⌝ }
 {
     lines::line::line(card, text, reply, store)
+}
+
+// The settings of a card as lines, each ended by LF, written to the front of the buffer. Any card prints; 16 where the text is longer than the buffer.
+#[no_mangle]
+pub extern "C" fn trigger_print(card: Card, buffer: &mut [u8]) -> Printed
+    ensures { λ r. ⌜ r .k ≡ printNumber cellCount card (length (now (buffer .entry))) ⌝ }
+    ensures { λ r. ⌜ r .len ≡ printLength cellCount card (length (now (buffer .entry))) ⌝ }
+    ensures { λ _. ⌜ now (buffer .exit) ≡ printedTo cellCount card (now (buffer .entry)) ⌝ }
+    ensures { λ r. ⌜ r .len ≤ length (now (buffer .exit)) ⌝ }
+{
+    printed::print::print(card, buffer)
 }

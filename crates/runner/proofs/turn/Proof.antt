@@ -24,22 +24,22 @@ take-block-requires c κs = search needs
 write-front-requires : tie.Need-write-front-requires
 write-front-requires c κs = search needs
 
-add-t29 : tie.Need-add-t29
-add-t29 c =
+add-t30 : tie.Need-add-t30
+add-t30 c =
     let b = c .before .before .before .before .before .before .before .before .before .before .before .before in
     let o = b .before .before .before .before .before in
     omega (arith, b .read-behind .ensures .0, o .pre .1 .1)
 
-add-t31 : tie.Need-add-t31
-add-t31 c =
+add-t32 : tie.Need-add-t32
+add-t32 c =
     let w = c .before .before .before .before in
     let t = w .before .before .before in
     let b = t .before .before .before .before .before .before in
     let o = b .before .before .before .before .before in
     omega (arith, w .write-front .ensures .0, t .take-block .ensures .1 .1 .1, b .read-behind .ensures .0, o .pre .1 .1)
 
-sub-t32 : tie.Need-sub-t32
-sub-t32 c =
+sub-t33 : tie.Need-sub-t33
+sub-t33 c =
     let b = c .before .before .before .before .before .before .before .before .before .before .before .before .before .before in
     b .before .before .before .before .before .pre .1 .1 .0
 
@@ -80,7 +80,7 @@ turn-spec =
     add-take-block
     take-block-requires
     write-front-requires
-    add-t29
-    add-t31
-    sub-t32
+    add-t30
+    add-t32
+    sub-t33
     returns)

@@ -1,4 +1,4 @@
--- `runner::run_from` meets its contract: the invariant says where the run stands between two turns, and the measure is the number of reads that are left.
+-- `runner::run_with` meets its contract: the invariant says where the run stands between two turns, and the measure is the number of reads that are left.
 use Prim.Native.Nat.{_+_, _<_}
 use mathlib.Core.Path.{_≡_, refl}
 use mathlib.Core.Bool.{true}
@@ -10,14 +10,14 @@ use Rattle.runner.specs.Run.{part, mostReads, runStateOf}
 use Rattle.runner.proofs.Runs.{part-length}
 use Rattle.runner.proofs.Turns.{reached-start, reached-turn, Underway, ran, has-read}
 use borrow.Author.Needs.{needs}
-use Rattle.runner.proofs.run_from.Statement.{statement}
-use Rattle.runner.proofs.run_from.Tie as tie
+use Rattle.runner.proofs.run_with.Statement.{statement}
+use Rattle.runner.proofs.run_with.Tie as tie
 
 abbrev Inv-loop : tie.InvT-loop
-Inv-loop input block₀ out₀ line₀ store₀ r₀ block out line store r = Underway cellCount r store line out
+Inv-loop input shows block₀ out₀ line₀ store₀ r₀ block out line store r = Underway cellCount r store line out
 
 abbrev μ-loop : tie.MeasureT-loop
-μ-loop input block₀ out₀ line₀ store₀ r₀ block out line store r = r .left
+μ-loop input shows block₀ out₀ line₀ store₀ r₀ block out line store r = r .left
 
 large-buffer-requires : tie.Need-large-buffer-requires Inv-loop μ-loop
 large-buffer-requires c κs = search needs
@@ -83,8 +83,8 @@ returns-2 c =
     let over : c .before .before .loop .r .going ≡ true → c .before .before .loop .r .left ≡ 0 = λ h. omega (arith, c .if1 .left) in
     (ran u, (has-read u over, (u .later (has-read u over), over)))
 
-pub run-from-spec : {M : Type 1} → statement M
-run-from-spec =
+pub run-with-spec : {M : Type 1} → statement M
+run-with-spec =
     tie.close
     (tie.spec
     Inv-loop

@@ -1,0 +1,190 @@
+-- `printed::parts::put_slots` meets its contract: each used slot is a part of the line, and the line ends.
+use mathlib.Core.Path.{_≡_, refl, sym, ap}
+use mathlib.Core.List.{[]}
+use native.Mathlib.Nat.{add-zero}
+use native.Mathlib.Omega.{arith}
+use borrow.Author.Tests.{not-true, not-false}
+use Rattle.cells.specs.declared.table.Row.{Row}
+use Rattle.cells.specs.Table.{rowOf}
+use Rattle.lines.specs.declared.grammar.Slot.the-variants.{X, Y, Z, F}
+use Rattle.lines.specs.Grammar.{CCB}
+use Rattle.lines.specs.Wiring.{cardLine}
+use Rattle.printed.specs.Parts.{part}
+use Rattle.printed.proofs.PartLaws.{Placed, placed-then, placed-as, LF, pair, no-slots, slot-parts}
+use borrow.Author.Needs.{needs}
+use Rattle.printed.proofs.parts.put_slots.Statement.{statement}
+use Rattle.printed.proofs.parts.put_slots.Tie as tie
+
+row-of-requires : tie.Need-row-of-requires
+row-of-requires c κs = search needs
+
+-- the set that the table gives
+known : (c : tie.After-row-of) → c .row-of .result .used ≡ rowOf (c .before .args .cell .kind) .used
+known c = ap (λ (r : Row). r .used) (c .row-of .ensures)
+
+returns : tie.Need-returns
+returns c =
+    let r = c .before .before .before .before .before in
+    let a = r .before .args in
+    let none = no-slots (a .cell) (r .row-of .result .used) (known r) (not-true _ (c .if1 .taken)) in
+    rw (sym none) (refl, (sym (add-zero (a .at)), omega arith))
+
+slice-aggregate-copy : tie.Need-slice-aggregate-copy
+slice-aggregate-copy c = search needs
+
+copy-requires : tie.Need-copy-requires
+copy-requires c κs = search needs
+
+slice-aggregate-put : tie.Need-slice-aggregate-put
+slice-aggregate-put c = search needs
+
+array-read-wide : tie.Need-array-read-wide
+array-read-wide c = search needs
+
+wide-requires : tie.Need-wide-requires
+wide-requires c κs = search needs
+
+slice-aggregate-put-2 : tie.Need-slice-aggregate-put-2
+slice-aggregate-put-2 c = search needs
+
+put-requires : tie.Need-put-requires
+put-requires c κs = search needs
+
+slice-aggregate-put-3 : tie.Need-slice-aggregate-put-3
+slice-aggregate-put-3 c = search needs
+
+array-read-wide-2 : tie.Need-array-read-wide-2
+array-read-wide-2 c = search needs
+
+wide-requires-2 : tie.Need-wide-requires-2
+wide-requires-2 c κs = search needs
+
+slice-aggregate-put-4 : tie.Need-slice-aggregate-put-4
+slice-aggregate-put-4 c = search needs
+
+put-requires-2 : tie.Need-put-requires-2
+put-requires-2 c κs = search needs
+
+slice-aggregate-put-5 : tie.Need-slice-aggregate-put-5
+slice-aggregate-put-5 c = search needs
+
+array-read-wide-3 : tie.Need-array-read-wide-3
+array-read-wide-3 c = search needs
+
+wide-requires-3 : tie.Need-wide-requires-3
+wide-requires-3 c κs = search needs
+
+slice-aggregate-put-6 : tie.Need-slice-aggregate-put-6
+slice-aggregate-put-6 c = search needs
+
+put-requires-3 : tie.Need-put-requires-3
+put-requires-3 c κs = search needs
+
+slice-aggregate-put-7 : tie.Need-slice-aggregate-put-7
+slice-aggregate-put-7 c = search needs
+
+array-read-wide-4 : tie.Need-array-read-wide-4
+array-read-wide-4 c = search needs
+
+wide-requires-4 : tie.Need-wide-requires-4
+wide-requires-4 c κs = search needs
+
+slice-aggregate-put-8 : tie.Need-slice-aggregate-put-8
+slice-aggregate-put-8 c = search needs
+
+put-requires-4 : tie.Need-put-requires-4
+put-requires-4 c κs =
+    let p3 = c .before .before .before .before in
+    let p2 = p3 .before .before .before .before .before in
+    let p1 = p2 .before .before .before .before .before in
+    let w = p1 .before .before .before .before .before in
+    let s = w .before .before .before .before .before .before .before .before .before in (
+      omega (arith, c .before .wide4 .ensures .1),
+      omega (arith, p3 .put3 .ensures .1 .1, p2 .put2 .ensures .1 .1, p1 .put .ensures .1 .1, w .copy .ensures .1, s .pre),
+    )
+
+slice-aggregate-copy-2 : tie.Need-slice-aggregate-copy-2
+slice-aggregate-copy-2 c = search needs
+
+copy-requires-2 : tie.Need-copy-requires-2
+copy-requires-2 c κs =
+    let p4 = c .before .before in
+    let p3 = p4 .before .before .before .before .before in
+    let p2 = p3 .before .before .before .before .before in
+    let p1 = p2 .before .before .before .before .before in
+    let w = p1 .before .before .before .before .before in
+    let s = w .before .before .before .before .before .before .before .before .before in
+    let to-f = p4 .put4 .ensures .1 .1 in
+    let to-z = p3 .put3 .ensures .1 .1 in
+    omega (arith, c .before .copy-arg3 .given, to-f, to-z, p2 .put2 .ensures .1 .1, p1 .put .ensures .1 .1, w .copy .ensures .1, s .pre)
+
+returns-2 : tie.Need-returns-2
+returns-2 c =
+    let p4 = c .before .before .before in
+    let p3 = p4 .before .before .before .before .before in
+    let p2 = p3 .before .before .before .before .before in
+    let p1 = p2 .before .before .before .before .before in
+    let w = p1 .before .before .before .before .before in
+    let r = w .before .before .before .before .before .before .before .before in
+    let a = r .before .args in
+    let used = r .row-of .result .used in
+    let x = p1 .before .before .wide in
+    let y = p2 .before .before .wide2 in
+    let z = p3 .before .before .wide3 in
+    let f = p4 .before .before .wide4 in
+    let first : Placed (a .out .now) (a .at) _ (cardLine CCB) _ = record { bytes = w .copy .ensures .0; at-end = w .copy .ensures .1 } in
+    let to-x = placed-then first (part (used .x) (pair X) (x .result) []) (p1 .put .ensures .0) (p1 .put .ensures .1 .0) in
+    let to-y = placed-then to-x (part (used .y) (pair Y) (y .result) []) (p2 .put2 .ensures .0) (p2 .put2 .ensures .1 .0) in
+    let to-z = placed-then to-y (part (used .z) (pair Z) (z .result) []) (p3 .put3 .ensures .0) (p3 .put3 .ensures .1 .0) in
+    let to-f = placed-then to-z (part (used .f) (pair F) (f .result) []) (p4 .put4 .ensures .0) (p4 .put4 .ensures .1 .0) in
+    let all = placed-then to-f LF (c .copy2 .ensures .0) (c .copy2 .ensures .1) in
+    let some = not-false _ (w .before .before .before .if1 .left) in
+    let text =
+    slot-parts (a .cell) used (known r) (x .result) (y .result) (z .result) (f .result) (x .ensures .0) (y .ensures .0) (z .ensures .0) (f .ensures .0) some in
+    let whole = placed-as text all in (
+      whole .bytes,
+      (
+        whole .at-end,
+        omega (
+          arith,
+          c .copy2 .ensures .1,
+          p4 .put4 .ensures .1 .1,
+          p3 .put3 .ensures .1 .1,
+          p2 .put2 .ensures .1 .1,
+          p1 .put .ensures .1 .1,
+          w .copy .ensures .1,
+        ),
+      ),
+    )
+
+pub put-slots-spec : {M : Type 1} → statement M
+put-slots-spec =
+    tie.close
+    (tie.spec
+    row-of-requires
+    returns
+    slice-aggregate-copy
+    copy-requires
+    slice-aggregate-put
+    array-read-wide
+    wide-requires
+    slice-aggregate-put-2
+    put-requires
+    slice-aggregate-put-3
+    array-read-wide-2
+    wide-requires-2
+    slice-aggregate-put-4
+    put-requires-2
+    slice-aggregate-put-5
+    array-read-wide-3
+    wide-requires-3
+    slice-aggregate-put-6
+    put-requires-3
+    slice-aggregate-put-7
+    array-read-wide-4
+    wide-requires-4
+    slice-aggregate-put-8
+    put-requires-4
+    slice-aggregate-copy-2
+    copy-requires-2
+    returns-2)

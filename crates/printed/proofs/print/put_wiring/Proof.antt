@@ -1,0 +1,61 @@
+-- `printed::print::put_wiring` meets its contract: the cells, the connectors and the trigger, one behind the other.
+use Prim.Native.Nat.{_≤_}
+use mathlib.Core.Path.{_∙_}
+use mathlib.Core.Bool.{true}
+use native.Mathlib.Nat.{zero-add}
+use native.Mathlib.Omega.{arith}
+use lib.ListN.{length, take}
+use Rattle.card.specs.Address.{cellCount}
+use Rattle.lines.specs.Grammar.{PM-E=}
+use Rattle.lines.specs.Wiring.{cellCommands, connectorCommands, commandsFrom}
+use Rattle.printed.specs.Parts.{commandsText, part, textMost}
+use Rattle.printed.specs.Print.{wiringText}
+use Rattle.printed.proofs.PartLaws.{Placed, placed-then, placed-as, LF, wiring-parts}
+use borrow.Author.Needs.{needs}
+use Rattle.printed.proofs.print.put_wiring.Statement.{statement}
+use Rattle.printed.proofs.print.put_wiring.Tie as tie
+
+put-cells-requires : tie.Need-put-cells-requires
+put-cells-requires c κs = search needs
+
+put-connectors-requires : tie.Need-put-connectors-requires
+put-connectors-requires c κs = search needs
+
+slice-aggregate-put : tie.Need-slice-aggregate-put
+slice-aggregate-put c = search needs
+
+cast-put : tie.Need-cast-put
+cast-put c = search needs
+
+slice-aggregate-put-2 : tie.Need-slice-aggregate-put-2
+slice-aggregate-put-2 c = search needs
+
+put-requires : tie.Need-put-requires
+put-requires c κs = search needs
+
+returns : tie.Need-returns
+returns c =
+    let k = c .before .before .before .before .before in
+    let d = k .before .before in
+    let a = d .before .before .before .before .args in
+    let cells = commandsText (commandsFrom cellCommands 0 (take cellCount (a .card .cells))) in
+    let connectors = commandsText (commandsFrom connectorCommands 0 (a .card .connectors)) in
+    let first : Placed (a .out .now) 0 _ cells _ = record { bytes = d .put-cells .ensures .0; at-end = d .put-cells .ensures .1 .0 } in
+    let more = placed-then first connectors (k .put-connectors .ensures .0) (k .put-connectors .ensures .1 .0) in
+    let all = placed-then more (part true PM-E= (a .card .trigger) LF) (c .put .ensures .0) (c .put .ensures .1 .0) in
+    let whole = placed-as (wiring-parts cellCount (a .card)) all in
+    let end = whole .at-end ∙ zero-add (length (wiringText cellCount (a .card))) in
+    let most : c .put .result ≤ textMost = omega (arith, c .put .ensures .1 .1, k .put-connectors .ensures .1 .1, d .put-cells .ensures .1 .1) in
+    (whole .bytes, (end, most))
+
+pub put-wiring-spec : {M : Type 1} → statement M
+put-wiring-spec =
+    tie.close
+    (tie.spec
+    put-cells-requires
+    put-connectors-requires
+    slice-aggregate-put
+    cast-put
+    slice-aggregate-put-2
+    put-requires
+    returns)
