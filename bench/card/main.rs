@@ -12,7 +12,7 @@ use std::hint::black_box;
 mod trigger {
     #[repr(C)]
     #[derive(Clone, Copy)]
-    pub struct Pulses(pub u16);
+    pub struct Pulses(pub u32);
 
     #[repr(C)]
     #[derive(Clone, Copy)]
@@ -26,7 +26,7 @@ mod trigger {
     #[derive(Clone, Copy)]
     pub struct Cell {
         pub kind: u8,
-        pub config: u16,
+        pub config: u32,
         pub slots: [u8; 4],
         pub state: State,
     }
@@ -113,7 +113,7 @@ use trigger::{Answer, Card, Input, Ticked};
 
 // The card after a line that must not be refused.
 fn line(card: Card, text: &str) -> Card {
-    let (mut reply, mut store) = ([0u8; 16], [0u8; 276]);
+    let (mut reply, mut store) = ([0u8; 16], [0u8; 308]);
     let answered = unsafe {
         trigger::trigger_line(
             card,

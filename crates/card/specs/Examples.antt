@@ -30,6 +30,9 @@ states =
     ∷ (shown (stated (full 9) 7 .state), (true, 7, false))
     ∷ (shown (stated (full 19) 7 .state), (true, 7, true))
     ∷ (shown (stated (full 22) 0 .state), (true, 0, true))
+    -- document 02, "Long exposures": a timer's count "to 4,294,967,295"
+    ∷ (shown (stated (full 9) 4294967295 .state), (true, 4294967295, false))
+    ∷ (shown (stated (full 16) 65536 .state), (true, 65536, false))
     -- Z "clears a timer's state"
     ∷ (shown (configured (full 9) 7 .state), (false, 0, false))
     ∷ (shown (configured (full 2) 7 .state), (true, 3, true))
@@ -47,9 +50,22 @@ read-table : map (λ (e : ℕ × ℕ). e .0) reads ≡ map (λ (e : ℕ × ℕ).
 unfolding full rowOf configShown
 read-table = refl
 
--- the tests behind 9 and 12 of a counter: "CCA Z writes are refused with 9", a read is not, and F takes any count
+-- the tests behind 9 and 12. Of a counter: "CCA Z writes are refused with 9", a read is not, and "A counter's F over 65535 gives 12". Timers go to 4,294,967,295,
+-- "lookup codes, constants and counter cells do not"
 abbrev tests : List (Bool × Bool)
-tests = (badConfig 19 0, true) ∷ (badConfig 22 1, true) ∷ (noConfig 20, false) ∷ (noConfig 5, true) ∷ (badState 21 65535, false) ∷ []
+tests =
+    (badConfig 19 0, true)
+    ∷ (badConfig 22 1, true)
+    ∷ (noConfig 20, false)
+    ∷ (noConfig 5, true)
+    ∷ (badState 21 65535, false)
+    ∷ (badState 21 65536, true)
+    ∷ (badState 8 4294967295, false)
+    ∷ (badConfig 17 4294967295, false)
+    ∷ (badConfig 4 65535, false)
+    ∷ (badConfig 4 65536, true)
+    ∷ (badConfig 0 2, true)
+    ∷ []
 
 test-table : map (λ (e : Bool × Bool). e .0) tests ≡ map (λ (e : Bool × Bool). e .1) tests
 unfolding rowOf badConfig noConfig badStateAs badState

@@ -10,6 +10,7 @@ use Rattle.cells.specs.declared.table.Kept.{Kept}
 use Rattle.cells.specs.declared.table.Kept.the-variants.{Stateless, Bit, Count, Counted}
 use Rattle.cells.specs.declared.cell.Cell.{Cell}
 use Rattle.cells.specs.Table.{rowOf, typeCount}
+use Rattle.cells.specs.Work.{largestCount}
 use Rattle.card.specs.declared.card.Card.{Card}
 use Rattle.card.specs.declared.card.Connector.{Connector}
 use Rattle.card.specs.Address.{firstCell, firstConnector, connectorCount, among, baseOf, edgeAddress}
@@ -113,12 +114,12 @@ isCounted Counted = true
 unfoldable pub noConfig : ℕ → Bool
 noConfig kind = not (rowOf kind .configured || isCounted (rowOf kind .kept))
 
--- 12: "no state, or over 1 in a flip-flop"
+-- 12: "no state, or over 1 in a flip-flop"; document 02, "Long exposures": "A counter's F over 65535 gives 12"
 unfoldable pub badStateAs : Kept → ℕ → Bool
 badStateAs Stateless v = true
 badStateAs Bit v = ltb 1 v
 badStateAs Count v = false
-badStateAs Counted v = false
+badStateAs Counted v = ltb largestCount v
 
 unfoldable pub badState : ℕ → ℕ → Bool
 badState kind v = badStateAs (rowOf kind .kept) v

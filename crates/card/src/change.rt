@@ -4,6 +4,7 @@ ghost use Rattle.card.specs.Address.{cellCount};
 ghost use Rattle.card.specs.Change.{changed};
 use crate::card::Card;
 use crate::edits;
+use crate::limits::Number;
 use crate::presets::apply_preset;
 use cells::cell::Config;
 use cells::cell::Count;
@@ -24,7 +25,7 @@ pub enum Change {
     Pointer(u8),
     Trigger(u8),
     Home,
-    Preset(u32),
+    Preset(Number),
     Kind(u8),
     Config(Config),
     State(Count),

@@ -11,6 +11,7 @@ use crate::edits::current_connector;
 use crate::limits::CellWord;
 use crate::limits::FIRST_CONNECTOR;
 use crate::limits::FRONT_TRIGGER;
+use crate::limits::Number;
 use crate::presets::sets_front;
 use crate::valid::front_driven;
 use crate::valid::is_counted;
@@ -128,24 +129,24 @@ pub fn read_slot(x: Context, i: usize) -> Value
 pub fn read_front(x: Context) -> Value
     ensures { λ v. ⌜ v ≡ frontRead x ⌝ }
 {
-    x.levels % 256
+    (x.levels % 256) as Value
 }
 
 pub fn read_back(x: Context) -> Value
     ensures { λ v. ⌜ v ≡ backRead x ⌝ }
 {
-    x.levels / 256
+    (x.levels / 256) as Value
 }
 
 // 13: the pointer stands at BNC1, and this type would make it an output while it brings the trigger.
-pub fn drives_front(x: Context, v: u32) -> bool
+pub fn drives_front(x: Context, v: Number) -> bool
     ensures { λ q. ⌜ q ≡ drivesFront x v ⌝ }
 {
     (x.pointer == FIRST_CONNECTOR) & front_driven(x.trigger, v)
 }
 
 // 13: the preset makes BNC1 an output while it brings the trigger.
-pub fn preset_drives(x: Context, v: u32) -> bool
+pub fn preset_drives(x: Context, v: Number) -> bool
     ensures { λ q. ⌜ q ≡ presetDrives x v ⌝ }
 {
     sets_front(v) & (x.trigger == FRONT_TRIGGER)

@@ -14,6 +14,7 @@ use crate::limits::FIRST_CELL;
 use crate::limits::FIRST_CONNECTOR;
 use crate::limits::FRONT_TRIGGER;
 use crate::limits::INPUT;
+use crate::limits::Number;
 use crate::place::is_cell;
 use crate::place::is_connector;
 use cells::cell::Cell;
@@ -35,7 +36,7 @@ const CLEAR: State = State {
 pub fn at_cell(card: Card) -> bool
     ensures { λ q. ⌜ q ≡ atCell cellCount card ⌝ }
 {
-    is_cell(card.pointer as u32)
+    is_cell(card.pointer as Number)
 }
 
 // The cell at the pointer.
@@ -43,7 +44,7 @@ pub fn current_cell(card: Card) -> Cell
     ensures { λ r. ⌜ r ≡ currentCell cellCount card ⌝ }
 {
     let p = card.pointer;
-    if is_cell(p as u32) {
+    if is_cell(p as Number) {
         let at = (p - FIRST_CELL) as usize;
         card.cells[at]
     } else {
@@ -61,7 +62,7 @@ pub fn current_connector(card: Card) -> Connector
     ensures { λ r. ⌜ r ≡ currentConnector card ⌝ }
 {
     let p = card.pointer;
-    if is_connector(p as u32) {
+    if is_connector(p as Number) {
         let at = (p - FIRST_CONNECTOR) as usize;
         card.connectors[at]
     } else {
@@ -77,7 +78,7 @@ fn put_cell(card: Card, cell: Cell) -> Card
     ensures { λ r. ⌜ r ≡ putCell cellCount card cell ⌝ }
 {
     let p = card.pointer;
-    if is_cell(p as u32) {
+    if is_cell(p as Number) {
         let i = (p - FIRST_CELL) as u32;
         let at = i as usize;
         let mut next = card;
@@ -94,7 +95,7 @@ fn put_connector(card: Card, connector: Connector) -> Card
     ensures { λ r. ⌜ r ≡ putConnector card connector ⌝ }
 {
     let p = card.pointer;
-    if is_connector(p as u32) {
+    if is_connector(p as Number) {
         let at = (p - FIRST_CONNECTOR) as usize;
         let mut next = card;
         next.connectors[at] = connector;

@@ -18,10 +18,13 @@ pub const FRONT: u16 = 8;
 
 pub const BACKPLANE: u16 = 0xffff << FRONT;
 
-// The bases that addresses have, and the largest address.
-pub const BASES: u32 = 64;
+// A number as a line gives it: it may be too large for what it is to set. It has at most ten digits, which 32 bits do not hold.
+pub type Number = u64;
 
-pub const LARGEST_ADDRESS: u32 = 255;
+// The bases that addresses have, and the largest address.
+pub const BASES: Number = 64;
+
+pub const LARGEST_ADDRESS: Number = 255;
 
 // A word with a bit for each cell.
 pub type CellWord = u16;
@@ -39,7 +42,7 @@ pub const OPEN_DRAIN: u8 = 1;
 pub const PUSH_PULL: u8 = 2;
 
 // The largest clock code, and the one under which BNC1 brings the trigger.
-pub const LARGEST_CLOCK: u32 = 4;
+pub const LARGEST_CLOCK: Number = 4;
 
 pub const FRONT_TRIGGER: u8 = 4;
 

@@ -19,6 +19,7 @@ use crate::limits::CELLS;
 use crate::limits::CONNECTORS;
 use crate::limits::EditedSet;
 use crate::limits::FIRST_CELL;
+use crate::limits::Number;
 use crate::limits::PUSH_PULL;
 use cells::cell::Cell;
 use cells::cell::Config;
@@ -181,11 +182,11 @@ const OFFERED: u64 = 0x0ff7fff8fffebffd;
 // The two rows of a preset.
 pub struct CellRow(pub u64, pub u64);
 
-pub fn bad_preset(v: u32) -> bool
+pub fn bad_preset(v: Number) -> bool
     ensures { λ r. ⌜ r ≡ not (offered v) ⌝ }
 {
     if v < 64 {
-        !words::bit(OFFERED, v)
+        !words::bit(OFFERED, v as u32)
     } else {
         true
     }
@@ -204,7 +205,7 @@ fn cell_rows() -> [u64; 2 * CELL_ROWS]
 }
 
 // A number past the table sources nothing.
-fn source_row(v: u32) -> u64
+fn source_row(v: Number) -> u64
     ensures { λ r. ⌜ ((k : ℕ) → k < connectorCount → sourceUnder r k ≡ presetSource v k) ⌝ }
 {
     let rows = source_rows();
@@ -213,7 +214,7 @@ fn source_row(v: u32) -> u64
 }
 
 // A number past the table sets no cell.
-fn cell_row(v: u32) -> CellRow
+fn cell_row(v: Number) -> CellRow
     ensures { λ r. ⌜ ((i : ℕ) → i < cellCount → cellUnder (r .0) (r .1) i ≡ presetCell v i) ⌝ }
 {
     let rows = cell_rows();
@@ -226,7 +227,7 @@ fn cell_row(v: u32) -> CellRow
 }
 
 // Whether BNC1 becomes an output, which it may not be while it brings the trigger.
-pub fn sets_front(v: u32) -> bool
+pub fn sets_front(v: Number) -> bool
     ensures { λ r. ⌜ r ≡ setsFront v ⌝ }
 {
     words::bit(source_row(v), 32)
@@ -364,7 +365,7 @@ fn edited_under(row: u64, edited: EditedSet) -> EditedSet
 }
 
 // The card after a preset. A number that is not offered changes nothing.
-pub fn apply_preset(card: Card, v: u32) -> Card
+pub fn apply_preset(card: Card, v: Number) -> Card
     ensures { λ r. ⌜ r ≡ preset cellCount card v ⌝ }
 {
     let row = cell_row(v);

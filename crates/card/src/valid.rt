@@ -13,6 +13,7 @@ use crate::limits::EDGES;
 use crate::limits::FRONT_TRIGGER;
 use crate::limits::LARGEST_ADDRESS;
 use crate::limits::LARGEST_CLOCK;
+use crate::limits::Number;
 use crate::limits::OPEN_DRAIN;
 use crate::limits::PUSH_PULL;
 use crate::place::is_cell;
@@ -23,39 +24,40 @@ use cells::table::Row;
 use cells::table::Slots;
 use cells::table::TYPES;
 use cells::table::row_of;
+use cells::work::LARGEST_COUNT;
 
 // 5: no place of a cell or a connector.
-pub fn bad_place(v: u32) -> bool
+pub fn bad_place(v: Number) -> bool
     ensures { λ r. ⌜ r ≡ badPlace cellCount v ⌝ }
 {
     !(is_cell(v) | is_connector(v))
 }
 
 // 7: a type or a clock code that there is not.
-pub fn bad_cell_type(v: u32) -> bool
+pub fn bad_cell_type(v: Number) -> bool
     ensures { λ r. ⌜ r ≡ badCellType v ⌝ }
 {
-    TYPES as u32 <= v
+    TYPES as Number <= v
 }
 
-pub fn bad_connector_type(v: u32) -> bool
+pub fn bad_connector_type(v: Number) -> bool
     ensures { λ r. ⌜ r ≡ badConnectorType v ⌝ }
 {
-    (PUSH_PULL as u32) < v
+    (PUSH_PULL as Number) < v
 }
 
-pub fn bad_clock(v: u32) -> bool
+pub fn bad_clock(v: Number) -> bool
     ensures { λ r. ⌜ r ≡ badClock v ⌝ }
 {
     LARGEST_CLOCK < v
 }
 
 // 9: a configuration that a cell of this type cannot have.
-pub fn bad_config(kind: u8, v: u32) -> bool
+pub fn bad_config(kind: u8, v: Number) -> bool
     ensures { λ r. ⌜ r ≡ badConfig kind v ⌝ }
 {
     let row = row_of(kind);
-    !row.configured | ((row.largest as u32) < v)
+    !row.configured | ((row.largest as Number) < v)
 }
 
 // 10: one of the given slots is not used.
@@ -68,7 +70,7 @@ pub fn unused_slot(kind: u8, given: Slots) -> bool
 }
 
 // 11: an address that is none, or reserved.
-pub fn bad_address(a: u32) -> bool
+pub fn bad_address(a: Number) -> bool
     ensures { λ r. ⌜ r ≡ badAddress cellCount a ⌝ }
 {
     let b = a % BASES;
@@ -76,10 +78,10 @@ pub fn bad_address(a: u32) -> bool
 }
 
 // 13: the type of BNC1 makes it an output while the trigger comes in by it.
-pub fn front_driven(trigger: u8, kind: u32) -> bool
+pub fn front_driven(trigger: u8, kind: Number) -> bool
     ensures { λ r. ⌜ r ≡ frontDriven trigger kind ⌝ }
 {
-    (trigger == FRONT_TRIGGER) & ((kind == OPEN_DRAIN as u32) | (kind == PUSH_PULL as u32))
+    (trigger == FRONT_TRIGGER) & ((kind == OPEN_DRAIN as Number) | (kind == PUSH_PULL as Number))
 }
 
 // What a slot may hold.
@@ -87,7 +89,7 @@ fn valid_slot(used: bool, edge: bool, a: u8) -> bool
     ensures { λ r. ⌜ r ≡ validSlot cellCount used edge a ⌝ }
 {
     if used {
-        !bad_address(a as u32) & (!edge | (EDGES <= a))
+        !bad_address(a as Number) & (!edge | (EDGES <= a))
     } else {
         a == 0
     }
@@ -112,7 +114,7 @@ fn valid_cell(cell: Cell) -> bool
 {
     let row = row_of(cell.kind);
     let slots = cell.slots;
-    let kind = cell.kind as u32;
+    let kind = cell.kind as Number;
     (!bad_cell_type(kind) & (cell.config <= row.largest)) & valid_slots(row, slots)
 }
 
@@ -120,7 +122,7 @@ fn valid_cell(cell: Cell) -> bool
 fn valid_connector(c: Connector) -> bool
     ensures { λ r. ⌜ r ≡ validConnector cellCount c ⌝ }
 {
-    !bad_connector_type(c.kind as u32) & !bad_address(c.source as u32)
+    !bad_connector_type(c.kind as Number) & !bad_address(c.source as Number)
 }
 
 // Each of the first n cells may have its settings. By recursion, as `edits::cleared`.
@@ -157,7 +159,7 @@ pub fn valid_settings(
     ensures { λ r. ⌜ r ≡ valid cellCount trigger cells connectors ⌝ }
 {
     let front = connectors[0];
-    let clock = !bad_clock(trigger as u32) & !front_driven(trigger, front.kind as u32);
+    let clock = !bad_clock(trigger as Number) & !front_driven(trigger, front.kind as Number);
     clock & (valid_cells(cells, CELLS) & valid_connectors(connectors))
 }
 
@@ -182,18 +184,18 @@ pub fn no_config(kind: u8) -> bool
     !(row.configured | is_counted(kept))
 }
 
-fn bad_state_as(kept: Kept, v: u32) -> bool
+fn bad_state_as(kept: Kept, v: Number) -> bool
     ensures { λ q. ⌜ q ≡ badStateAs kept v ⌝ }
 {
     match kept {
         Kept::Stateless => true,
         Kept::Bit => 1 < v,
         Kept::Count => false,
-        Kept::Counted => false,
+        Kept::Counted => (LARGEST_COUNT as Number) < v,
     }
 }
 
-pub fn bad_state(kind: u8, v: u32) -> bool
+pub fn bad_state(kind: u8, v: Number) -> bool
     ensures { λ q. ⌜ q ≡ badState kind v ⌝ }
 {
     let row = row_of(kind);

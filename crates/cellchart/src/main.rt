@@ -102,7 +102,7 @@ fn reading(step: u8) -> Slots
     unpacked(step as u32)
 }
 
-fn put_number(n: u16) {
+fn put_number(n: u32) {
     io::print_decimal(1, n as u64);
 }
 
@@ -133,7 +133,7 @@ fn put_row(kind: u8) {
     let row = row_of(kind);
     let used = row.used;
     let edge = row.edge;
-    put_number(kind as u16);
+    put_number(kind as u32);
     put(b' ');
     put_slots(used);
     put_slots(edge);
@@ -210,7 +210,7 @@ fn put_duration(row: Row) {
 
 fn put_head(kind: u8) {
     io::write_all(1, b"type ");
-    put_number(kind as u16);
+    put_number(kind as u32);
     put_duration(row_of(kind));
     put(b'\n');
 }
@@ -238,14 +238,14 @@ fn look_at(deciding: bool, r: Slots) -> Looked
 }
 
 fn put_look(kind: u8, r: Slots, l: Looked) {
-    put_number(kind as u16);
+    put_number(kind as u32);
     put(b' ');
     put(digit(r.x));
     put(digit(r.y));
     put(digit(r.z));
     put(digit(r.f));
     put(b' ');
-    put_number(l.slots as u16);
+    put_number(l.slots as u32);
     put(b'\n');
 }
 

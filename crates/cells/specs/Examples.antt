@@ -105,6 +105,12 @@ table =
     ∷ (pulsed 15 2 1 false trigger-clock, (0, true, true))
     ∷ (pulsed 17 2 2 false other-trigger-clock, (1, false, false))
     ∷ (pulsed 9 2 1 false trigger-clock, (2, false, false))
+    -- document 02: "Durations and counts of the timer types 8, 9 and 14 to 17 go to 4,294,967,295": the longest is counted down from there and nothing wraps
+    ∷ (shot 16 4294967295 0 other-trigger-clock, (4294967295, false, true))
+    ∷ (shot 14 4294967295 4294967295 trigger-clock, (4294967294, false, true))
+    ∷ (pulsed 9 4294967295 0 true trigger, (4294967295, false, false))
+    ∷ (pulsed 17 4294967295 4294967295 false clock, (4294967294, false, false))
+    ∷ (pulsed 15 4294967295 65536 false clock, (65535, false, false))
     -- "19 is active while A and B are high, 20 while either is"; "While active, a clock edge adds 1"; neither keeps "active"
     ∷ (counted 19 4 false a-b-clock, (5, false, true))
     ∷ (counted 19 4 false start-clock, (4, false, false))

@@ -47,9 +47,16 @@ only-Y = slots false true false false
 abbrev pub only-Z : Slots
 only-Z = slots false false true false
 
--- the largest number of a configuration of 16 bits
+-- the largest code of a lookup of four slots
+abbrev pub largestCode : ℕ
+largestCode = 65535
+
+-- document 02, "Long exposures": "Durations and counts of the timer types 8, 9 and 14 to 17 go to 4,294,967,295". No configuration is larger
+abbrev pub largestDuration : ℕ
+largestDuration = 4294967295
+
 abbrev pub largestConfig : ℕ
-largestConfig = 65535
+largestConfig = largestDuration
 
 -- document 02, "Constants are 0 or 1": the type of constants, and the largest of them
 abbrev pub constantType : ℕ
@@ -76,13 +83,13 @@ chart =
     ∷ chartLine ((1, Flop DFlop) ∷ (12, Flop SyncDFlop) ∷ []) XYZF only-Y none
     ∷ chartLine ((2, Gate Lookup) ∷ []) XY no-slot (some 15)
     ∷ chartLine ((3, Gate Lookup) ∷ []) XYZ no-slot (some 255)
-    ∷ chartLine ((4, Gate Lookup) ∷ []) XYZF no-slot (some largestConfig)
+    ∷ chartLine ((4, Gate Lookup) ∷ []) XYZF no-slot (some largestCode)
     ∷ chartLine ((5, Gate And2) ∷ (6, Gate Or2) ∷ (7, Gate Xor2) ∷ []) XY no-slot none
-    ∷ chartLine ((8, OneShot retriggerable) ∷ (14, OneShot not-retriggerable) ∷ []) XYZ XY (some largestConfig)
-    ∷ chartLine ((9, Delay retriggerable) ∷ (15, Delay not-retriggerable) ∷ []) XYZ XY (some largestConfig)
+    ∷ chartLine ((8, OneShot retriggerable) ∷ (14, OneShot not-retriggerable) ∷ []) XYZ XY (some largestDuration)
+    ∷ chartLine ((9, Delay retriggerable) ∷ (15, Delay not-retriggerable) ∷ []) XYZ XY (some largestDuration)
     ∷ chartLine ((10, Gate And4) ∷ (11, Gate Or4) ∷ []) XYZF no-slot none
     ∷ chartLine ((13, Flop Jk) ∷ []) XYZ only-Z none
-    ∷ chartLine ((16, OneShot not-retriggerable) ∷ (17, Delay not-retriggerable) ∷ []) XYZF XYF (some largestConfig)
+    ∷ chartLine ((16, OneShot not-retriggerable) ∷ (17, Delay not-retriggerable) ∷ []) XYZF XYF (some largestDuration)
     ∷ chartLine ((18, Flop ClearDFlop) ∷ []) XYZF only-Y none
     ∷ chartLine ((19, Counter WhileBoth) ∷ (20, Counter WhileEither) ∷ []) XYZF only-Y none
     ∷ chartLine ((21, Counter FromStart) ∷ (22, Counter FromStartAtZero) ∷ []) XYZF XYF none

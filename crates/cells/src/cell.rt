@@ -1,7 +1,7 @@
 // A cell as the card holds it.
 
 // A configuration: a constant, a lookup's code, a duration. A count is as wide, since a duration sets it.
-pub type Config = u16;
+pub type Config = u32;
 
 pub type Count = Config;
 

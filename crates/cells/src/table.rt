@@ -149,26 +149,31 @@ pub const CONSTANT: u8 = 0;
 
 pub const LARGEST_CONSTANT: Config = 1;
 
+// The largest code of a lookup of four slots, and the largest duration.
+const LARGEST_CODE: Config = 65535;
+
+const LARGEST_DURATION: Config = 4294967295;
+
 // The largest configuration, 0 where there is none.
 const LARGEST: [Config; TYPES] = [
     LARGEST_CONSTANT,
     0,
     15,
     255,
-    65535,
+    LARGEST_CODE,
     0,
     0,
     0,
-    65535,
-    65535,
+    LARGEST_DURATION,
+    LARGEST_DURATION,
     0,
     0,
     0,
     0,
-    65535,
-    65535,
-    65535,
-    65535,
+    LARGEST_DURATION,
+    LARGEST_DURATION,
+    LARGEST_DURATION,
+    LARGEST_DURATION,
     0,
     0,
     0,

@@ -209,8 +209,8 @@ fn pulse_after(taken: bool, d: Pulses, s: State, r: Slots) -> bool
 
 // ---- counters
 
-// The largest count.
-const LARGEST_COUNT: Count = 65535;
+// The largest count of a counter.
+pub const LARGEST_COUNT: Count = 65535;
 
 // Whether a counter that is started and stopped is active after this tick. `obeyed` says whether a start counts.
 fn started_by(obeyed: bool, r: Slots, active: bool) -> bool

@@ -10,7 +10,7 @@ use Rattle.card.specs.declared.card.Card.{Card}
 use Rattle.ticks.specs.declared.tick.Answer.{Answer}
 use Rattle.ticks.specs.declared.tick.Ticked.{Ticked}
 use Rattle.ticks.specs.Tick.{tick}
-use Rattle.saved.specs.Record.{configWidth, loadNumber, loaded}
+use Rattle.saved.specs.Record.{loadNumber, loaded}
 use Rattle.lines.specs.Line.{shortestReply, lineOutcome, lineReply, storeAfter}
 use Rattle.console.specs.declared.TickLine.{TickLine}
 
@@ -87,7 +87,7 @@ abbrev pub byTick : ℕ → Card → List ℕ → List ℕ → Entry
 byTick n c t store = record { card = ticked n c t .card; store = store; printed = tickText (ticked n c t .answer) }
 
 abbrev pub byLoad : ℕ → Card → List ℕ → Entry
-byLoad n c store = record { card = loaded n configWidth c store; store = store; printed = loadText (loadNumber n configWidth store) }
+byLoad n c store = record { card = loaded n c store; store = store; printed = loadText (loadNumber n store) }
 
 abbrev pub byLine : ℕ → Card → List ℕ → List ℕ → Entry
 byLine n c t store =

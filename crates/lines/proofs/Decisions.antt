@@ -90,8 +90,8 @@ pub address-fits : (v : ℕ) → badAddress cellCount v ≡ false → v < 256
 unfolding badAddress
 address-fits v h = let g = ltb-false 255 v (or-left _ _ h) in omega arith
 
-pub number-fits : (v : ℕ) → tooLarge v ≡ false → v < 65536
-number-fits v h = let g = ltb-false 65535 v h in omega arith
+pub number-fits : (v : ℕ) → tooLarge v ≡ false → v < 4294967296
+number-fits v h = let g = ltb-false 4294967295 v h in omega arith
 
 -- what a slot is given, cut to a byte
 wire-fits : (given : Bool) (v : ℕ) → (given && badAddress cellCount v) ≡ false → wireOf given (v % 256) ≡ wireOf given v

@@ -19,7 +19,8 @@ use Rattle.card.proofs.ChangeLaws.{changed-bit}
 use Rattle.ticks.specs.Settled.{remembered}
 use Rattle.ticks.specs.Tick
 use Rattle.ticks.proofs.Sleep.{quick-set, remembers, recalls, started-low}
-use Rattle.saved.specs.Record.{configWidth, loadNumber, loaded}
+use Rattle.saved.specs.Record.{loadNumber}
+use Rattle.saved.proofs.Records.{loaded-by}
 use Rattle.lines.specs.Line.{lineChange, lineOutcome}
 use Rattle.lines.specs.Calls.{Call, afterCall, end}
 use Rattle.lines.specs.Calls.Call.{line, load, tick}
@@ -31,9 +32,9 @@ module _ (n : ℕ) where
 
   -- after a call a cell is edited as the calls say
   pub call-edited : (c : Card) (call : Call) (i : ℕ) → i < n → bitAt (afterCall n c call .edited) i ≡ editedNext n c call i (bitAt (c .edited) i)
-  unfolding afterCall editedNext lineOutcome loaded Tick.tick
+  unfolding afterCall editedNext lineOutcome Tick.tick
   call-edited c (line text reply store) i h = changed-bit n c (lineChange n c text (length reply) (length store)) i h
-  call-edited c (load bytes) i h = go (eqb (loadNumber n configWidth bytes) 0) _ refl
+  call-edited c (load bytes) i h = rw (loaded-by n c bytes) (go (eqb (loadNumber n bytes) 0) _ refl)
     where
       go : (b : Bool) (d : Card) → d .edited ≡ 2 ^ n - 1 → bitAt (cond b d c .edited) i ≡ cond b true (bitAt (c .edited) i)
       go true d e = rw e (bit-ones n i h)
@@ -60,9 +61,9 @@ module _ (n : ℕ) where
 
   -- after a call the memory is what the calls say
   pub call-last : (c : Card) (call : Call) → afterCall n c call .memory ≡ lastNext n c call (c .memory)
-  unfolding afterCall lastNext loaded Tick.tick
+  unfolding afterCall lastNext Tick.tick
   call-last c (line text reply store) = line-edit n c text (length reply) (length store) .memory
-  call-last c (load bytes) = go (eqb (loadNumber n configWidth bytes) 0) _ refl
+  call-last c (load bytes) = rw (loaded-by n c bytes) (go (eqb (loadNumber n bytes) 0) _ refl)
     where
       go : (b : Bool) (d : Card) → d .memory ≡ noMemory → cond b d c .memory ≡ cond b noMemory (c .memory)
       go true d e = e
@@ -91,9 +92,9 @@ module _ (n : ℕ) where
   -- after a call the memory says what the last tick that ran read, as the calls say it
   pub call-read : (c : Card) (call : Call) (i : ℕ) → i ≤ n
       → remembered n i (afterCall n c call .memory) ≡ readNext n c call i (remembered n i (c .memory))
-  unfolding afterCall readNext lowReadings loaded Tick.tick
+  unfolding afterCall readNext lowReadings Tick.tick
   call-read c (line text reply store) i h = ap (remembered n i) (line-edit n c text (length reply) (length store) .memory)
-  call-read c (load bytes) i h = go (eqb (loadNumber n configWidth bytes) 0) _ (started-low n i)
+  call-read c (load bytes) i h = rw (loaded-by n c bytes) (go (eqb (loadNumber n bytes) 0) _ (started-low n i))
     where
       go : (b : Bool) (d : Card) → remembered n i (d .memory) ≡ lowReadings
           → remembered n i (cond b d c .memory) ≡ cond b lowReadings (remembered n i (c .memory))

@@ -18,7 +18,8 @@ use Rattle.ticks.specs.declared.tick.Input.{Input}
 use Rattle.ticks.specs.Tick
 use Rattle.ticks.specs.Settled.{Settled, AlikeTicks}
 use Rattle.ticks.proofs.Sleep.{fresh-settled, tick-settled, same-ticks, edit-settled, powered-settled}
-use Rattle.saved.specs.Record.{configWidth, loaded, loadNumber}
+use Rattle.saved.specs.Record.{loadNumber}
+use Rattle.saved.proofs.Records.{loaded-by}
 use Rattle.lines.specs.declared.grammar.Parsed.{Parsed}
 use Rattle.lines.specs.declared.grammar.Parsed.the-variants.{Malformed, Elsewhere, Here}
 use Rattle.lines.specs.Grammar.{parse}
@@ -62,9 +63,9 @@ module _ (n : ℕ) where
 
   -- every call keeps a card settled
   pub call-settled : (c : Card) (call : Call) → Settled n c → Settled n (afterCall n c call)
-  unfolding afterCall loaded
+  unfolding afterCall
   call-settled c (line text reply store) s = edit-settled n c _ (line-edit n c text (length reply) (length store)) s
-  call-settled c (load bytes) s = load-settled c (eqb (loadNumber n configWidth bytes) 0) _ (powered-settled n _ _ _) s
+  call-settled c (load bytes) s = rw (loaded-by n c bytes) (load-settled c (eqb (loadNumber n bytes) 0) _ (powered-settled n _ _ _) s)
   call-settled c (tick full input) s = tick-settled n full c input s
 
   -- two ticks of any kinds do the same on a settled card

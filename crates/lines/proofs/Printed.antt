@@ -206,8 +206,8 @@ unfolding every
 every-both f [] ys a b = b
 every-both f (x ∷ xs) ys a b = rw (and-left (f x) (every f xs) a) (every-both f xs ys (and-right (f x) (every f xs) a) b)
 
--- the text of some pairs is at most eight bytes for each
-pairs-short : (pairs : List (Slot × ℕ)) → every (λ (q : Slot × ℕ). printable (q .1)) pairs ≡ true → length (pairsText pairs) ≤ 8 * length pairs
+-- the text of some pairs is at most 13 bytes for each
+pairs-short : (pairs : List (Slot × ℕ)) → every (λ (q : Slot × ℕ). printable (q .1)) pairs ≡ true → length (pairsText pairs) ≤ 13 * length pairs
 unfolding every pairsText
 pairs-short [] prints = lit≤ tt
 pairs-short (pair ∷ pairs) prints =

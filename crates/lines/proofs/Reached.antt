@@ -22,7 +22,7 @@ use Rattle.card.proofs.ValidLaws.{fresh-valid, valid-source}
 use Rattle.card.proofs.ValidLaws.{valid-move, valid-trigger, valid-home, valid-type, valid-config, valid-state, valid-slots, valid-connector-type}
 use Rattle.card.proofs.PresetValid.{valid-preset}
 use Rattle.ticks.proofs.ValidTicks.{valid-tick}
-use Rattle.saved.specs.Record.{configWidth, loadNumber, loaded}
+use Rattle.saved.specs.Record.{loadNumber, loaded}
 use Rattle.saved.proofs.Records.{load-refused, loaded-valid}
 use Rattle.lines.specs.declared.grammar.Pairs.{Pairs}
 use Rattle.lines.specs.declared.grammar.Command.{Command}
@@ -128,12 +128,12 @@ module _ (n : ℕ) (more : cellCount ≤ n) where
 
   -- ---- one call, and lists
 
-  load-valid : (c : Card) (bytes : List ℕ) → validCard n c ≡ true → validCard n (loaded n configWidth c bytes) ≡ true
-  load-valid c bytes ok = go (eqb (loadNumber n configWidth bytes) 0) refl
+  load-valid : (c : Card) (bytes : List ℕ) → validCard n c ≡ true → validCard n (loaded n c bytes) ≡ true
+  load-valid c bytes ok = go (eqb (loadNumber n bytes) 0) refl
     where
-      go : (b : Bool) → eqb (loadNumber n configWidth bytes) 0 ≡ b → validCard n (loaded n configWidth c bytes) ≡ true
-      go true e = loaded-valid n configWidth c bytes (eqb-true (loadNumber n configWidth bytes) 0 e)
-      go false e = rw (load-refused n configWidth c bytes e) ok
+      go : (b : Bool) → eqb (loadNumber n bytes) 0 ≡ b → validCard n (loaded n c bytes) ≡ true
+      go true e = loaded-valid n c bytes (eqb-true (loadNumber n bytes) 0 e)
+      go false e = rw (load-refused n c bytes e) ok
 
   -- every call keeps a card valid
   pub call-valid : (c : Card) (call : Call) → validCard n c ≡ true → validCard n (afterCall n c call) ≡ true

@@ -21,8 +21,8 @@ pub reply-is : (n : ℕ) (c : Card) (text : List ℕ) (reply store : ℕ) (d : D
 unfolding lineOutcome lineReply
 reply-is n c text reply store d h e = rw (le-ltb reply shortestReply h) (ap (λ (x : Decision). replyOf (x .k) (x .response)) e)
 
--- a reply with a number below 100000 has at most ten bytes, so the shortest buffer has room enough
-number-short : (n : ℕ) → n < 10 ^ maxDigits → length (decimal n ++ ending) ≤ 7
+-- a reply with a number of ten digits has at most 15 bytes, so the shortest buffer has room enough
+number-short : (n : ℕ) → n < 10 ^ maxDigits → length (decimal n ++ ending) ≤ 12
 number-short n h =
     let d = decimal-length n maxDigits (lit≤ tt) h in
     simp length-append (omega arith)

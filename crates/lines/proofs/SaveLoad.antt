@@ -6,17 +6,20 @@ use mathlib.Core.Bool.{Bool, true, false, _&&_, cond, true≢false}
 use mathlib.Core.List.{List, _++_}
 use lib.Dec.{eqb, ltb}
 use lib.ListN.{length, take, drop}
+use lib.Seq.{take-at}
 use borrow.Author.Tests.{eq-eqb, le-ltb, ltb-false}
 use Rattle.text.specs.Decimal.{isDigit}
 use Rattle.text.specs.Written.{bytesOf}
+use Rattle.words.proofs.Listed.{length-listed}
+use Rattle.cells.specs.declared.cell.Cell.{Cell}
 use Rattle.card.specs.declared.card.Card.{Card}
 use Rattle.card.specs.declared.context.Context.{Context}
 use Rattle.card.specs.Context.{contextOf}
 use Rattle.card.specs.Address.{cellCount}
 use Rattle.card.specs.Fresh.{freshOf}
 use Rattle.card.specs.Valid.{validCard}
-use Rattle.saved.specs.Record.{configWidth, recordLength, recordOf, loaded}
-use Rattle.saved.proofs.Records.{config-fits, valid-length, saved-front, cleared-taken, load-accepts}
+use Rattle.saved.specs.Record.{configWidth, narrowWidth, recordLength, recordOf, triggerIn, cellIn, normalCell, loadCells, connectorsIn, poweredUp, loadNumber, loaded}
+use Rattle.saved.proofs.Records.{valid-length, saved-front, cleared-taken, load-accepts, load-powers, narrow-form, saved-loads, saved-loaded}
 use Rattle.saved.proofs.Records
 use Rattle.lines.specs.declared.grammar.Command.{Command}
 use Rattle.lines.specs.declared.grammar.Command.the-variants.{Move, Where, Trigger, Home, Preset, SetKind, SetConfig, SetState, GetKind, GetConfig}
@@ -27,7 +30,7 @@ use Rattle.lines.specs.Grammar.{isWord, isWhole, cardForm, plainForm, ad
 use Rattle.lines.specs.Refusal.{refusal}
 use Rattle.lines.specs.Line.{responseTo, decision, decisionFor, refused, shortestReply, lineDecision, lineOutcome, storeAfter}
 use Rattle.lines.specs.Calls.{savedBytes, end}
-use Rattle.lines.specs.SaveLoad.{wholeRecord, Saves, Restored, Written, SaveLoad}
+use Rattle.lines.specs.SaveLoad.{wholeRecord, Saves, Restored, Written, FromOldForm, SaveLoad}
 use Rattle.lines.proofs.Decisions.{when-none}
 use Rattle.lines.proofs.Reached.{fresh-reached-valid}
 
@@ -100,12 +103,12 @@ line-saves n c reply store hr hs =
       saves = rw (le-ltb reply shortestReply hr, parses);
     }
 
-restored : (n : ℕ) (c : Card) → validCard n c ≡ true → (d : Card) → Restored n c (loaded n configWidth d (recordOf n configWidth c))
+restored : (n : ℕ) (c : Card) → validCard n c ≡ true → (d : Card) → Restored n c (loaded n d (recordOf n configWidth c))
 restored n c ok d =
-    let e = Records.load-save n configWidth config-fits c ok d in
+    let e = Records.load-save n c ok d in
     record {
       trigger = ap (λ (x : Card). x .trigger) e;
-      cells = ap (λ (x : Card). take n (x .cells)) e ∙ cleared-taken n configWidth config-fits c ok (drop n (d .cells));
+      cells = ap (λ (x : Card). take n (x .cells)) e ∙ cleared-taken n c ok (drop n (d .cells));
       connectors = ap (λ (x : Card). x .connectors) e;
     }
 
@@ -116,15 +119,33 @@ written n c text reply store ok s =
     (record {
       sized = valid-length n configWidth c ok;
       front = store-is n c text reply store ok s;
-      loads = load-accepts n configWidth config-fits c ok;
+      loads = load-accepts n c ok;
       restored = restored n c ok;
     })
+
+-- a record of the old form
+from-old-form : (n : ℕ) (d : Card) (bytes : List ℕ) → length bytes ≡ recordLength n narrowWidth → loadNumber n bytes ≡ 0
+    → FromOldForm n bytes (loaded n d bytes)
+from-old-form n d bytes long ok =
+    let cells : ℕ → List Cell = λ w. loadCells n w bytes ++ drop n (d .cells) in
+    let c : loaded n d bytes ≡ poweredUp n (triggerIn bytes) (cells narrowWidth) (connectorsIn n narrowWidth bytes) =
+    load-powers n d bytes ok
+    ∙ ap (λ (w : ℕ). poweredUp n (triggerIn bytes) (cells w) (connectorsIn n w bytes)) (narrow-form n bytes long) in
+    let first = take-at (loadCells n narrowWidth bytes) (drop n (d .cells)) n (length-listed (λ i. normalCell (cellIn narrowWidth bytes i)) n) in
+    record {
+      trigger = ap (λ (x : Card). x .trigger) c;
+      cells = ap (λ (x : Card). take n (x .cells)) c ∙ first;
+      connectors = ap (λ (x : Card). x .connectors) c;
+      saved-loads = λ text reply store s. ap (loadNumber n) (bytes-are n _ text reply store s) ∙ saved-loads n d d bytes ok;
+      saved-same = λ text reply store e s. ap (loaded n e) (bytes-are n _ text reply store s) ∙ saved-loaded n d e bytes ok;
+    }
 
 pub save-load : (n : ℕ) → cellCount ≤ n → SaveLoad n
 save-load n more =
     record {
       saves = line-saves n;
       save-load = λ calls text reply store s. written n (end n (freshOf n) calls) text reply store (fresh-reached-valid n more calls) s;
-      load-save = λ d bytes text reply store ok s. bytes-are n _ text reply store s ∙ Records.save-load n configWidth d bytes ok;
-      load-same = λ d bytes text reply store ok small s. bytes-are n _ text reply store s ∙ Records.save-same n configWidth d bytes ok small;
+      load-save = λ d bytes text reply store ok s. bytes-are n _ text reply store s ∙ Records.save-load n d bytes ok;
+      load-same = λ d bytes text reply store long ok small s. bytes-are n _ text reply store s ∙ Records.save-same n d bytes ok long small;
+      old-form = from-old-form n;
     }

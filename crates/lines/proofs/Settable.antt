@@ -12,7 +12,7 @@ use Rattle.card.specs.Address.{cellCount, firstCell, firstConnector}
 use Rattle.card.specs.Fresh.{freshOf}
 use Rattle.card.specs.Valid.{valid, validCard}
 use Rattle.card.proofs.Settings.{valid-cleared}
-use Rattle.saved.specs.Record.{configWidth, loadNumber, loaded}
+use Rattle.saved.specs.Record.{loadNumber, loaded}
 use Rattle.saved.proofs.Records.{loaded-valid}
 use Rattle.lines.specs.Line.{shortestReply, lineOutcome}
 use Rattle.lines.specs.Calls.{afterCall, end}
@@ -50,9 +50,9 @@ module _ (n : ℕ) (more : cellCount ≤ n) (apart : firstCell + n ≤ firstConn
   valid-is-settable trigger cells connectors = (set-by-lines trigger cells connectors, set-valid trigger cells connectors)
 
   -- the settings of an accepted record
-  pub loaded-settable : (c : Card) (bytes : List ℕ) → loadNumber n configWidth bytes ≡ 0
-      → let d = loaded n configWidth c bytes in SetByLines n (d .trigger) (d .cells) (d .connectors)
+  pub loaded-settable : (c : Card) (bytes : List ℕ) → loadNumber n bytes ≡ 0
+      → let d = loaded n c bytes in SetByLines n (d .trigger) (d .cells) (d .connectors)
   unfolding validCard
   loaded-settable c bytes ok =
-      let d = loaded n configWidth c bytes in
-      set-by-lines (d .trigger) (d .cells) (d .connectors) (loaded-valid n configWidth c bytes ok)
+      let d = loaded n c bytes in
+      set-by-lines (d .trigger) (d .cells) (d .connectors) (loaded-valid n c bytes ok)

@@ -35,14 +35,14 @@ module _ (n : ℕ) where
   -- the card after a call, and the call's answer
   unfoldable pub afterCall : Card → Call → Card
   afterCall c (line text reply store) = lineOutcome n c text (length reply) (length store) .card
-  afterCall c (load bytes) = loaded n configWidth c bytes
+  afterCall c (load bytes) = loaded n c bytes
   afterCall c (tick full input) = Tick.tick n full c input .card
 
   unfoldable pub answer : Card → Call → Reply
   answer c (line text reply store) =
       lineReply (lineOutcome n c text (length reply) (length store) .k) (Line.lineReply n c text (length reply) (length store))
       (savedBytes c text (length reply) (length store))
-  answer c (load bytes) = loadReply (loadNumber n configWidth bytes)
+  answer c (load bytes) = loadReply (loadNumber n bytes)
   answer c (tick full input) = tickReply (Tick.tick n full c input .answer)
 
   -- a list of calls: the card at its end, and the answers

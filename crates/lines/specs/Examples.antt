@@ -1,4 +1,5 @@
--- The examples of document 01's table "When the card says no", with the cases of precedence, as one table by computation.
+-- The examples of document 01's table "When the card says no", with the cases of precedence and those of document 02, as one table by computation; the
+-- longest reply; and the two buffers by their lengths.
 use Prim.Native.Nat.{ℕ}
 use Prim.Native.String.{String}
 use mathlib.Core.Path.{_≡_, refl}
@@ -27,7 +28,7 @@ numberWith : (reply store : ℕ) → Card → String → ℕ
 numberWith reply store c text = lineOutcome cellCount c (bytesOf text) reply store .k
 
 number : Card → String → ℕ
-number c text = numberWith 16 276 c text
+number c text = numberWith 16 308 c text
 
 -- a fresh card with the pointer elsewhere, with cell 1 of a type, and under trigger 4
 at : ℕ → Card
@@ -43,16 +44,16 @@ frontCard = setTrigger fresh 4
 abbrev numbers : List (ℕ × ℕ)
 numbers =
     -- 1: a reply of 15 bytes, whatever the line
-    (numberWith 15 276 fresh "W E", 1)
-    -- 1: a store of 275 bytes for `36SS Z`
-    ∷ (numberWith 16 275 fresh "36SS Z", 1)
+    (numberWith 15 308 fresh "W E", 1)
+    -- 1: a store of 307 bytes for `36SS Z`
+    ∷ (numberWith 16 307 fresh "36SS Z", 1)
     -- 3 with a short store
-    ∷ (numberWith 16 275 fresh "35SS Z", 3)
+    ∷ (numberWith 16 307 fresh "35SS Z", 3)
     ∷ (number fresh "36CCA Q=1", 2)
     -- 2: a leading zero
     ∷ (number fresh "M E=01", 2)
-    -- 2: six digits
-    ∷ (number fresh "M E=100000", 2)
+    -- 2: eleven digits
+    ∷ (number fresh "M E=10000000000", 2)
     -- 2: an empty line
     ∷ (number fresh "", 2)
     -- 2: before 3
@@ -62,10 +63,11 @@ numbers =
     ∷ (number fresh "35CCA Y=1", 3)
     ∷ (number fresh "00CCA Y=1", 3)
     -- 3: before 4
-    ∷ (number fresh "35CCA Y=70000", 3)
-    ∷ (number fresh "M E=70000", 4)
+    ∷ (number fresh "35CCA Y=4294967296", 3)
+    ∷ (number fresh "M E=4294967296", 4)
+    ∷ (number fresh "M E=9999999999", 4)
     -- 4: before 6
-    ∷ (number (at 33) "36CCB X=70000", 4)
+    ∷ (number (at 33) "36CCB X=4294967296", 4)
     ∷ (number fresh "M E=17", 5)
     ∷ (number (at 33) "36CCB X=1", 6)
     -- 6: before 11
@@ -79,15 +81,17 @@ numbers =
     ∷ (number (typedCard 2) "36CCA Z=16", 9)
     -- 9: "CCA Z at a constant cell takes 0 or 1 and refuses others with 9"; 4 comes before
     ∷ (number fresh "36CCA Z=2", 9)
-    ∷ (number fresh "36CCA Z=65536", 4)
+    ∷ (number fresh "36CCA Z=4294967296", 4)
     ∷ (number fresh "36CCA Z=1", 0)
     -- 9, of a read
     ∷ (number (typedCard 5) "36CCA Z?", 9)
     -- 9: a counter has no configuration to write, and 4 comes before; its count is read
     ∷ (number (typedCard 19) "36CCA Z=0", 9)
-    ∷ (number (typedCard 22) "36CCA Z=65536", 4)
+    ∷ (number (typedCard 22) "36CCA Z=4294967296", 4)
     ∷ (number (typedCard 22) "36CCA Z?", 0)
+    -- "A counter's F over 65535 gives 12"
     ∷ (number (typedCard 21) "36CCA F=65535", 0)
+    ∷ (number (typedCard 21) "36CCA F=65536", 12)
     ∷ (number (typedCard 5) "36CCB F=1", 10)
     -- 10: before 11
     ∷ (number (typedCard 5) "36CCB X=20 F=1", 10)
@@ -105,6 +109,32 @@ numbers =
     ∷ (number (typedCard 5) "36CCB X=41 Y=192", 0)
     ∷ (number fresh "HOME E", 0)
     ∷ (number fresh "! E", 0)
+    -- document 02, "Long exposures": below the limit of a line's number, a large one meets the next rule; "`M E=70000` now gives 5"
+    ∷ (number fresh "M E=70000", 5)
+    ∷ (number fresh "PM E=70000", 7)
+    ∷ (number fresh "36CCA Y=70000", 7)
+    ∷ (number (at 33) "36CCA Y=70000", 7)
+    ∷ (number fresh "36CCA X=70000", 8)
+    -- "lookup codes, constants and counter cells do not" go above 65535, and gates have no configuration; the source of a connector is an address
+    ∷ (number fresh "36CCA Z=70000", 9)
+    ∷ (number (typedCard 4) "36CCA Z=65536", 9)
+    ∷ (number (typedCard 4) "36CCA Z=65535", 0)
+    ∷ (number (typedCard 5) "36CCA Z=70000", 9)
+    ∷ (number (typedCard 19) "36CCA Z=70000", 9)
+    ∷ (number (at 33) "36CCA Z=70000", 11)
+    ∷ (number (at 33) "36CCB X=70000", 6)
+    ∷ (number (typedCard 5) "36CCB F=70000", 10)
+    ∷ (number (typedCard 5) "36CCB X=70000", 11)
+    ∷ (number (at 33) "36CCA F=70000", 6)
+    ∷ (number fresh "36CCA F=70000", 12)
+    ∷ (number (typedCard 5) "36CCA F=70000", 12)
+    ∷ (number (typedCard 1) "36CCA F=70000", 12)
+    ∷ (number (typedCard 22) "36CCA F=70000", 12)
+    -- "Durations and counts of the timer types 8, 9 and 14 to 17 go to 4,294,967,295"
+    ∷ (number (typedCard 9) "36CCA Z=4294967295", 0)
+    ∷ (number (typedCard 9) "36CCA F=4294967295", 0)
+    ∷ (number (typedCard 16) "36CCA Z=4294967295", 0)
+    ∷ (number (typedCard 16) "36CCA F=4294967296", 4)
     ∷ []
 
 examples : map (λ (e : ℕ × ℕ). e .0) numbers ≡ map (λ (e : ℕ × ℕ). e .1) numbers

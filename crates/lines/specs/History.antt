@@ -18,7 +18,7 @@ use Rattle.ticks.specs.declared.tick.Input.{Input}
 use Rattle.ticks.specs.Reading.{slotsRead}
 use Rattle.ticks.specs.Tick
 use Rattle.ticks.specs.Tick.{moved, readIn}
-use Rattle.saved.specs.Record.{configWidth, loadNumber}
+use Rattle.saved.specs.Record.{loadNumber}
 use Rattle.lines.specs.Line.{lineChange}
 use Rattle.lines.specs.Calls.{Call, afterCall, end}
 use Rattle.lines.specs.Calls.Call.{line, load, tick}
@@ -39,7 +39,7 @@ module _ (n : ℕ) where
   unfoldable pub editedNext : Card → Call → ℕ → Bool → Bool
   editedNext c (line text reply store) i was =
       was || editsCell n c (lineChange n c text (length reply) (length store)) i
-  editedNext c (load bytes) i was = cond (eqb (loadNumber n configWidth bytes) 0) true was
+  editedNext c (load bytes) i was = cond (eqb (loadNumber n bytes) 0) true was
   editedNext c (tick full input) i was = cond (Tick.tick n full c input .answer .ran) false was
 
   -- whether cell i was edited since the last tick that ran, or since the start of the list
@@ -52,7 +52,7 @@ module _ (n : ℕ) where
   -- after a call: a tick that ran is the last that read; an accepted load starts anew; nothing else counts
   unfoldable pub readNext : Card → Call → ℕ → Readings → Readings
   readNext c (line text reply store) i was = was
-  readNext c (load bytes) i was = cond (eqb (loadNumber n configWidth bytes) 0) lowReadings was
+  readNext c (load bytes) i was = cond (eqb (loadNumber n bytes) 0) lowReadings was
   readNext c (tick full input) i was = cond (Tick.tick n full c input .answer .ran) (readIn n full c input i) was
 
   -- what a reader in position i read in the last tick that ran
@@ -78,7 +78,7 @@ module _ (n : ℕ) where
   -- a tick that ran comes before the earlier ones; an accepted load starts anew; nothing else counts
   unfoldable pub lastNext : Card → Call → Memory → Memory
   lastNext c (line text reply store) was = was
-  lastNext c (load bytes) was = cond (eqb (loadNumber n configWidth bytes) 0) noMemory was
+  lastNext c (load bytes) was = cond (eqb (loadNumber n bytes) 0) noMemory was
   lastNext c (tick full input) was =
       let a = Tick.tick n full c input .answer in
       cond (a .ran) (moved was (a .driven) (a .cells) (Tick.lines n c input .levels)) was

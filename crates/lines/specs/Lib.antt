@@ -10,5 +10,6 @@ pub mod SaveLoad
 pub mod Settable
 pub mod Box
 pub mod Examples
+pub mod Buffers
 -- Another view of a rule above: the way from settings to lines, which the laws of Settable go by.
 pub mod Wiring

@@ -24,9 +24,9 @@ when test k = cond test k 0
 abbrev pub orElse : ℕ → ℕ → ℕ
 orElse a b = cond (eqb a 0) b a
 
--- 4: "number over 65535"
+-- 4: "number over" the largest; document 02, "Long exposures": "A line's number has 1 to 10 digits, and 4 is given above that limit", 4,294,967,295
 abbrev pub largestNumber : ℕ
-largestNumber = 65535
+largestNumber = 4294967295
 
 abbrev pub tooLarge : ℕ → Bool
 tooLarge v = ltb largestNumber v

@@ -1,5 +1,6 @@
--- Demand 2 of records: save and load are inverse, said of lines and lists of calls, on a card of n cells. "Byte-for-byte saving of a loaded record
--- therefore excepts such records" that hold a constant above 1 (document 02).
+-- Demand 2 of records: save and load are inverse, said of lines and lists of calls, on a card of n cells. By document 02 "Loading and saving byte for
+-- byte is promised of 308-byte records, constants aside": those that hold a constant above 1. The 276-byte record of the old form "still loads with every
+-- number as it was but for constants", and is saved in the present form.
 use Prim.Native.Nat.{ℕ, _≤_}
 use mathlib.Core.Path.{_≡_}
 use mathlib.Core.Bool.{true}
@@ -9,7 +10,8 @@ use Rattle.text.specs.Written.{bytesOf}
 use Rattle.card.specs.declared.card.Card.{Card}
 use Rattle.card.specs.Edits.{clearedCell}
 use Rattle.card.specs.Fresh.{freshOf}
-use Rattle.saved.specs.Record.{configWidth, recordLength, loadNumber, loaded, normalRecord, SmallConstants}
+use Rattle.saved.specs.Record.{narrowWidth, configWidth, recordLength, triggerIn, loadCells, connectorsIn}
+use Rattle.saved.specs.Record.{widthOf, loadNumber, loaded, normalRecord, SmallConstants}
 use Rattle.lines.specs.Line.{shortestReply, lineOutcome, storeAfter}
 use Rattle.lines.specs.Calls.{Call, savedBytes, end}
 
@@ -33,8 +35,16 @@ pub record Restored (n : ℕ) (c d : Card) : Type 0 where
 pub record Written (n : ℕ) (c : Card) (bytes store written : List ℕ) : Type 0 where
   pub sized : length bytes ≡ wholeRecord n
   pub front : written ≡ bytes ++ drop (wholeRecord n) store
-  pub loads : loadNumber n configWidth bytes ≡ 0
-  pub restored : (d : Card) → Restored n c (loaded n configWidth d bytes)
+  pub loads : loadNumber n bytes ≡ 0
+  pub restored : (d : Card) → Restored n c (loaded n d bytes)
+
+-- c has the settings that stand in the bytes by the old form; saved, it is a record that any card loads as it loads these bytes
+pub record FromOldForm (n : ℕ) (bytes : List ℕ) (c : Card) : Type 0 where
+  pub trigger : c .trigger ≡ triggerIn bytes
+  pub cells : take n (c .cells) ≡ loadCells n narrowWidth bytes
+  pub connectors : c .connectors ≡ connectorsIn n narrowWidth bytes
+  pub saved-loads : (text : List ℕ) (reply store : ℕ) → Saves n c text reply store → loadNumber n (savedBytes n c text reply store) ≡ 0
+  pub saved-same : (text : List ℕ) (reply store : ℕ) (e : Card) → Saves n c text reply store → loaded n e (savedBytes n c text reply store) ≡ loaded n e bytes
 
 pub record SaveLoad (n : ℕ) : Type 0 where
   -- with room for the reply and the record, `36SS Z` saves any card
@@ -43,9 +53,11 @@ pub record SaveLoad (n : ℕ) : Type 0 where
   pub save-load : (calls : List Call) (text reply store : List ℕ) → let c = end n (freshOf n) calls in
       Saves n c text (length reply) (length store)
       → Written n c (savedBytes n c text (length reply) (length store)) store (storeAfter n c text (length reply) store)
-  -- an accepted load, and a save of what it gave: the record with its constants above 1 made 1
-  pub load-save : (d : Card) (bytes text : List ℕ) (reply store : ℕ) → let c = loaded n configWidth d bytes in
-      loadNumber n configWidth bytes ≡ 0 → Saves n c text reply store → savedBytes n c text reply store ≡ normalRecord n configWidth bytes
-  -- and the same bytes where it has none
-  pub load-same : (d : Card) (bytes text : List ℕ) (reply store : ℕ) → let c = loaded n configWidth d bytes in
-      loadNumber n configWidth bytes ≡ 0 → SmallConstants n configWidth bytes → Saves n c text reply store → savedBytes n c text reply store ≡ bytes
+  -- an accepted load, and a save of what it gave: the record of the same settings in the present form, with its constants above 1 made 1
+  pub load-save : (d : Card) (bytes text : List ℕ) (reply store : ℕ) → let c = loaded n d bytes in
+      loadNumber n bytes ≡ 0 → Saves n c text reply store → savedBytes n c text reply store ≡ normalRecord n (widthOf n bytes) configWidth bytes
+  -- and the same bytes where the record is of the present form and has none of these
+  pub load-same : (d : Card) (bytes text : List ℕ) (reply store : ℕ) → let c = loaded n d bytes in length bytes ≡ wholeRecord n
+      → loadNumber n bytes ≡ 0 → SmallConstants n configWidth bytes → Saves n c text reply store → savedBytes n c text reply store ≡ bytes
+  -- a record of the old form gives the settings that stand in it, and what a save then writes gives the same card
+  pub old-form : (d : Card) (bytes : List ℕ) → length bytes ≡ recordLength n narrowWidth → loadNumber n bytes ≡ 0 → FromOldForm n bytes (loaded n d bytes)

@@ -115,7 +115,7 @@ wiringLines trigger cells connectors = map commandText (wiring trigger cells con
 
 -- ---- the commands that a text can say
 
--- "a number is 1 to 5 digits"
+-- document 02, "Long exposures": "A line's number has 1 to 10 digits"
 abbrev pub printable : ℕ → Bool
 printable v = ltb v (10 ^ maxDigits)
 

@@ -7,16 +7,16 @@ ghost use Rattle.lines.specs.Refusal.{orElse, tooLarge};
 ghost use Rattle.lines.specs.Line;
 ghost use Rattle.lines.specs.Line.{silent, decided, decision, decisionFor};
 use crate::grammar::Command;
-use crate::grammar::Number;
 use crate::grammar::Parsed;
 use crate::reads;
 use crate::writes;
 use card::change::Change;
 use card::context::Context;
 use card::context::Value;
+use card::limits::Number;
 
 // The largest number that a command may give.
-const LARGEST_NUMBER: Number = 65535;
+const LARGEST_NUMBER: Number = 4294967295;
 
 // The response to a command: nothing, a number, or the record that it saves.
 pub struct Response {
@@ -131,7 +131,7 @@ fn decide(x: Context, store: usize, command: Command) -> Decision
         Command::GetSlot(s) => reads::slot(x, s),
         Command::Front => read(0, card::context::read_front(x)),
         Command::Back => read(0, card::context::read_back(x)),
-        Command::Cells => read(0, x.outputs),
+        Command::Cells => read(0, x.outputs as Value),
         Command::Save => reads::save(store),
     }
 }

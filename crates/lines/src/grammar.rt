@@ -7,13 +7,11 @@ ghost use Rattle.lines.specs.Grammar.{longestLine, charAt, isWord, isWho
 ghost use Rattle.lines.specs.Grammar.{writeOf, ccaWrite, ccaRead, ccaForm, slotForm, ccbForm, readOf, readForm};
 ghost use Rattle.lines.specs.Grammar.{cardForm, numbered, plainForm, parse};
 use crate::pairs::all_pairs;
+use card::limits::Number;
 use cells::table::Slots;
 
 // The most bytes that a line may have.
 const LONGEST_LINE: usize = 80;
-
-// A number of a line, as it was given: it may be too large for what it is to set.
-pub type Number = u32;
 
 // The slots that one line gives, each with its number.
 pub struct Pairs {

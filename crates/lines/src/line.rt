@@ -11,9 +11,9 @@ ghost use Rattle.saved.specs.Record.{configWidth, savedTo};
 ghost use Rattle.lines.specs.Line.{ending, replyOf, shortestReply, lineResult, resultOf};
 use crate::decision::Response;
 use crate::decision::decide_for;
-use crate::grammar::Number;
 use crate::grammar::parse_line;
 use card::card::Card;
+use card::context::Value;
 
 // The fewest bytes that a reply buffer may have.
 pub const SHORTEST_REPLY: usize = 16;
@@ -27,7 +27,7 @@ pub struct Answered {
 }
 
 // A reply that is a word, a number, CR and LF.
-fn put_number(reply: &mut [u8], word: &[u8], v: Number) -> usize
+fn put_number(reply: &mut [u8], word: &[u8], v: Value) -> usize
     requires { ⌜ shortestReply ≤ length (now reply) ⌝ }
     requires { ⌜ length (now word) ≤ 3 ⌝ }
     requires { ⌜ v < 10 ^ maxDigits ⌝ }
@@ -47,11 +47,11 @@ fn put_reply(reply: &mut [u8], k: u8, r: Response) -> usize
 {
     if k == 0 {
         if r.number {
-            return put_number(reply, b":A ", r.value as Number);
+            return put_number(reply, b":A ", r.value);
         }
         return text::copy(reply, 0, b":A\r\n");
     }
-    put_number(reply, b":N-", k as Number)
+    put_number(reply, b":N-", k as Value)
 }
 
 // Saves the record, where that was asked.

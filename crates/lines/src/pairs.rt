@@ -7,13 +7,13 @@ ghost use Rattle.cells.specs.Table.{anySlot};
 ghost use Rattle.lines.specs.Grammar;
 ghost use Rattle.lines.specs.Grammar.{longestLine, pairRead, pairsOf};
 use crate::grammar::Command;
-use crate::grammar::Number;
 use crate::grammar::Pairs;
 use crate::grammar::Parsed;
 use crate::grammar::Reading;
 use crate::grammar::Slot;
 use crate::grammar::char_at;
 use crate::grammar::slot_of;
+use card::limits::Number;
 use cells::table::Slots;
 
 // Whether the slot was given before; what is no slot may not be given.

@@ -13,11 +13,11 @@ use crate::decision::too_large;
 use crate::decision::when;
 use crate::decision::write;
 use crate::grammar::Command;
-use crate::grammar::Number;
 use crate::grammar::Pairs;
 use card::change::Change;
 use card::change::Wires;
 use card::context::Context;
+use card::limits::Number;
 use card::valid;
 use cells::table::Slots;
 
@@ -28,10 +28,10 @@ fn low8(v: Number) -> u8
     (v % 256) as u8
 }
 
-fn low16(v: Number) -> u16
-    ensures { λ r. ⌜ r ≡ v % 65536 ⌝ }
+fn low32(v: Number) -> u32
+    ensures { λ r. ⌜ r ≡ v % 4294967296 ⌝ }
 {
-    (v % 65536) as u16
+    (v % 4294967296) as u32
 }
 
 // `M E=v`.
@@ -90,7 +90,7 @@ pub fn to_config(x: Context, v: Number) -> Decision
     if x.celled {
         return write(
             decision::judged(v, valid::bad_config(cell.kind, v), 9),
-            Change::Config(low16(v)),
+            Change::Config(low32(v)),
         );
     }
     write(
@@ -107,7 +107,7 @@ pub fn to_state(x: Context, v: Number) -> Decision
     let k = decision::judged(v, !x.celled, 6);
     write(
         or_else(k, when(valid::bad_state(cell.kind, v), 12)),
-        Change::State(low16(v)),
+        Change::State(low32(v)),
     )
 }
 

@@ -63,11 +63,11 @@ accepted-stored l store saved x y z p q r es ex ep ey eq ez er =
 
 -- ---- answers
 
-pub answer-refused : (bytes : List ℕ) (k : ℕ) → k ≡ loadNumber cellCount configWidth bytes → (k ≡ 0 → ⊥) → refusedText k ≡ answerTo bytes
+pub answer-refused : (bytes : List ℕ) (k : ℕ) → k ≡ loadNumber cellCount bytes → (k ≡ 0 → ⊥) → refusedText k ≡ answerTo bytes
 unfolding answerTo
 answer-refused bytes k e ne = rw (← e, ne-eqb k 0 ne)
 
-pub answer-accepted : (bytes : List ℕ) (c : Card) → loadNumber cellCount configWidth bytes ≡ 0 → c ≡ loaded cellCount configWidth fresh bytes
+pub answer-accepted : (bytes : List ℕ) (c : Card) → loadNumber cellCount bytes ≡ 0 → c ≡ loaded cellCount fresh bytes
     → acceptedText (recordOf cellCount configWidth c) ≡ answerTo bytes
 unfolding answerTo
 answer-accepted bytes c e ec = rw (e, ec)

@@ -55,8 +55,8 @@ refusedText k = decimal k ++ (32 ∷ 45 ∷ 10 ∷ [])
 -- what the load of some bytes prints
 unfoldable pub answerTo : List ℕ → List ℕ
 answerTo bytes =
-    let k = loadNumber cellCount configWidth bytes in
-    cond (eqb k 0) (acceptedText (recordOf cellCount configWidth (loaded cellCount configWidth fresh bytes))) (refusedText k)
+    let k = loadNumber cellCount bytes in
+    cond (eqb k 0) (acceptedText (recordOf cellCount configWidth (loaded cellCount fresh bytes))) (refusedText k)
 
 -- what a row prints: `?` where it is none
 unfoldable pub printed : List ℕ → List ℕ
@@ -64,7 +64,7 @@ printed row = cond (isRow row) (answerTo (bytesIn row)) (63 ∷ 10 ∷ [])
 
 -- no row prints more
 abbrev pub longestPrint : ℕ
-longestPrint = 560
+longestPrint = 620
 
 -- ---- the input
 

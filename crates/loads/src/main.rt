@@ -118,7 +118,7 @@ fn put_accepted(out: &mut [u8], card: Card) -> usize
     ensures { λ r. ⌜ r ≡ length (acceptedText (recordOf cellCount configWidth card)) ⌝ }
     ensures { λ r. ⌜ r ≤ longestPrint ⌝ }
 {
-    let mut store = [0u8; 276];
+    let mut store = [0u8; 308];
     saved::record::save(card, &mut store);
     let at = text::copy(out, 0, b"0 ");
     let end = put_hex(out, at, &store);
@@ -162,7 +162,7 @@ fn print_row(row: &[u8], out: &mut [u8]) -> usize
 fn show(line: &[u8], len: usize) -> bool
     requires { ⌜ len ≤ length (now line) ⌝ }
 {
-    let mut out = [0u8; 560];
+    let mut out = [0u8; 620];
     let n = print_row(&line[0..len], &mut out);
     io::write_all(STDOUT_FILENO, &out[0..n])
 }

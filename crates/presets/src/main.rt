@@ -9,6 +9,7 @@ use card::edits::move_to;
 use card::edits::set_connector_type;
 use card::edits::set_source;
 use card::edits::set_trigger;
+use card::limits::Number;
 use card::presets::apply_preset;
 use card::presets::bad_preset;
 use card::presets::sets_front;
@@ -19,23 +20,23 @@ fn put(b: u8) {
     io::write_all(1, &text);
 }
 
-fn put_number(n: u32) {
-    io::print_decimal(1, n as u64);
+fn put_number(n: u64) {
+    io::print_decimal(1, n);
 }
 
 // A byte behind a separator.
 fn put_part(mark: u8, n: u8) {
     put(mark);
-    put_number(n as u32);
+    put_number(n as u64);
 }
 
 fn put_cell(i: u32, cell: Cell) {
     let slots = cell.slots;
     put(b' ');
-    put_number(i);
+    put_number(i as u64);
     put_part(b':', cell.kind);
     put(b'/');
-    put_number(cell.config as u32);
+    put_number(cell.config as u64);
     put_part(b'/', slots[0]);
     put_part(b',', slots[1]);
     put_part(b',', slots[2]);
@@ -44,7 +45,7 @@ fn put_cell(i: u32, cell: Cell) {
 
 fn put_connector(k: u32, c: Connector) {
     put(b' ');
-    put_number(k);
+    put_number(k as u64);
     put_part(b'=', c.source);
     put_part(b'/', c.kind);
 }
@@ -80,7 +81,7 @@ fn put_connectors(before: Card, after: Card) -> bool {
 }
 
 // The refusal of a line with this preset.
-fn refusal(card: Card, v: u32) -> u32 {
+fn refusal(card: Card, v: Number) -> u64 {
     if bad_preset(v) {
         return 8;
     }
@@ -90,7 +91,7 @@ fn refusal(card: Card, v: u32) -> u32 {
     0
 }
 
-fn put_line(card: Card, v: u32) {
+fn put_line(card: Card, v: Number) {
     let after = apply_preset(card, v);
     put_number(v);
     put(b' ');
@@ -104,7 +105,7 @@ fn put_line(card: Card, v: u32) {
 }
 
 fn put_all(card: Card) {
-    for v in 0..66u32 {
+    for v in 0..66u64 {
         put_line(card, v);
     }
 }

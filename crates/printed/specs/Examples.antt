@@ -27,7 +27,7 @@ printedCell kind config slots = commandsText (cellCommands 0 (cellOf kind config
 -- cells of the longest lines on a card whose connectors have the longest sources
 longCard : Card
 longCard =
-    started 0 (replicate 16 (cellOf 17 65535 (225 ∷ 225 ∷ 225 ∷ 225 ∷ []))) (replicate 16 (record { kind = 2; source = 225 })) 0
+    started 0 (replicate 16 (cellOf 17 4294967295 (225 ∷ 225 ∷ 225 ∷ 225 ∷ []))) (replicate 16 (record { kind = 2; source = 225 })) 0
 
 -- given, expected
 abbrev table : List (List ℕ × List ℕ)
@@ -53,7 +53,7 @@ table =
     ∷ (printedTo cellCount fresh (7 ∷ 8 ∷ []), 7 ∷ 8 ∷ [])
     ∷ (drop 855 (printedTo cellCount fresh (replicate 864 7)), bytesOf "PM E=0\n" ++ (7 ∷ 7 ∷ []))
     -- the longest text of a card that lines can set
-    ∷ (length (wiringText cellCount longCard) ∷ [], 1454 ∷ [])
+    ∷ (length (wiringText cellCount longCard) ∷ [], 1534 ∷ [])
     ∷ []
 
 one-table : map (λ (e : List ℕ × List ℕ). e .0) table ≡ map (λ (e : List ℕ × List ℕ). e .1) table

@@ -9,12 +9,12 @@ use Rattle.card.specs.Address.{cellCount, connectorCount, firstCell, firstConne
 use Rattle.card.specs.Valid.{validCard}
 use Rattle.printed.specs.Print.{wiringText, printNumber}
 
--- the digits of a cell's type, up to 22, of a configuration, up to 65535, of an address, up to 255, of a connector's type and of a clock code
+-- the digits of a cell's type, up to 22, of a configuration, up to 4294967295, of an address, up to 255, of a connector's type and of a clock code
 abbrev pub typeDigits : ℕ
 typeDigits = 2
 
 abbrev pub configDigits : ℕ
-configDigits = 5
+configDigits = 10
 
 abbrev pub addressDigits : ℕ
 addressDigits = 3
@@ -46,7 +46,7 @@ unfoldable pub longest : ℕ → ℕ
 longest n = places firstCell cellLines 0 n + (places firstConnector connectorLines 0 connectorCount + (5 + (oneDigit + 1)))
 
 -- of the card of sixteen cells
-longest-now : longest cellCount ≡ 1454
+longest-now : longest cellCount ≡ 1534
 unfolding longest places decimal decimalFrom
 longest-now = refl
 

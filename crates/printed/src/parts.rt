@@ -16,7 +16,7 @@ use card::limits::FIRST_CONNECTOR;
 use cells::cell::Cell;
 
 // `maxDigits`: of a number.
-const DIGITS: usize = 5;
+const DIGITS: usize = 10;
 
 // The most bytes of a line of one number, of a line of slots, of a cell and of a connector.
 const NUMBER_MOST: usize = 8 + (DIGITS + 1);
@@ -93,14 +93,7 @@ fn put_cell(out: &mut [u8; TEXT_MOST], at: usize, i: u8, cell: Cell) -> usize
     let row = cells::table::row_of(cell.kind);
     let y = put(out, at, true, b"M E=", (i + FIRST_CELL) as u32, b"\n");
     let z = put(out, y, true, b"36CCA Y=", cell.kind as u32, b"\n");
-    let x = put(
-        out,
-        z,
-        row.configured,
-        b"36CCA Z=",
-        cell.config as u32,
-        b"\n",
-    );
+    let x = put(out, z, row.configured, b"36CCA Z=", cell.config, b"\n");
     put_slots(out, x, cell)
 }
 

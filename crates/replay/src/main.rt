@@ -3,9 +3,10 @@
 // `pair-a` and `pair-b` differ only in which ticks are quick, so that what they print differs only
 // in woken sets and their counts. `busy` sessions are random and busy with every rule. The
 // `corners` are worked out by hand from the rules of counters, of triggers during a pulse, of
-// constants and of lines with nothing attached. The wirings that end in `.lines` are those of the
-// folder examples. `edge` and `late` are worked out by hand from the rules of ticks; `count-quick`
-// and `count-full` are one counter made of flip-flops, ticked both ways.
+// constants, of lines with nothing attached and of numbers of ten digits. The wirings that end in
+// `.lines` are those of the folder examples. `edge` and `late` are worked out by hand from the
+// rules of ticks; `count-quick` and `count-full` are one counter made of flip-flops, ticked both
+// ways.
 // `long` is more than a buffer of input and of output: lines cut at every place by the end of a
 // block of 2048 bytes, lines of thousands of bytes, NUL bytes, and a last line without LF. Ticks,
 // pointer and loads of the store come again and again, so that a card, store or line that is lost
@@ -38,6 +39,7 @@ fn main() {
     replay(b"strobe-corners.in");
     replay(b"constant-corners.in");
     replay(b"unplugged-corners.in");
+    replay(b"long-exposure-corners.in");
     replay(b"clock.lines");
     replay(b"n-pulses.lines");
     replay(b"pass-n-m.lines");
@@ -49,6 +51,7 @@ fn main() {
     replay(b"counter.lines");
     replay(b"seen.lines");
     replay(b"bounce.lines");
+    replay(b"long-exposure.lines");
     replay(b"readout.lines");
     replay(b"comes-to-rest.lines");
     replay(b"never-rests.lines");

@@ -43,6 +43,8 @@ fn main() {
     reprint(b"during-acquisition.wiring");
     reprint(b"light-sheet.lines");
     reprint(b"light-sheet.wiring");
+    reprint(b"long-exposure.lines");
+    reprint(b"long-exposure.wiring");
     reprint(b"n-pulses.lines");
     reprint(b"n-pulses.wiring");
     reprint(b"never-rests.lines");

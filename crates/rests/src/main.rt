@@ -32,7 +32,7 @@ fn put_tick(out: &[u8], len: usize, rests: bool)
 }
 
 // A line of a wiring. Only a tick prints.
-fn take_line(card: Card, line: &[u8], store: &mut [u8; 276]) -> Card {
+fn take_line(card: Card, line: &[u8], store: &mut [u8; 308]) -> Card {
     let mut out = [0u8; 32];
     let entered = console::enter(card, line, store, &mut out);
     let next = entered.card;
@@ -48,7 +48,7 @@ fn take_block(block: &[u8], n: usize) -> Card
     requires { ⌜ n ≤ length (now block) ⌝ }
 {
     let mut card = card::card::fresh();
-    let mut store = [0u8; 276];
+    let mut store = [0u8; 308];
     let mut start: usize = 0;
     for i in 0..n {
         if block[i] == b'\n' {

@@ -22,7 +22,7 @@ pub record RunState : Type 0 where
   pub line : List ℕ
   pub printed : List ℕ
 
--- "Fresh: ...", and "the store, 276 zeros at start"
+-- "Fresh: ...", and by document 02 "The program's store starts as 308 zeros"
 unfoldable pub startState : ℕ → RunState
 startState n = record { card = freshOf n; store = replicate (recordLength n configWidth) 0; line = []; printed = [] }
 

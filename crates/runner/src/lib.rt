@@ -33,8 +33,8 @@ const LINE: usize = 96;
 // A line that has not ended, and behind it a block.
 const BUFFER: usize = LINE + BLOCK;
 
-// "276 zeros at start"
-const STORE: usize = 276;
+// "The program's store starts as 308 zeros."
+const STORE: usize = 308;
 
 // `longestPrint`: no line prints more.
 const ROOM: usize = 32;

@@ -1,21 +1,20 @@
 -- Laws of bytes: in fields of one length, as numbers, and compared.
-use Prim.Native.Nat.{ℕ, zero, suc, _+_, _*_, _/_, _%_, _^_, _≤_, _<_, zero-le}
+use Prim.Native.Nat.{ℕ, zero, suc, _+_, _-_, _*_, _/_, _%_, _^_, _≤_, _<_, zero-le}
 use mathlib.Core.Path.{_≡_, refl, sym, ap, ap₂, _∙_}
 use mathlib.Core.Bool.{Bool, true, false, _&&_, false≢true, and-assoc}
 use mathlib.Core.List.{List, [], _∷_, _++_, map, append-nil, append-assoc}
-use native.Mathlib.Nat.{add-zero, add-assoc, zero-mul, suc-mul, add-mul, mul-assoc, not-suc-le-zero, pow-suc, pow-succ'}
+use native.Mathlib.Nat.{add-zero, zero-add, suc-add, add-assoc, zero-mul, suc-mul, add-mul, mul-assoc, not-suc-le-zero, pow-suc, pow-succ'}
 use native.Mathlib.Nat.{mod-eq-of-lt, mod-one, div-one, div-div-eq-div-mul}
 use native.Mathlib.Numerals.{add-one}
 use native.Mathlib.Omega.{arith}
 use lib.Arith.{mod-mul, digits-div, digits-mod}
 use lib.Dec.{eqb, lit<}
-use lib.ListN.{length, getD, take, drop, length-append}
-use lib.Seq.{sets, length-sets, take-suc, drop-cons, length-take-le, drop-append-add}
+use lib.ListN.{length, getD, take, drop, length-append, length-drop}
+use lib.Seq.{sets, length-sets, take-suc, take-all, getD-drop, length-take-le, drop-append-add}
 use borrow.Author.Tests.{eqb-true, eq-eqb}
 use Rattle.text.proofs.Stores.{sets-append}
 use Rattle.cells.proofs.Rows.{and-left, and-right}
 use Rattle.cells.specs.declared.cell.Cell.{Cell}
-use Rattle.card.proofs.Slots.{four}
 use Rattle.saved.specs.Headers.{Bytes}
 use Rattle.saved.specs.Record.{cellField, fieldsFrom, bigEndian, bigValue, sameBytes}
 
@@ -155,41 +154,59 @@ big-back acc (b ∷ bs) all =
     (ap (λ (k : ℕ). k % 256) (big-top (acc * 256 + b) bs rest) ∙ digits-mod acc first)
     (big-back (acc * 256 + b) bs rest)
 
--- two bytes in a row
-two : (l : List ℕ) (k : ℕ) → k + 1 < length l → take 2 (drop k l) ≡ getD l k 0 ∷ getD l (k + 1) 0 ∷ []
-two l k h =
-    rw (drop-cons l k 0 (omega arith), drop-cons l (suc k) 0 (omega arith), add-one k)
+-- the low bytes of a number
+big-last : (k w v : ℕ) → drop k (bigEndian (k + w) v) ≡ bigEndian w v
+unfolding bigEndian
+big-last zero w v = ap (λ (j : ℕ). bigEndian j v) (zero-add w)
+big-last (suc k) w v = ap (λ (j : ℕ). drop (suc k) (bigEndian j v)) (suc-add k w) ∙ big-last k w v
+
+-- a slice of a number's bytes, its last w
+pub big-low : (count w v : ℕ) (bytes : List ℕ) → w ≤ count → bytes ≡ bigEndian count v
+    → take (count - (count - w)) (drop (count - w) bytes) ≡ bigEndian w v
+big-low count w v bytes h e =
+    let k : ℕ = count - w in
+    let sum : count ≡ k + w = omega arith in
+    let many : count - k ≡ w = omega arith in
+    ap₂ (λ (m : ℕ) (l : List ℕ). take m (drop k l)) many (e ∙ ap (λ (j : ℕ). bigEndian j v) sum)
+    ∙ ap (take w) (big-last k w v)
+    ∙ take-all w (bigEndian w v) (omega (arith, length-big w v))
+
+-- a turn of a loop that reads a number: one byte more, and it still fits in as many bytes
+big-snoc : (acc : ℕ) (l : List ℕ) (b : ℕ) → bigValue acc (l ++ (b ∷ [])) ≡ bigValue acc l * 256 + b
+unfolding bigValue
+big-snoc acc [] b = refl
+big-snoc acc (x ∷ xs) b = big-snoc (acc * 256 + x) xs b
+
+pub value-next : (l : List ℕ) (at i : ℕ) → at + i < length l
+    → bigValue 0 (take i (drop at l)) * 256 + getD l (at + i) 0 ≡ bigValue 0 (take (i + 1) (drop at l))
+value-next l at i h =
+    let inside : i < length (drop at l) = omega (arith, length-drop at l) in
+    rw (add-one i, take-suc (drop at l) i 0 inside, ← getD-drop at l i 0) (sym (big-snoc 0 (take i (drop at l)) (getD (drop at l) i 0)))
+
+pub value-fits : (v b i : ℕ) → v < 256 ^ i → b < 256 → v * 256 + b < 256 ^ (i + 1)
+value-fits v b i h small = rw (add-one i) (omega (arith, pow-suc 256 i))
+
+-- less than four bytes leave room for one more
+pub value-room : (v i : ℕ) → i < 4 → v < 256 ^ i → v * 256 + 255 < 4294967296
+value-room v zero h f = omega arith
+value-room v (suc zero) h f = omega arith
+value-room v (suc (suc zero)) h f = omega arith
+value-room v (suc (suc (suc zero))) h f = omega arith
+value-room v (suc (suc (suc (suc i)))) h f = absurd (omega arith)
 
 -- ---- a cell's field
 
--- the eleven bytes of a cell with a configuration of two
-pub cell-bytes : (i : ℕ) (cell : Cell) → length (cell .slots) ≡ 4 → cell .config < 65536
-    → 2
-    ∷ 0
-    ∷ 8
-    ∷ (i + 1)
-    ∷ cell .kind
-    ∷ cell .config / 256
-    ∷ cell .config % 256
-    ∷ getD (cell .slots) 0 0
-    ∷ getD (cell .slots) 1 0
-    ∷ getD (cell .slots) 2 0
-    ∷ getD (cell .slots) 3 0
-    ∷ []
-    ≡ cellField 2 i cell
-unfolding cellField bigEndian
-cell-bytes i cell n h =
-    let size : ℕ = suc (suc (suc (suc (length (cell .slots))))) in
-    let top : 0 ≡ size / 256 = omega arith in
-    let low : 8 ≡ size % 256 = omega arith in
-    let high : cell .config / 256 ≡ cell .config / 256 ^ 1 % 256 = omega arith in
-    let rest : cell .config % 256 ≡ cell .config / 256 ^ 0 % 256 = ap (λ (v : ℕ). v % 256) (sym (div-one (cell .config))) in
-    λ k. 2 ∷ top k ∷ low k ∷ (i + 1) ∷ cell .kind ∷ high k ∷ rest k ∷ four (cell .slots) n k
-
--- the two bytes of its configuration
-pub config-read : (l : List ℕ) (k : ℕ) → k + 1 < length l → bigValue 0 (take 2 (drop k l)) ≡ getD l k 0 * 256 + getD l (k + 1) 0
-unfolding bigValue
-config-read l k h = ap (bigValue 0) (two l k h) ∙ omega arith
+-- its head, with the size in two bytes, its configuration and its slots
+pub cell-parts : (width i : ℕ) (cell : Cell) → length (cell .slots) ≡ 4 → width ≤ 4
+    → (2 ∷ 0 ∷ (6 + width) ∷ (i + 1) ∷ cell .kind ∷ []) ++ (bigEndian width (cell .config) ++ cell .slots) ≡ cellField width i cell
+unfolding cellField
+cell-parts width i cell n h =
+    let size : ℕ = suc (suc (length (bigEndian width (cell .config) ++ cell .slots))) in
+    let long = length-append (bigEndian width (cell .config)) (cell .slots) in
+    let wide = length-big width (cell .config) in
+    let top : 0 ≡ size / 256 = omega (arith, long, wide) in
+    let low : 6 + width ≡ size % 256 = omega (arith, long, wide) in
+    λ k. 2 ∷ top k ∷ low k ∷ (i + 1) ∷ cell .kind ∷ bigEndian width (cell .config) ++ cell .slots
 
 -- ---- equal bytes
 

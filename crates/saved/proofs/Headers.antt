@@ -18,10 +18,10 @@ use Rattle.words.proofs.Listed.{length-listed}
 use Rattle.card.specs.Address.{firstCell, firstConnector, connectorCount}
 use Rattle.card.specs.Valid.{valid}
 use Rattle.saved.specs.Record.{field, bigEndian, bigValue, triggerField, cellField, connectorField, fieldsFrom, encode, triggerLength, cellLength}
-use Rattle.saved.specs.Record.{connectorLength, recordLength, triggerIn, cellIn, connectorIn, cellsIn, loadCells, connectorsIn, sameBytes, loadNumber}
+use Rattle.saved.specs.Record.{connectorLength, recordLength, triggerIn, cellIn, connectorIn, cellsIn, loadCells, connectorsIn, sameBytes, loadNumberAs}
 use Rattle.saved.specs.Headers.{Bytes, everyBelow, startsAt, numberedAt, triggerHeaded, cellHeaded, connectorHeaded, headed}
 use Rattle.saved.proofs.Fields.{fields-snoc, big-back, same-eq, same-append}
-use Rattle.saved.proofs.Records.{cell-length, connector-length, other-length}
+use Rattle.saved.proofs.Forms.{cell-length, connector-length, other-length}
 
 -- ---- every index below a number
 
@@ -248,13 +248,13 @@ module _ (n width : ℕ) (bytes : List ℕ) (all : Bytes bytes) where
       go false e = other-length n width bytes (eqb-false (length bytes) (recordLength n width) e)
 
   -- so the number of a load goes by the heads first and then by the values
-  pub number-headed : loadNumber n width bytes
+  pub number-headed : loadNumberAs n width bytes
       ≡ cond (headed n width bytes) (cond (valid n (triggerIn bytes) (loadCells n width bytes) (connectorsIn n width bytes)) 0 15) 14
-  unfolding loadNumber
+  unfolding loadNumberAs
   number-headed = rw same-headed
 
   -- 14, exactly where a length, a tag, a number or an address is wrong
-  pub fourteen : eqb (loadNumber n width bytes) 14 ≡ not (headed n width bytes)
+  pub fourteen : eqb (loadNumberAs n width bytes) 14 ≡ not (headed n width bytes)
   fourteen =
       ap (λ (k : ℕ). eqb k 14) number-headed
       ∙ told (headed n width bytes) (valid n (triggerIn bytes) (loadCells n width bytes) (connectorsIn n width bytes))

@@ -30,7 +30,7 @@ numberedAt bytes at tag size number = startsAt bytes at tag size && eqb number (
 unfoldable pub triggerHeaded : List ℕ → Bool
 triggerHeaded bytes = startsAt bytes 0 1 1
 
--- "tag 2 cell number, type, configuration (2, high first), slots (8 in all), sixteen in order": number, type and slots are six bytes
+-- "tag 2 cell number, type, configuration (2, high first), slots (8 in all), sixteen in order": besides the configuration there are six bytes
 unfoldable pub cellHeaded : ℕ → List ℕ → ℕ → Bool
 cellHeaded width bytes i = numberedAt bytes (triggerLength + i * cellLength width) 2 (6 + width) (i + firstCell)
 
@@ -39,7 +39,7 @@ unfoldable pub connectorHeaded : ℕ → ℕ → List ℕ → ℕ → Bool
 connectorHeaded n width bytes k =
     numberedAt bytes (triggerLength + n * cellLength width + k * connectorLength) 3 3 (k + firstConnector)
 
--- what 14 asks for: "record not 276 bytes; a field's length, tag, or a cell number or connector address out of order"
+-- what 14 asks for, by one form: "record not 276 bytes; a field's length, tag, or a cell number or connector address out of order"
 unfoldable pub headed : ℕ → ℕ → List ℕ → Bool
 headed n width bytes =
     eqb (length bytes) (recordLength n width)

@@ -1,4 +1,5 @@
--- Document 01, "Saved record", and document 02, "Constants are 0 or 1": the settings as bytes, and a load. Stated over the number n of cells and the width of the configuration.
+-- Document 01, "Saved record", and document 02, "Constants are 0 or 1" and "Long exposures": the settings as bytes, and a load. Stated over the number
+-- n of cells and the width of a configuration, which is the form of a record.
 use Prim.Native.Nat.{ℕ, zero, suc, _+_, _-_, _*_, _/_, _%_, _^_, _<_, _≤_}
 use mathlib.Core.Path.{_≡_}
 use mathlib.Core.Bool.{Bool, true, false, _&&_, cond}
@@ -30,7 +31,7 @@ bigEndian (suc w) v = v / 256 ^ w % 256 ∷ bigEndian w v
 abbrev pub triggerField : ℕ → List ℕ
 triggerField trigger = field 1 (trigger ∷ [])
 
--- "tag 2 cell number, type, configuration (2, high first), slots (8 in all), sixteen in order"
+-- "tag 2 cell number, type, configuration (2, high first), slots (8 in all), sixteen in order"; now "a four-byte configuration"
 unfoldable pub cellField : ℕ → ℕ → Cell → List ℕ
 cellField width i cell = field 2 ((i + firstCell) ∷ cell .kind ∷ bigEndian width (cell .config) ++ cell .slots)
 
@@ -46,9 +47,14 @@ fieldsFrom f i (x ∷ xs) = f i x ++ fieldsFrom f (suc i) xs
 unfoldable pub encode : ℕ → ℕ → List Cell → List Connector → List ℕ
 encode width trigger cells connectors = triggerField trigger ++ fieldsFrom (cellField width) 0 cells ++ fieldsFrom connectorField 0 connectors
 
--- the width of a configuration; the lengths of the fields, and of the record of n cells: "276 bytes"
+-- "Cell fields get a four-byte configuration", the present form; that of the old form has two
 abbrev pub configWidth : ℕ
-configWidth = 2
+configWidth = 4
+
+abbrev pub narrowWidth : ℕ
+narrowWidth = 2
+
+-- the lengths of the fields, and of the record of n cells: of sixteen "so a record is 308 bytes", and in the old form "276 bytes"
 
 abbrev pub triggerLength : ℕ
 triggerLength = 4
@@ -121,11 +127,11 @@ sameBytes [] (b ∷ bs) = false
 sameBytes (a ∷ s) [] = false
 sameBytes (a ∷ s) (b ∷ bs) = eqb a b && sameBytes s bs
 
--- 14: "record not 276 bytes; a field's length, tag, or a cell number or connector address out of order": the settings read out of the bytes,
--- written again, are not these bytes; byte by byte in specs/Headers. 15: "record value no line could set" and what else `valid` says, of the
+-- by one form. 14: "record not 276 bytes; a field's length, tag, or a cell number or connector address out of order": the settings read out of the
+-- bytes, written again, are not these bytes; byte by byte in specs/Headers. 15: "record value no line could set" and what else `valid` says, of the
 -- settings in normal form: a constant's own number is no cause for it
-unfoldable pub loadNumber : ℕ → ℕ → List ℕ → ℕ
-loadNumber n width bytes =
+unfoldable pub loadNumberAs : ℕ → ℕ → List ℕ → ℕ
+loadNumberAs n width bytes =
     cond (sameBytes (encode width (triggerIn bytes) (cellsIn n width bytes) (connectorsIn n width bytes)) bytes)
     (cond (valid n (triggerIn bytes) (loadCells n width bytes) (connectorsIn n width bytes)) 0 15) 14
 
@@ -134,14 +140,26 @@ abbrev pub poweredUp : ℕ → ℕ → List Cell → List Connector → Card
 poweredUp n trigger cells connectors = started trigger cells connectors (2 ^ n - 1)
 
 -- the card after a load: what stands behind its n cells stays, and a refused load changes nothing
-unfoldable pub loaded : ℕ → ℕ → Card → List ℕ → Card
-loaded n width c bytes =
-    cond (eqb (loadNumber n width bytes) 0)
+unfoldable pub loadedAs : ℕ → ℕ → Card → List ℕ → Card
+loadedAs n width c bytes =
+    cond (eqb (loadNumberAs n width bytes) 0)
     (poweredUp n (triggerIn bytes) (loadCells n width bytes ++ drop n (c .cells)) (connectorsIn n width bytes)) c
 
--- what a save after an accepted load writes: the record with its constants above 1 made 1; "saved as 1 afterwards"
-unfoldable pub normalRecord : ℕ → ℕ → List ℕ → List ℕ
-normalRecord n width bytes = encode width (triggerIn bytes) (loadCells n width bytes) (connectorsIn n width bytes)
+-- "The 276-byte record still loads": the form that the length of a record tells. Other lengths than the two are 14 in either form
+abbrev pub widthOf : ℕ → List ℕ → ℕ
+widthOf n bytes = cond (eqb (length bytes) (recordLength n narrowWidth)) narrowWidth configWidth
+
+-- a load, its form told by the length
+unfoldable pub loadNumber : ℕ → List ℕ → ℕ
+loadNumber n bytes = loadNumberAs n (widthOf n bytes) bytes
+
+unfoldable pub loaded : ℕ → Card → List ℕ → Card
+loaded n c bytes = loadedAs n (widthOf n bytes) c bytes
+
+-- the settings that the bytes hold in the one form, constants above 1 made 1, written in the other: what a save after an accepted load writes,
+-- "saved as 1 afterwards"
+unfoldable pub normalRecord : (n from to : ℕ) → List ℕ → List ℕ
+normalRecord n from to bytes = encode to (triggerIn bytes) (loadCells n from bytes) (connectorsIn n from bytes)
 
 -- no constant of the record is above 1
 abbrev pub SmallConstants : ℕ → ℕ → List ℕ → Type 0

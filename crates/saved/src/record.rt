@@ -1,4 +1,5 @@
-// The saved record: the settings as bytes, and what a load makes of some bytes.
+// The saved record: the settings as bytes, and what a load makes of some bytes. A record has a form, the width of a configuration in it; its length
+// tells which.
 ghost use mathlib.Core.Bool.{not};
 ghost use mathlib.Core.List.{_++_};
 ghost use mathlib.Core.Path.{_≡_};
@@ -9,8 +10,9 @@ ghost use lib.Seq.{sets};
 ghost use Rattle.card.specs.Address.{cellCount, connectorCount};
 ghost use Rattle.saved.specs.Record.{configWidth, cellLength, connectorLength, triggerLength, recordLength};
 ghost use Rattle.saved.specs.Headers.{everyBelow, numberedAt, headed};
-ghost use Rattle.saved.specs.Record.{cellField, connectorField, fieldsFrom, encode, normalConfig, normalCell, loadCells};
-ghost use Rattle.saved.specs.Record.{cellIn, connectorIn, connectorsIn, loadNumber, loaded, savedTo};
+ghost use Rattle.saved.specs.Record.{bigEndian, bigValue, cellField, connectorField, fieldsFrom, encode};
+ghost use Rattle.saved.specs.Record.{normalConfig, normalCell, loadCells, cellIn, connectorIn, connectorsIn};
+ghost use Rattle.saved.specs.Record.{widthOf, loadNumberAs, loadedAs, loadNumber, loaded, savedTo};
 use card::card::Card;
 use card::card::Connector;
 use card::card::started;
@@ -37,10 +39,15 @@ const TRIGGER_SIZE: u8 = 1;
 
 const TRIGGER_LENGTH: usize = HEAD + TRIGGER_SIZE as usize;
 
-// That of a cell has its number, its type, its configuration and its slots.
+// The bytes of a configuration; in the old form there were fewer.
+pub const WIDTH: usize = 4;
+
+pub const NARROW_WIDTH: usize = 2;
+
+// The field of a cell has its number, its type, its configuration and its slots. Without the configuration:
 const CELL_TAG: u8 = 2;
 
-const CELL_SIZE: u8 = 8;
+const CELL_SIZE: u8 = 6;
 
 const CELL_LENGTH: usize = HEAD + CELL_SIZE as usize;
 
@@ -51,16 +58,15 @@ const CONNECTOR_SIZE: u8 = 3;
 
 const CONNECTOR_LENGTH: usize = HEAD + CONNECTOR_SIZE as usize;
 
-// The number or the address comes first in a field, then the type; then a connector's source, or a cell's configuration, high byte first, and slots.
+// The number or the address comes first in a field, then the type; then a connector's source, or a cell's configuration, high byte first.
 const KIND_AT: usize = HEAD + 1;
 
 const SOURCE_AT: usize = KIND_AT + 1;
 
-const HIGH_AT: usize = KIND_AT + 1;
+const CONFIG_AT: usize = KIND_AT + 1;
 
-const LOW_AT: usize = HIGH_AT + 1;
-
-const X_AT: usize = LOW_AT + 1;
+// The slots stand the width of a configuration behind these.
+const X_AT: usize = CONFIG_AT;
 
 const Y_AT: usize = X_AT + 1;
 
@@ -68,10 +74,12 @@ const Z_AT: usize = Y_AT + 1;
 
 const F_AT: usize = Z_AT + 1;
 
-// Where the fields of connectors begin, and how many bytes a record has.
-const CONNECTORS_AT: usize = TRIGGER_LENGTH + CELLS * CELL_LENGTH;
+// How many bytes a record has: without its configurations, and in either form.
+const BARE_LENGTH: usize = TRIGGER_LENGTH + CELLS * CELL_LENGTH + CONNECTORS * CONNECTOR_LENGTH;
 
-pub const RECORD_LENGTH: usize = CONNECTORS_AT + CONNECTORS * CONNECTOR_LENGTH;
+pub const RECORD_LENGTH: usize = BARE_LENGTH + CELLS * WIDTH;
+
+pub const NARROW_LENGTH: usize = BARE_LENGTH + CELLS * NARROW_WIDTH;
 
 // What a load gives: the card, and the number that refuses it, 0 where none does.
 #[repr(C)]
@@ -82,27 +90,38 @@ pub struct Loaded {
 
 // ---- bytes out
 
-// The field of cell i, whose number is i + FIRST_CELL.
-fn cell_bytes(i: u8, cell: Cell) -> [u8; CELL_LENGTH]
-    requires { ⌜ i < cellCount ⌝ }
-    ensures { λ r. ⌜ r ≡ cellField configWidth i cell ⌝ }
+// A configuration, high byte first.
+fn config_bytes(config: Config) -> [u8; WIDTH]
+    ensures { λ r. ⌜ r ≡ bigEndian configWidth config ⌝ }
 {
-    let s = cell.slots;
-    let high = (cell.config / 256) as u8;
-    let low = (cell.config % 256) as u8;
     [
+        (config / 16777216 % 256) as u8,
+        (config / 65536 % 256) as u8,
+        (config / 256 % 256) as u8,
+        (config % 256) as u8,
+    ]
+}
+
+// The field of cell i, whose number is i + FIRST_CELL, to a place.
+fn put_cell(out: &mut [u8], at: usize, width: usize, i: u8, cell: Cell)
+    requires { ⌜ at + cellLength width ≤ length (now out) ⌝ }
+    requires { ⌜ width ≤ configWidth ⌝ }
+    requires { ⌜ i < cellCount ⌝ }
+    ensures { λ _. ⌜ now (out .exit) ≡ sets (now (out .entry)) at (cellField width i cell) ⌝ }
+    ensures { λ _. ⌜ length (cellField width i cell) ≡ cellLength width ⌝ }
+{
+    let head = [
         CELL_TAG,
         0,
-        CELL_SIZE,
+        CELL_SIZE + width as u8,
         i + FIRST_CELL,
         cell.kind,
-        high,
-        low,
-        s[0],
-        s[1],
-        s[2],
-        s[3],
-    ]
+    ];
+    let config = config_bytes(cell.config);
+    let slots = cell.slots;
+    let next = text::copy(out, at, &head);
+    let next = text::copy(out, next, &config[WIDTH - width..WIDTH]);
+    text::copy(out, next, &slots);
 }
 
 // The field of connector k, whose address is k + FIRST_CONNECTOR.
@@ -121,74 +140,91 @@ fn connector_bytes(k: u8, c: Connector) -> [u8; CONNECTOR_LENGTH]
 }
 
 // The fields of the first n cells, after that of the trigger. By recursion, as `card::edits::cleared`.
-fn put_cells(out: &mut [u8; RECORD_LENGTH], cells: [Cell; CELLS], n: u8)
+fn put_cells(out: &mut [u8], width: usize, cells: [Cell; CELLS], n: u8)
+    requires { ⌜ triggerLength + cellCount * cellLength width ≤ length (now out) ⌝ }
+    requires { ⌜ width ≤ configWidth ⌝ }
     requires { ⌜ n ≤ cellCount ⌝ }
-    ensures { λ _. ⌜ now (out .exit) ≡ sets (now (out .entry)) triggerLength (fieldsFrom (cellField configWidth) 0 (take n cells)) ⌝ }
-    ensures { λ _. ⌜ length (fieldsFrom (cellField configWidth) 0 (take n cells)) ≡ n * cellLength configWidth ⌝ }
+    ensures { λ _. ⌜ now (out .exit) ≡ sets (now (out .entry)) triggerLength (fieldsFrom (cellField width) 0 (take n cells)) ⌝ }
+    ensures { λ _. ⌜ length (fieldsFrom (cellField width) 0 (take n cells)) ≡ n * cellLength width ⌝ }
 {
     if n == 0 {
         return;
     }
     let i = n - 1;
     let at = i as usize;
-    put_cells(out, cells, i);
-    let bytes = cell_bytes(i, cells[at]);
-    text::copy(out, TRIGGER_LENGTH + CELL_LENGTH * at, &bytes);
+    put_cells(out, width, cells, i);
+    let cell = cells[at];
+    put_cell(
+        out,
+        TRIGGER_LENGTH + at * (CELL_LENGTH + width),
+        width,
+        i,
+        cell,
+    );
 }
 
-// The fields of all connectors, after those of the cells.
-fn with_connectors(
-    out: [u8; RECORD_LENGTH],
-    connectors: [Connector; CONNECTORS],
-) -> [u8; RECORD_LENGTH]
-    ensures { λ r. ⌜ r ≡ sets out (triggerLength + cellCount * cellLength configWidth) (fieldsFrom connectorField 0 connectors) ⌝ }
-    ensures { λ r. ⌜ length (fieldsFrom connectorField 0 connectors) ≡ connectorCount * connectorLength ⌝ }
+// The fields of all connectors, from a place on.
+fn put_connectors(out: &mut [u8], start: usize, connectors: [Connector; CONNECTORS])
+    requires { ⌜ start + connectorCount * connectorLength ≤ length (now out) ⌝ }
+    ensures { λ _. ⌜ now (out .exit) ≡ sets (now (out .entry)) start (fieldsFrom connectorField 0 connectors) ⌝ }
 {
-    let mut next = out;
     for k in 0..CONNECTORS as u8 {
         let at = k as usize;
         let bytes = connector_bytes(k, connectors[at]);
-        text::copy(&mut next, CONNECTORS_AT + CONNECTOR_LENGTH * at, &bytes);
+        text::copy(out, start + CONNECTOR_LENGTH * at, &bytes);
     }
-    next
 }
 
-// The settings as bytes.
-fn encoded(
+// The settings as bytes, in the form of a width, to the front of a buffer that has room; what stands behind them stays.
+pub fn encode_to(
+    out: &mut [u8],
+    width: usize,
     trigger: u8,
     cells: [Cell; CELLS],
     connectors: [Connector; CONNECTORS],
-) -> [u8; RECORD_LENGTH]
-    ensures { λ r. ⌜ r ≡ encode configWidth trigger (take cellCount cells) connectors ⌝ }
+)
+    requires { ⌜ recordLength cellCount width ≤ length (now out) ⌝ }
+    requires { ⌜ width ≤ configWidth ⌝ }
+    ensures { λ _. ⌜ now (out .exit) ≡ sets (now (out .entry)) 0 (encode width trigger (take cellCount cells) connectors) ⌝ }
 {
     let first = [TRIGGER_TAG, 0, TRIGGER_SIZE, trigger];
-    let mut out = [0u8; RECORD_LENGTH];
-    text::copy(&mut out, 0, &first);
-    put_cells(&mut out, cells, CELLS as u8);
-    with_connectors(out, connectors)
+    text::copy(out, 0, &first);
+    put_cells(out, width, cells, CELLS as u8);
+    put_connectors(
+        out,
+        TRIGGER_LENGTH + CELLS * (CELL_LENGTH + width),
+        connectors,
+    );
 }
 
 // ---- bytes in
 
-// The two bytes of a configuration, high first.
-fn pair(high: u8, low: u8) -> Config
-    ensures { λ r. ⌜ r ≡ high * 256 + low ⌝ }
+// The number in `width` bytes from a place on, high first.
+fn config_in(bytes: &[u8], at: usize, width: usize) -> Config
+    requires { ⌜ at + width ≤ length (now bytes) ⌝ }
+    requires { ⌜ width ≤ configWidth ⌝ }
+    ensures { λ r. ⌜ r ≡ bigValue 0 (take width (drop at (now (bytes .entry)))) ⌝ }
 {
-    high as Config * 256 + low as Config
+    let mut v: Config = 0;
+    for i in 0..width {
+        v = v * 256 + bytes[at + i] as Config;
+    }
+    v
 }
 
 // The cell whose field is number i.
-fn cell_in(bytes: &[u8], i: usize) -> Cell
-    requires { ⌜ length (now bytes) ≡ recordLength cellCount configWidth ⌝ }
+fn cell_in(bytes: &[u8], width: usize, i: usize) -> Cell
+    requires { ⌜ length (now bytes) ≡ recordLength cellCount width ⌝ }
+    requires { ⌜ width ≤ configWidth ⌝ }
     requires { ⌜ i < cellCount ⌝ }
-    ensures { λ r. ⌜ r ≡ cellIn configWidth (now (bytes .entry)) i ⌝ }
+    ensures { λ r. ⌜ r ≡ cellIn width (now (bytes .entry)) i ⌝ }
 {
-    let at = TRIGGER_LENGTH + i * CELL_LENGTH;
+    let at = TRIGGER_LENGTH + i * (CELL_LENGTH + width);
     let slots = [
-        bytes[at + X_AT],
-        bytes[at + Y_AT],
-        bytes[at + Z_AT],
-        bytes[at + F_AT],
+        bytes[at + (X_AT + width)],
+        bytes[at + (Y_AT + width)],
+        bytes[at + (Z_AT + width)],
+        bytes[at + (F_AT + width)],
     ];
     let state = State {
         bit: false,
@@ -197,19 +233,20 @@ fn cell_in(bytes: &[u8], i: usize) -> Cell
     };
     Cell {
         kind: bytes[at + KIND_AT],
-        config: pair(bytes[at + HIGH_AT], bytes[at + LOW_AT]),
+        config: config_in(bytes, at + CONFIG_AT, width),
         slots: slots,
         state: state,
     }
 }
 
 // The connector whose field is number k.
-fn connector_in(bytes: &[u8], k: usize) -> Connector
-    requires { ⌜ length (now bytes) ≡ recordLength cellCount configWidth ⌝ }
+fn connector_in(bytes: &[u8], width: usize, k: usize) -> Connector
+    requires { ⌜ length (now bytes) ≡ recordLength cellCount width ⌝ }
+    requires { ⌜ width ≤ configWidth ⌝ }
     requires { ⌜ k < connectorCount ⌝ }
-    ensures { λ r. ⌜ r ≡ connectorIn cellCount configWidth (now (bytes .entry)) k ⌝ }
+    ensures { λ r. ⌜ r ≡ connectorIn cellCount width (now (bytes .entry)) k ⌝ }
 {
-    let at = CONNECTORS_AT + k * CONNECTOR_LENGTH;
+    let at = TRIGGER_LENGTH + CELLS * (CELL_LENGTH + width) + k * CONNECTOR_LENGTH;
     Connector {
         kind: bytes[at + KIND_AT],
         source: bytes[at + SOURCE_AT],
@@ -228,40 +265,47 @@ fn normal_config(kind: u8, config: Config) -> Config
 }
 
 // The cell that a load gives for field number i.
-fn load_cell(bytes: &[u8], i: usize) -> Cell
-    requires { ⌜ length (now bytes) ≡ recordLength cellCount configWidth ⌝ }
+fn load_cell(bytes: &[u8], width: usize, i: usize) -> Cell
+    requires { ⌜ length (now bytes) ≡ recordLength cellCount width ⌝ }
+    requires { ⌜ width ≤ configWidth ⌝ }
     requires { ⌜ i < cellCount ⌝ }
-    ensures { λ r. ⌜ r ≡ normalCell (cellIn configWidth (now (bytes .entry)) i) ⌝ }
+    ensures { λ r. ⌜ r ≡ normalCell (cellIn width (now (bytes .entry)) i) ⌝ }
 {
-    let mut cell = cell_in(bytes, i);
+    let mut cell = cell_in(bytes, width, i);
     let config = normal_config(cell.kind, cell.config);
     cell.config = config;
     cell
 }
 
 // The first n cells that a load gives, in the place of others. By recursion, as `card::edits::cleared`.
-fn cells_in(bytes: &[u8], cells: [Cell; CELLS], n: usize) -> [Cell; CELLS]
-    requires { ⌜ length (now bytes) ≡ recordLength cellCount configWidth ⌝ }
+fn cells_in(bytes: &[u8], width: usize, cells: [Cell; CELLS], n: usize) -> [Cell; CELLS]
+    requires { ⌜ length (now bytes) ≡ recordLength cellCount width ⌝ }
+    requires { ⌜ width ≤ configWidth ⌝ }
     requires { ⌜ n ≤ cellCount ⌝ }
-    ensures { λ r. ⌜ r ≡ loadCells n configWidth (now (bytes .entry)) ++ drop n cells ⌝ }
+    ensures { λ r. ⌜ r ≡ loadCells n width (now (bytes .entry)) ++ drop n cells ⌝ }
 {
     if n == 0 {
         return cells;
     }
     let i = n - 1;
-    let mut next = cells_in(bytes, cells, i);
-    next[i] = load_cell(bytes, i);
+    let mut next = cells_in(bytes, width, cells, i);
+    next[i] = load_cell(bytes, width, i);
     next
 }
 
 // All its connectors.
-fn connectors_in(bytes: &[u8], connectors: [Connector; CONNECTORS]) -> [Connector; CONNECTORS]
-    requires { ⌜ length (now bytes) ≡ recordLength cellCount configWidth ⌝ }
-    ensures { λ r. ⌜ r ≡ connectorsIn cellCount configWidth (now (bytes .entry)) ⌝ }
+fn connectors_in(
+    bytes: &[u8],
+    width: usize,
+    connectors: [Connector; CONNECTORS],
+) -> [Connector; CONNECTORS]
+    requires { ⌜ length (now bytes) ≡ recordLength cellCount width ⌝ }
+    requires { ⌜ width ≤ configWidth ⌝ }
+    ensures { λ r. ⌜ r ≡ connectorsIn cellCount width (now (bytes .entry)) ⌝ }
 {
     let mut next = connectors;
     for k in 0..CONNECTORS {
-        let c = connector_in(bytes, k);
+        let c = connector_in(bytes, width, k);
         next[k] = c;
     }
     next
@@ -300,26 +344,28 @@ fn all_numbered(
     ok
 }
 
-// Whether the bytes have a record's length and the heads of its fields. What the fields hold is another question.
-fn is_headed(bytes: &[u8]) -> bool
-    ensures { λ q. ⌜ q ≡ headed cellCount configWidth (now (bytes .entry)) ⌝ }
+// Whether the bytes have the length of a record in the form of a width, and the heads of its fields. What the fields hold is another question.
+fn is_headed(bytes: &[u8], width: usize) -> bool
+    requires { ⌜ width ≤ configWidth ⌝ }
+    ensures { λ q. ⌜ q ≡ headed cellCount width (now (bytes .entry)) ⌝ }
 {
-    if bytes.len() != RECORD_LENGTH {
+    let connectors_at = TRIGGER_LENGTH + CELLS * (CELL_LENGTH + width);
+    if bytes.len() != connectors_at + CONNECTORS * CONNECTOR_LENGTH {
         return false;
     }
     let trigger = (TRIGGER_TAG == bytes[0]) & ((0 == bytes[1]) & (TRIGGER_SIZE == bytes[2]));
     let cells = all_numbered(
         bytes,
         TRIGGER_LENGTH,
-        CELL_LENGTH,
+        CELL_LENGTH + width,
         CELLS as u8,
         CELL_TAG,
-        CELL_SIZE,
+        CELL_SIZE + width as u8,
         FIRST_CELL,
     );
     let connectors = all_numbered(
         bytes,
-        CONNECTORS_AT,
+        connectors_at,
         CONNECTOR_LENGTH,
         CONNECTORS as u8,
         CONNECTOR_TAG,
@@ -331,25 +377,47 @@ fn is_headed(bytes: &[u8]) -> bool
 
 // ---- load and save
 
-// A load of any bytes. The card powers up with them, and every cell counts as edited; a refused load leaves it as it was. k is 0, 14 where
-// these are not the bytes of a record, or 15 where its settings, constants above 1 made 1, are none that lines can set.
-pub fn load(card: Card, bytes: &[u8]) -> Loaded
-    ensures { λ r. ⌜ r .card ≡ loaded cellCount configWidth card (now (bytes .entry)) ⌝ }
-    ensures { λ r. ⌜ r .k ≡ loadNumber cellCount configWidth (now (bytes .entry)) ⌝ }
+// A load of any bytes by one form. The card powers up with them, and every cell counts as edited; a refused load leaves it as it was. k is 0, 14
+// where these are not the bytes of a record, or 15 where its settings, constants above 1 made 1, are none that lines can set.
+fn load_as(card: Card, width: usize, bytes: &[u8]) -> Loaded
+    requires { ⌜ width ≤ configWidth ⌝ }
+    ensures { λ r. ⌜ r .card ≡ loadedAs cellCount width card (now (bytes .entry)) ⌝ }
+    ensures { λ r. ⌜ r .k ≡ loadNumberAs cellCount width (now (bytes .entry)) ⌝ }
 {
-    if !is_headed(bytes) {
+    if !is_headed(bytes, width) {
         return Loaded { card: card, k: 14 };
     }
     let trigger = bytes[HEAD];
     let cells = card.cells;
     let connectors = card.connectors;
-    let cells = cells_in(bytes, cells, CELLS);
-    let connectors = connectors_in(bytes, connectors);
+    let cells = cells_in(bytes, width, cells, CELLS);
+    let connectors = connectors_in(bytes, width, connectors);
     let next = started(trigger, cells, connectors, ALL_EDITED);
     if !valid_settings(trigger, cells, connectors) {
         return Loaded { card: card, k: 15 };
     }
     Loaded { card: next, k: 0 }
+}
+
+// The form that the length of a record tells.
+pub fn width_of(bytes: &[u8]) -> usize
+    ensures { λ r. ⌜ r ≡ widthOf cellCount (now (bytes .entry)) ⌝ }
+    ensures { λ r. ⌜ r ≤ configWidth ⌝ }
+{
+    if bytes.len() == NARROW_LENGTH {
+        NARROW_WIDTH
+    } else {
+        WIDTH
+    }
+}
+
+// A load of any bytes, by the form that their length tells.
+pub fn load(card: Card, bytes: &[u8]) -> Loaded
+    ensures { λ r. ⌜ r .card ≡ loaded cellCount card (now (bytes .entry)) ⌝ }
+    ensures { λ r. ⌜ r .k ≡ loadNumber cellCount (now (bytes .entry)) ⌝ }
+{
+    let width = width_of(bytes);
+    load_as(card, width, bytes)
 }
 
 // The record of a card to the front of a store, if it has room; what stands behind it stays. Else the store stays, and the answer is false.
@@ -362,7 +430,6 @@ pub fn save(card: Card, store: &mut [u8]) -> bool
     }
     let cells = card.cells;
     let connectors = card.connectors;
-    let bytes = encoded(card.trigger, cells, connectors);
-    text::copy(store, 0, &bytes);
+    encode_to(store, WIDTH, card.trigger, cells, connectors);
     true
 }

@@ -31,17 +31,13 @@ module _ {A : Type 0} where
       let past : length l ≤ 0 + length xs = omega arith in
       sets-eq xs l 0 (omega arith) ∙ ap (λ (r : List A). xs ++ r) (drop-of-length-le l past) ∙ append-nil xs
 
-  -- stores in three goes, over the whole of a list
-  pub sets-three : (l p a b : List A) (m n : ℕ) → length p ≡ m → m + length a ≡ n → n + length b ≡ length l
-      → sets (sets (sets l 0 p) m a) n b ≡ p ++ a ++ b
-  sets-three l p a b m n hp ha hb =
-      let first : m ≡ 0 + length p = omega arith in
-      let second : n ≡ 0 + length (p ++ a) = omega (arith, length-append p a) in
-      let all : length (p ++ a ++ b) ≡ length l = omega (arith, length-append p a, length-append (p ++ a) b) in
-      ap (λ (k : ℕ). sets (sets (sets l 0 p) k a) n b) first
-      ∙ ap₂ (λ (r : List A) (k : ℕ). sets r k b) (sets-append l 0 p a) second
-      ∙ sets-append l 0 (p ++ a) b
-      ∙ sets-all l (p ++ a ++ b) all
+  -- stores in three goes, from l by r and s to t, each behind the last
+  pub sets-three : (l x y z : List A) (at m n : ℕ) {r s t : List A} → r ≡ sets l at x → m ≡ at + length x → s ≡ sets r m y → n ≡ m + length y
+      → t ≡ sets s n z → t ≡ sets l at (x ++ (y ++ z))
+  sets-three l x y z at m n {r} {s} er em es en et =
+      let second : n ≡ at + length (x ++ y) = omega (arith, length-append x y) in
+      let first : s ≡ sets l at (x ++ y) = es ∙ ap₂ (λ (q : List A) (k : ℕ). sets q k y) er em ∙ sets-append l at x y in
+      et ∙ ap₂ (λ (q : List A) (k : ℕ). sets q k z) first second ∙ sets-append l at (x ++ y) z ∙ ap (sets l at) (append-assoc x y z)
 
   -- what was stored at the front, read back
   pub front : (l r : List A) (n : ℕ) → n ≡ length r → length r ≤ length l → take n (sets l 0 r) ≡ r

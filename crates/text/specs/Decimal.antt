@@ -27,7 +27,7 @@ valueFrom = valueBy 10 digitValue
 
 -- how many digits a number may have
 abbrev pub maxDigits : ℕ
-maxDigits = 5
+maxDigits = 10
 
 -- at least one digit, and no leading zero unless it is the only digit
 unfoldable pub leads : List ℕ → Bool

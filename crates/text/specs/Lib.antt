@@ -3,3 +3,4 @@ pub mod Digits
 pub mod Decimal
 pub mod Hex
 pub mod Written
+pub mod Examples

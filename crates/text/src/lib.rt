@@ -9,12 +9,12 @@ ghost use Rattle.text.specs.Decimal.{digitsOf, valueFrom, maxDigits, pla
 ghost use Rattle.text.specs.Hex.{hexDigit, hexValue, isHex, hex4, hexAt};
 
 // The most digits that a number may have, leading zeros not being allowed.
-const MAX_DIGITS: usize = 5;
+const MAX_DIGITS: usize = 10;
 
 // What was read: a number where ok, and where the text goes on.
 pub struct Number {
     pub ok: bool,
-    pub value: u32,
+    pub value: u64,
     pub next: usize,
 }
 
@@ -61,15 +61,15 @@ fn is_plain(text: &[u8], at: usize, n: usize) -> bool
 }
 
 // The number that the n digits at `at` say.
-fn digits_value(text: &[u8], at: usize, n: usize) -> u32
+fn digits_value(text: &[u8], at: usize, n: usize) -> u64
     requires { ⌜ n ≡ length (digitsOf (drop at (now text))) ⌝ }
     requires { ⌜ n ≤ maxDigits ⌝ }
     ensures { λ r. ⌜ r ≡ valueFrom 0 (digitsOf (drop at (now (text .entry)))) ⌝ }
 {
-    let mut v: u32 = 0;
+    let mut v: u64 = 0;
     let mut i = 0;
     while i < n {
-        v = v * 10 + ((text[at + i] - b'0') as u32);
+        v = v * 10 + ((text[at + i] - b'0') as u64);
         i += 1;
     }
     v

@@ -7,7 +7,7 @@ ghost use Rattle.card.specs.Address.{cellCount};
 ghost use Rattle.card.specs.Fresh;
 ghost use Rattle.ticks.specs.Rest.{Decides, AtRest};
 ghost use Rattle.ticks.specs.Tick.{tick};
-ghost use Rattle.saved.specs.Record.{configWidth, loadNumber, loaded};
+ghost use Rattle.saved.specs.Record.{loadNumber, loaded};
 ghost use Rattle.lines.specs.Line.{shortestReply, lineResult, resultOf};
 ghost use Rattle.printed.specs.Print.{printNumber, printLength, printedTo};
 use card::card::Card;
@@ -52,8 +52,8 @@ pub extern "C" fn trigger_at_rest(card: Card, input: Input) -> bool
 // A load of any bytes: the card powers up with them, and a refused load leaves it as it was.
 #[no_mangle]
 pub extern "C" fn trigger_load(card: Card, bytes: &[u8]) -> Loaded
-    ensures { λ r. ⌜ r .card ≡ loaded cellCount configWidth card (now (bytes .entry)) ⌝ }
-    ensures { λ r. ⌜ r .k ≡ loadNumber cellCount configWidth (now (bytes .entry)) ⌝ }
+    ensures { λ r. ⌜ r .card ≡ loaded cellCount card (now (bytes .entry)) ⌝ }
+    ensures { λ r. ⌜ r .k ≡ loadNumber cellCount (now (bytes .entry)) ⌝ }
 {
     saved::record::load(card, bytes)
 }

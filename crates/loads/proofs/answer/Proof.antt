@@ -5,7 +5,7 @@ use lib.Seq.{sets}
 use Rattle.card.specs.declared.card.Card.{Card}
 use Rattle.card.specs.Address.{cellCount}
 use Rattle.card.specs.Valid.{validCard}
-use Rattle.saved.specs.Record.{configWidth, loadNumber, loaded}
+use Rattle.saved.specs.Record.{loadNumber, loaded}
 use Rattle.saved.proofs.Records.{loaded-valid}
 use Rattle.loads.proofs.Rows.{answer-refused, answer-accepted}
 use borrow.Author.Needs.{needs}
@@ -37,8 +37,8 @@ put-accepted-requires : tie.Need-put-accepted-requires
 put-accepted-requires c κs =
     let read = c .before .before .before .load in
     let a = c .before .before .before .before .before .before .before .args in
-    let zero : loadNumber cellCount configWidth (a .bytes .now) ≡ 0 = sym (read .ensures .1) ∙ c .before .if1 .left in
-    (search needs, ap (validCard cellCount) (read .ensures .0) ∙ loaded-valid cellCount configWidth _ (a .bytes .now) zero)
+    let zero : loadNumber cellCount (a .bytes .now) ≡ 0 = sym (read .ensures .1) ∙ c .before .if1 .left in
+    (search needs, ap (validCard cellCount) (read .ensures .0) ∙ loaded-valid cellCount _ (a .bytes .now) zero)
 
 same-length-2 : tie.Need-same-length-2
 same-length-2 c = search needs
@@ -49,8 +49,8 @@ returns-2 c =
     let taken = c .before .before .before .before in
     let read = taken .before .before .load in
     let a = taken .before .before .before .before .before .before in
-    let zero : loadNumber cellCount configWidth (a .args .bytes .now) ≡ 0 = sym (read .ensures .1) ∙ taken .if1 .left in
-    let card = read .ensures .0 ∙ ap (λ (c : Card). loaded cellCount configWidth c (a .args .bytes .now)) (taken .before .before .before .fresh .ensures) in
+    let zero : loadNumber cellCount (a .args .bytes .now) ≡ 0 = sym (read .ensures .1) ∙ taken .if1 .left in
+    let card = read .ensures .0 ∙ ap (λ (c : Card). loaded cellCount c (a .args .bytes .now)) (taken .before .before .before .fresh .ensures) in
     let text = answer-accepted (a .args .bytes .now) (read .result .card) zero card in
     (put .0 ∙ ap (sets (a .args .out .now) 0) text, (put .1 .0 ∙ ap length text, put .1 .1))
 

@@ -45,7 +45,7 @@ returns c =
     let first = f .copy .ensures in
     let hex = h .put-hex .ensures in
     let last = c .before .before .copy2 .ensures in
-    let saved = s .save .ensures .0 ∙ saved-whole cellCount configWidth (a .args .card) (replicate 276 0) (a .pre .1) refl in
+    let saved = s .save .ensures .0 ∙ saved-whole cellCount configWidth (a .args .card) (replicate 308 0) (a .pre .1) refl in
     let all = accepted-stored (a .args .out .now) _ _ _ _ _ _ _ _ saved (first .0) (first .1) (hex .0) (hex .1 .0) (last .0) (last .1) in
     (all .0, (all .1, search needs))
 

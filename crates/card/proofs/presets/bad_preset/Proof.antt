@@ -9,6 +9,9 @@ use Rattle.card.proofs.PresetRows.{listed-agree, past-offered}
 use Rattle.card.proofs.presets.bad_preset.Statement.{statement}
 use Rattle.card.proofs.presets.bad_preset.Tie as tie
 
+cast-bit : tie.Need-cast-bit
+cast-bit c = search needs
+
 bit-requires : tie.Need-bit-requires
 bit-requires c κs = search needs
 
@@ -21,4 +24,4 @@ returns-2 : tie.Need-returns-2
 returns-2 c = ap not (sym (past-offered (c .before .args .v) (search needs)))
 
 pub bad-preset-spec : {M : Type 1} → statement M
-bad-preset-spec = tie.close (tie.spec bit-requires returns returns-2)
+bad-preset-spec = tie.close (tie.spec cast-bit bit-requires returns returns-2)

@@ -5,12 +5,9 @@ use borrow.Author.Needs.{needs}
 use Rattle.card.proofs.valid.bad_cell_type.Statement.{statement}
 use Rattle.card.proofs.valid.bad_cell_type.Tie as tie
 
-cast-result : tie.Need-cast-result
-cast-result c = search needs
-
 returns : tie.Need-returns
 unfolding badCellType
 returns c = refl
 
 pub bad-cell-type-spec : {M : Type 1} → statement M
-bad-cell-type-spec = tie.close (tie.spec cast-result returns)
+bad-cell-type-spec = tie.close (tie.spec returns)

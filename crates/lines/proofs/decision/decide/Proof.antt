@@ -115,6 +115,9 @@ read-requires-4 c κs = search needs
 enum-told-8 : tie.Need-enum-told-8
 enum-told-8 c = search needs
 
+cast-read-2 : tie.Need-cast-read-2
+cast-read-2 c = search needs
+
 read-requires-5 : tie.Need-read-requires-5
 read-requires-5 c κs = search needs
 
@@ -186,7 +189,7 @@ returns-15 c = rw (c .before .before .enum-told7 .given .1) (cc)
 
 returns-16 : tie.Need-returns-16
 unfolding decision refusal changeFor responseTo
-returns-16 c = rw (c .before .enum-told8 .given .1) (c .read5 .ensures)
+returns-16 c = rw (c .before .before .enum-told8 .given .1) (c .read5 .ensures)
 
 returns-17 : tie.Need-returns-17
 unfolding decision refusal changeFor responseTo
@@ -233,6 +236,7 @@ decide-spec =
     read-back-requires
     read-requires-4
     enum-told-8
+    cast-read-2
     read-requires-5
     enum-told-9
     save-requires

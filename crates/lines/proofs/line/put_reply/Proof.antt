@@ -9,9 +9,6 @@ use Rattle.lines.proofs.line.put_reply.Tie as tie
 slice-aggregate-put-number : tie.Need-slice-aggregate-put-number
 slice-aggregate-put-number c = search needs
 
-cast-put-number : tie.Need-cast-put-number
-cast-put-number c = search needs
-
 put-number-requires : tie.Need-put-number-requires
 put-number-requires c κs = search needs
 
@@ -21,7 +18,7 @@ same-length c = search needs
 returns : tie.Need-returns
 unfolding replyOf
 returns c =
-    let p = c .before .before .before .before .before .before in
+    let p = c .before .before .before .before .before in
     rw (eq-eqb _ _ (p .before .if1 .taken), p .if2 .taken) (c .before .before .put-number .ensures)
 
 slice-aggregate-copy : tie.Need-slice-aggregate-copy
@@ -58,7 +55,6 @@ put-reply-spec =
     tie.close
     (tie.spec
     slice-aggregate-put-number
-    cast-put-number
     put-number-requires
     same-length
     returns

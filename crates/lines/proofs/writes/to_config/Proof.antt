@@ -17,8 +17,8 @@ bad-config-requires c κs = search needs
 judged-requires : tie.Need-judged-requires
 judged-requires c κs = search needs
 
-low16-requires : tie.Need-low16-requires
-low16-requires c κs = search needs
+low32-requires : tie.Need-low32-requires
+low32-requires c κs = search needs
 
 write-requires : tie.Need-write-requires
 write-requires c κs = search needs
@@ -29,8 +29,8 @@ returns c =
     let a = c .before .before .before .before .before .before .args in
     let v = a .v in
     let bad = badConfig (a .x .cell .kind) v in
-    let fits : judged v bad 9 ≡ 0 → Config (v % 65536) ≡ Config v = λ z. ap Config (mod-eq-of-lt (number-fits v (judged-none v bad 8 z .0))) in
-    rw (c .before .before .before .before .if1 .taken) (cc (same-decided (judged v bad 9) (Config (v % 65536)) (Config v) silent fits))
+    let fits : judged v bad 9 ≡ 0 → Config (v % 4294967296) ≡ Config v = λ z. ap Config (mod-eq-of-lt (number-fits v (judged-none v bad 8 z .0))) in
+    rw (c .before .before .before .before .if1 .taken) (cc (same-decided (judged v bad 9) (Config (v % 4294967296)) (Config v) silent fits))
 
 bad-address-requires : tie.Need-bad-address-requires
 bad-address-requires c κs = search needs
@@ -57,7 +57,7 @@ to-config-spec =
     (tie.spec
     bad-config-requires
     judged-requires
-    low16-requires
+    low32-requires
     write-requires
     returns
     bad-address-requires

@@ -24,8 +24,8 @@ when-requires c κs = search needs
 or-else-requires : tie.Need-or-else-requires
 or-else-requires c κs = search needs
 
-low16-requires : tie.Need-low16-requires
-low16-requires c κs = search needs
+low32-requires : tie.Need-low32-requires
+low32-requires c κs = search needs
 
 write-requires : tie.Need-write-requires
 write-requires c κs = search needs
@@ -37,9 +37,9 @@ returns c =
     let v = a .v in
     let first = judged v (not (a .x .celled)) 6 in
     let k = orElse first (when (badState (a .x .cell .kind) v) 12) in
-    let fits : k ≡ 0 → State (v % 65536) ≡ State v = λ z.
+    let fits : k ≡ 0 → State (v % 4294967296) ≡ State v = λ z.
     ap State (mod-eq-of-lt (number-fits v (judged-none v (not (a .x .celled)) 5 (none-of first _ z .0) .0))) in
-    cc (same-decided k (State (v % 65536)) (State v) silent fits)
+    cc (same-decided k (State (v % 4294967296)) (State v) silent fits)
 
 pub to-state-spec : {M : Type 1} → statement M
 to-state-spec =
@@ -49,6 +49,6 @@ to-state-spec =
     bad-state-requires
     when-requires
     or-else-requires
-    low16-requires
+    low32-requires
     write-requires
     returns)

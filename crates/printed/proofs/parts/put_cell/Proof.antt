@@ -47,9 +47,6 @@ put-requires-2 c κs = search needs
 slice-aggregate-put-5 : tie.Need-slice-aggregate-put-5
 slice-aggregate-put-5 c = search needs
 
-cast-put-3 : tie.Need-cast-put-3
-cast-put-3 c = search needs
-
 slice-aggregate-put-6 : tie.Need-slice-aggregate-put-6
 slice-aggregate-put-6 c = search needs
 
@@ -62,7 +59,7 @@ put-slots-requires c κs = search needs
 returns : tie.Need-returns
 returns c =
     let p3 = c .before .before in
-    let p2 = p3 .before .before .before .before .before in
+    let p2 = p3 .before .before .before .before in
     let p1 = p2 .before .before .before .before .before in
     let r = p1 .before .before .before .before in
     let a = r .before .args in
@@ -94,7 +91,6 @@ put-cell-spec =
     slice-aggregate-put-4
     put-requires-2
     slice-aggregate-put-5
-    cast-put-3
     slice-aggregate-put-6
     put-requires-3
     put-slots-requires

@@ -8,7 +8,7 @@ use borrow.Author.Needs.{needs}
 use Rattle.words.specs.Listed.{listed}
 use Rattle.words.proofs.Listed.{listed-next}
 use Rattle.card.specs.Fresh.{noCell}
-use Rattle.saved.specs.Record.{configWidth, cellIn, normalCell, loadCells}
+use Rattle.saved.specs.Record.{cellIn, normalCell, loadCells}
 use borrow.Fn.Kinds.{In}
 use borrow.Fn.PlainCycle.{Measures, is, falls, and}
 use Rattle.saved.proofs.record.cells_in.Reads as cells-in
@@ -19,7 +19,7 @@ use Rattle.saved.proofs.record.+cells_in.{statement}
 use Rattle.saved.proofs.record.+cells_in.Tie.{close}
 
 abbrev μ-cells-in : Measures 1 cells-in-kinds.ps ℕ
-μ-cells-in κs a = a .1 .1 .0
+μ-cells-in κs a = a .1 .1 .1 .0
 
 abbrev cells-in-at : ℕ → In 1 cells-in-kinds.ps
 cells-in-at t = and 1 cells-in-kinds.ps (is 1 cells-in-kinds.ps μ-cells-in t) cells-in.Pre
@@ -87,9 +87,9 @@ cells-in-returns-2 t c =
     let a = c .before .before .before .before .args in
     let i : ℕ = a .n - 1 in
     let one : i + 1 ≡ a .n = omega arith in
-    listed-next (λ k. normalCell (cellIn configWidth (a .bytes .now) k)) i (a .cells) (c .before .cells-in .result) _ noCell (c .before .cells-in .ensures)
+    listed-next (λ k. normalCell (cellIn (a .width) (a .bytes .now) k)) i (a .cells) (c .before .cells-in .result) _ noCell (c .before .cells-in .ensures)
     (c .load-cell .ensures) (search needs)
-    ∙ ap (λ (k : ℕ). loadCells k configWidth (a .bytes .now) ++ drop k (a .cells)) one
+    ∙ ap (λ (k : ℕ). loadCells k (a .width) (a .bytes .now) ++ drop k (a .cells)) one
 
 pub +cells-in-spec : {M : Type 1} → statement M
 +cells-in-spec = close μ-cells-in λ t. cells-in-lts.spec (

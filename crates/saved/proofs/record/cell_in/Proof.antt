@@ -1,94 +1,100 @@
--- `saved::record::cell_in` meets its contract: each byte is read at its place, and the configuration from two of them.
-use Prim.Native.Nat.{_+_, _*_, ℕ}
-use mathlib.Core.Path.{_≡_, sym, ap, _∙_}
+-- `saved::record::cell_in` meets its contract: each byte is read at its place, and the configuration from as many as the form says.
+use Prim.Native.Nat.{_+_, _*_, _≤_}
 use native.Mathlib.Omega.{arith}
-use lib.ListN.{getD}
+use Rattle.card.specs.Address.{cellCount}
+use Rattle.saved.specs.Record.{triggerLength, cellLength, cellIn}
+use Rattle.saved.proofs.Forms.{cell-inside}
 use borrow.Author.Needs.{needs}
-use Rattle.saved.specs.Record.{cellIn}
-use Rattle.saved.proofs.Fields.{config-read}
 use Rattle.saved.proofs.record.cell_in.Statement.{statement}
 use Rattle.saved.proofs.record.cell_in.Tie as tie
 
-mul-at : tie.Need-mul-at
-mul-at c = search needs
+-- the field lies before those of the connectors
+inside : (s : tie.Start) → let a = s .args in
+    triggerLength + a .i * cellLength (a .width) + cellLength (a .width) ≤ triggerLength + cellCount * cellLength (a .width)
+inside s = cell-inside cellCount (s .args .width) (s .args .i) (s .pre .1 .1)
 
 add-at : tie.Need-add-at
 add-at c = search needs
 
-add-t6 : tie.Need-add-t6
-add-t6 c = search needs
+mul-at : tie.Need-mul-at
+mul-at c = omega (arith, inside (c .before))
 
-shared-slice-read-t8 : tie.Need-shared-slice-read-t8
-shared-slice-read-t8 c = search needs
+add-at-2 : tie.Need-add-at-2
+add-at-2 c = omega (arith, inside (c .before))
 
-add-t9 : tie.Need-add-t9
-add-t9 c = search needs
+add-t7 : tie.Need-add-t7
+add-t7 c = search needs
 
-shared-slice-read-t11 : tie.Need-shared-slice-read-t11
-shared-slice-read-t11 c = search needs
+add-t8 : tie.Need-add-t8
+add-t8 c = omega (arith, inside (c .before))
 
-add-pair : tie.Need-add-pair
-add-pair c = search needs
+shared-slice-read-t10 : tie.Need-shared-slice-read-t10
+shared-slice-read-t10 c = omega (arith, inside (c .before .before))
 
-shared-slice-read-pair : tie.Need-shared-slice-read-pair
-shared-slice-read-pair c = search needs
+add-t11 : tie.Need-add-t11
+add-t11 c = search needs
 
-add-pair-2 : tie.Need-add-pair-2
-add-pair-2 c = search needs
+add-t12 : tie.Need-add-t12
+add-t12 c = omega (arith, inside (c .before .before))
 
-shared-slice-read-pair-2 : tie.Need-shared-slice-read-pair-2
-shared-slice-read-pair-2 c = search needs
+shared-slice-read-t14 : tie.Need-shared-slice-read-t14
+shared-slice-read-t14 c = omega (arith, inside (c .before .before .before))
 
-add-t6-2 : tie.Need-add-t6-2
-add-t6-2 c = search needs
+add-t15 : tie.Need-add-t15
+add-t15 c = search needs
 
-shared-slice-read-t8-2 : tie.Need-shared-slice-read-t8-2
-shared-slice-read-t8-2 c = search needs
+add-t16 : tie.Need-add-t16
+add-t16 c = omega (arith, inside (c .before .before .before))
 
-add-pair-3 : tie.Need-add-pair-3
-add-pair-3 c = search needs
+shared-slice-read-t18 : tie.Need-shared-slice-read-t18
+shared-slice-read-t18 c = omega (arith, inside (c .before .before .before .before))
 
-shared-slice-read-pair-3 : tie.Need-shared-slice-read-pair-3
-shared-slice-read-pair-3 c = search needs
+add-t19 : tie.Need-add-t19
+add-t19 c = search needs
 
-add-pair-4 : tie.Need-add-pair-4
-add-pair-4 c = search needs
+add-t20 : tie.Need-add-t20
+add-t20 c = omega (arith, inside (c .before .before .before .before))
 
-shared-slice-read-pair-4 : tie.Need-shared-slice-read-pair-4
-shared-slice-read-pair-4 c = search needs
+shared-slice-read-t22 : tie.Need-shared-slice-read-t22
+shared-slice-read-t22 c = omega (arith, inside (c .before .before .before .before .before))
 
-pair-requires : tie.Need-pair-requires
-pair-requires c κs = search needs
+add-t7-2 : tie.Need-add-t7-2
+add-t7-2 c = omega (arith, inside (c .before .before .before .before .before))
+
+shared-slice-read-t10-2 : tie.Need-shared-slice-read-t10-2
+shared-slice-read-t10-2 c = omega (arith, inside (c .before .before .before .before .before .before))
+
+add-config-in : tie.Need-add-config-in
+add-config-in c = omega (arith, inside (c .before .before .before .before .before .before))
+
+config-in-requires : tie.Need-config-in-requires
+config-in-requires c κs = (omega (arith, inside (c .before .before .before .before .before .before)), search needs)
 
 returns : tie.Need-returns
 unfolding cellIn
-returns c =
-    let a = c .before .before .before .before .before .before .before .before .before .args in
-    let bytes = a .bytes .now in
-    let at = 4 + a .i * 11 in
-    let next : at + 6 ≡ at + 5 + 1 = omega arith in
-    let config = c .pair .ensures ∙ ap (λ (k : ℕ). getD bytes (at + 5) 0 * 256 + getD bytes k 0) next ∙ sym (config-read bytes (at + 5) (omega arith)) in
-    rw config
+returns c = rw (c .config-in .ensures)
 
 pub cell-in-spec : {M : Type 1} → statement M
 cell-in-spec =
     tie.close
     (tie.spec
-    mul-at
     add-at
-    add-t6
-    shared-slice-read-t8
-    add-t9
-    shared-slice-read-t11
-    add-pair
-    shared-slice-read-pair
-    add-pair-2
-    shared-slice-read-pair-2
-    add-t6-2
-    shared-slice-read-t8-2
-    add-pair-3
-    shared-slice-read-pair-3
-    add-pair-4
-    shared-slice-read-pair-4
-    pair-requires
+    mul-at
+    add-at-2
+    add-t7
+    add-t8
+    shared-slice-read-t10
+    add-t11
+    add-t12
+    shared-slice-read-t14
+    add-t15
+    add-t16
+    shared-slice-read-t18
+    add-t19
+    add-t20
+    shared-slice-read-t22
+    add-t7-2
+    shared-slice-read-t10-2
+    add-config-in
+    config-in-requires
     returns)

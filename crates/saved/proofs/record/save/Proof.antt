@@ -1,7 +1,7 @@
 -- `saved::record::save` meets its contract: a store with room gets the record at its front.
 use borrow.Author.Tests.{lt-ltb, le-ltb}
-use borrow.Author.Needs.{needs}
 use Rattle.saved.specs.Record.{savedTo, recordOf}
+use borrow.Author.Needs.{needs}
 use Rattle.saved.proofs.record.save.Statement.{statement}
 use Rattle.saved.proofs.record.save.Tie as tie
 
@@ -11,14 +11,8 @@ returns c =
     let short = lt-ltb _ _ (c .if1 .taken) in
     (rw short, rw short)
 
-encoded-requires : tie.Need-encoded-requires
-encoded-requires c κs = search needs
-
-slice-aggregate-copy : tie.Need-slice-aggregate-copy
-slice-aggregate-copy c = search needs
-
-copy-requires : tie.Need-copy-requires
-copy-requires c κs = search needs
+encode-to-requires : tie.Need-encode-to-requires
+encode-to-requires c κs = search needs
 
 same-length : tie.Need-same-length
 same-length c = search needs
@@ -26,10 +20,8 @@ same-length c = search needs
 returns-2 : tie.Need-returns-2
 unfolding savedTo recordOf
 returns-2 c =
-    let room = le-ltb _ _ (c .before .before .before .before .before .before .before .before .if1 .left) in
-    (rw (c .before .before .copy .ensures .0, c .before .before .before .before .before .encoded .ensures, room), rw room)
+    let room = le-ltb _ _ (c .before .before .before .before .before .before .if1 .left) in
+    (rw (c .before .before .encode-to .ensures, room), rw room)
 
 pub save-spec : {M : Type 1} → statement M
-save-spec =
-    tie.close
-    (tie.spec returns encoded-requires slice-aggregate-copy copy-requires same-length returns-2)
+save-spec = tie.close (tie.spec returns encode-to-requires same-length returns-2)
