@@ -1,18 +1,19 @@
 -- Laws of rows: how long one is and what it is made of, what an accepted one prints, and a row that is cut.
-use Prim.Native.Nat.{ℕ, _+_, _%_, _≤_, _<_}
+use Prim.Native.Nat.{ℕ, _+_, _-_, _%_, _≤_, _<_}
 use mathlib.Core.Path.{_≡_, refl, sym, ap, _∙_}
-use mathlib.Core.Bool.{Bool, true, false, _&&_, _||_}
+use mathlib.Core.Bool.{Bool, true, false, _&&_, _||_, and-false, true≢false}
 use mathlib.Core.List.{List, [], _∷_, _++_}
 use mathlib.Core.Logic.{_⊎_, inl, inr, ⊎-elim}
 use native.Mathlib.Decide.{decLt}
 use native.Mathlib.Numerals.{add-one}
 use native.Mathlib.Omega.{arith}
 use lib.Dec.{eqb, leb}
-use lib.ListN.{length, getD, set, take, length-append, length-take}
+use lib.ListN.{length, getD, set, take, drop, length-append, length-take, length-drop, List·getD-eq-default}
 use lib.Seq.{sets, take-all, take-at, take-suc, take-suc-set}
 use borrow.Author.Tests.{eqb-true, leb-true, lt-leb, ne-eqb}
 use Rattle.text.specs.Digits.{every}
-use Rattle.text.specs.Hex.{isHex}
+use Rattle.text.specs.Decimal.{decimal}
+use Rattle.text.specs.Hex.{isHex, hexAt}
 use Rattle.text.proofs.DigitLaws.{every-at}
 use Rattle.text.proofs.Stores.{Stored, behind}
 use Rattle.cells.proofs.Rows.{and-left, and-right}
@@ -20,7 +21,9 @@ use Rattle.card.specs.declared.card.Card.{Card}
 use Rattle.card.specs.Address.{cellCount}
 use Rattle.card.specs.Fresh.{fresh}
 use Rattle.saved.specs.Record.{configWidth, recordOf, loadNumber, loaded}
-use Rattle.loads.specs.Rows.{longestRow, isDash, isRow, hexOf, acceptedText, refusedText, answerTo, printed, kept, rowAfter, rowAfterAll}
+use Rattle.convert.specs.Convert.{convertNumber, otherForm}
+use Rattle.loads.specs.Rows.{longestRow, isDash, isRow, hexOf, acceptedText, refusedText, answerTo, kept, rowAfter, rowAfterAll}
+use Rattle.loads.specs.Rows.{mostRoom, isConversion, convertedText, conversionText, printedElse, printed}
 
 -- ---- a row
 
@@ -47,6 +50,45 @@ module _ (row : List ℕ) (ok : isRow row ≡ true) where
   pub row-hex : (i : ℕ) → i < length row → 2 ≤ length row → isHex (getD row i 0) ≡ true
   row-hex i h two = ⊎-elim (λ one. absurd (omega arith)) (λ both. every-at isHex row i (both .1) h) (row-parts row ok)
 
+-- ---- a conversion
+
+pub no-blank : (row : List ℕ) → length row ≤ 4 → eqb (getD row 4 0) 32 ≡ false
+no-blank row h = rw (List·getD-eq-default row 0 h)
+
+-- the record in it
+pub rest-of : (row : List ℕ) → take (length row - 5) (drop 5 row) ≡ drop 5 row
+rest-of row = take-all (length row - 5) (drop 5 row) (omega (arith, length-drop 5 row))
+
+module _ (row : List ℕ) (ok : isConversion row ≡ true) where
+  blank : Bool
+  blank = eqb (getD row 4 0) 32
+
+  fits : Bool
+  fits = leb (length row) longestRow && (hexAt row 0 .ok && leb (hexAt row 0 .value) mostRoom)
+
+  parts : (blank && (fits && isRow (drop 5 row))) ≡ true
+  unfolding isConversion blank fits
+  parts = ok
+
+  pub conversion-long : 4 < length row
+  unfolding blank
+  conversion-long = go (decLt 4 (length row))
+    where
+      go : Dec (4 < length row) → 4 < length row
+      go (yes h) = h
+      go (no h) = absurd (true≢false (sym (and-left blank (fits && isRow (drop 5 row)) parts) ∙ no-blank row (omega arith)))
+
+  pub conversion-record : isRow (drop 5 row) ≡ true
+  conversion-record = and-right fits (isRow (drop 5 row)) (and-right blank (fits && isRow (drop 5 row)) parts)
+
+  pub conversion-room : hexAt row 0 .value ≤ mostRoom
+  unfolding fits
+  conversion-room =
+      let room = leb (hexAt row 0 .value) mostRoom in
+      let all = and-left fits (isRow (drop 5 row)) (and-right blank (fits && isRow (drop 5 row)) parts) in
+      leb-true (hexAt row 0 .value) mostRoom
+      (and-right (hexAt row 0 .ok) room (and-right (leb (length row) longestRow) (hexAt row 0 .ok && room) all))
+
 -- ---- texts
 
 -- what an accepted load prints, stored in three goes
@@ -72,21 +114,40 @@ pub answer-accepted : (bytes : List ℕ) (c : Card) → loadNumber cellCount byt
 unfolding answerTo
 answer-accepted bytes c e ec = rw (e, ec)
 
+pub conversion-refused : (room : ℕ) (bytes : List ℕ) (k : ℕ) → k ≡ convertNumber cellCount room bytes → (k ≡ 0 → ⊥)
+    → decimal k ++ (32 ∷ 48 ∷ 32 ∷ 45 ∷ 10 ∷ []) ≡ conversionText room bytes
+unfolding conversionText
+conversion-refused room bytes k e ne = rw (← e, ne-eqb k 0 ne)
+
+pub conversion-accepted : (room : ℕ) (bytes result : List ℕ) → convertNumber cellCount room bytes ≡ 0 → result ≡ otherForm cellCount bytes
+    → convertedText result ≡ conversionText room bytes
+unfolding conversionText
+conversion-accepted room bytes result e er = rw (e, er)
+
 -- ---- a row that is cut
 
 too-long : (row : List ℕ) → longestRow < length row → isRow row ≡ false
 unfolding isRow isDash
 too-long row h = rw (ne-eqb (length row) 1 (λ e. omega arith), lt-leb (length row) longestRow h)
 
+too-long-else : (row : List ℕ) → longestRow < length row → isConversion row ≡ false
+unfolding isConversion
+too-long-else row h = rw (lt-leb (length row) longestRow h) (and-false (eqb (getD row 4 0) 32))
+
 -- it prints what the whole would
 pub printed-cut : (row : List ℕ) → printed (take kept row) ≡ printed row
-unfolding printed
+unfolding printed printedElse
 printed-cut row = go (decLt kept (length row))
   where
     go : Dec (kept < length row) → printed (take kept row) ≡ printed row
     go (yes h) =
         let n = length-take kept row in
-        rw (too-long (take kept row) (omega (arith, n)), too-long row (omega arith))
+        rw (
+          too-long (take kept row) (omega (arith, n)),
+          too-long row (omega arith),
+          too-long-else (take kept row) (omega (arith, n)),
+          too-long-else row (omega arith),
+        )
     go (no h) = ap printed (take-all kept row (omega arith))
 
 -- ---- bytes of input

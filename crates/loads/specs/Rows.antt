@@ -1,16 +1,18 @@
--- A row of input, a record in hex, and what it prints: the number of a load into a fresh card, and what a save of that card writes then.
+-- A row of input, a record in hex, and what it prints: the number of a load into a fresh card, and what a save of that card writes then; or that of
+-- a conversion, and its result.
 use Prim.Native.Nat.{ℕ, _+_, _*_, _/_, _%_}
 use mathlib.Core.Bool.{Bool, _&&_, _||_, cond}
 use mathlib.Core.List.{List, [], _∷_, _++_}
 use lib.Dec.{eqb, leb}
-use lib.ListN.{length, getD, take}
+use lib.ListN.{length, getD, take, drop}
 use Rattle.words.specs.Listed.{listed}
 use Rattle.text.specs.Digits.{every}
 use Rattle.text.specs.Decimal.{decimal}
-use Rattle.text.specs.Hex.{isHex, hexValue, hexDigits}
+use Rattle.text.specs.Hex.{isHex, hexValue, hexDigits, hexAt}
 use Rattle.card.specs.Address.{cellCount}
 use Rattle.card.specs.Fresh.{fresh}
-use Rattle.saved.specs.Record.{fieldsFrom, configWidth, recordOf, loadNumber, loaded}
+use Rattle.saved.specs.Record.{fieldsFrom, configWidth, recordLength, recordOf, loadNumber, loaded}
+use Rattle.convert.specs.Convert.{convertNumber, otherForm}
 
 -- ---- a row
 
@@ -28,6 +30,15 @@ isDash row = eqb (length row) 1 && eqb (getD row 0 0) 45
 -- that, or small hex digits, two a byte
 unfoldable pub isRow : List ℕ → Bool
 isRow row = isDash row || (leb (length row) longestRow && (eqb (length row % 2) 0 && every isHex row))
+
+-- the length of a buffer in four hex digits, and how long it may be; a blank, and a record
+abbrev pub mostRoom : ℕ
+mostRoom = 620
+
+unfoldable pub isConversion : List ℕ → Bool
+isConversion row =
+    let room = hexAt row 0 in
+    eqb (getD row 4 0) 32 && ((leb (length row) longestRow && (room .ok && leb (room .value) mostRoom)) && isRow (drop 5 row))
 
 -- the byte that two digits say, and all of them; none for `-`
 abbrev pub hexByteAt : List ℕ → ℕ → ℕ
@@ -58,13 +69,28 @@ answerTo bytes =
     let k = loadNumber cellCount bytes in
     cond (eqb k 0) (acceptedText (recordOf cellCount configWidth (loaded cellCount fresh bytes))) (refusedText k)
 
--- what a row prints: `?` where it is none
+-- `K LENGTH RESULT` of a conversion, by its result, and what that of some bytes prints with a buffer of this length
+abbrev pub mostResult : ℕ
+mostResult = recordLength cellCount configWidth
+
+unfoldable pub convertedText : List ℕ → List ℕ
+convertedText result = ((48 ∷ 32 ∷ []) ++ (decimal (length result) ++ (32 ∷ []))) ++ (hexOf result ++ (10 ∷ []))
+
+unfoldable pub conversionText : (room : ℕ) → List ℕ → List ℕ
+conversionText room bytes =
+    let k = convertNumber cellCount room bytes in
+    cond (eqb k 0) (convertedText (otherForm cellCount bytes)) (decimal k ++ (32 ∷ 48 ∷ 32 ∷ 45 ∷ 10 ∷ []))
+
+-- what a row prints: `?` where it is neither
+unfoldable pub printedElse : List ℕ → List ℕ
+printedElse row = cond (isConversion row) (conversionText (hexAt row 0 .value) (bytesIn (drop 5 row))) (63 ∷ 10 ∷ [])
+
 unfoldable pub printed : List ℕ → List ℕ
-printed row = cond (isRow row) (answerTo (bytesIn row)) (63 ∷ 10 ∷ [])
+printed row = cond (isRow row) (answerTo (bytesIn row)) (printedElse row)
 
 -- no row prints more
 abbrev pub longestPrint : ℕ
-longestPrint = 620
+longestPrint = 640
 
 -- ---- the input
 

@@ -1,8 +1,9 @@
-// Loads records into fresh cards: a row of standard input is a record in small hex digits, two a byte, and ends with LF. `-`, or a row of no digits, is a
-// record of no bytes.
+// Loads records into fresh cards, and converts them: a row of standard input is a record in small hex digits, two a byte, and ends with LF. `-`, or a
+// row of no digits, is a record of no bytes. A row `ROOM RECORD` is a record to be converted, with the length of the buffer in four hex digits.
 //
-// Each row prints `K SAVED`: the number of the load, 0 where it is accepted, and the record that a save of the loaded card writes, in hex, `-` where
-// the load was refused. A row of another form, or of more than 1100 digits, prints `?`. Bytes after the last LF are dropped.
+// A record prints `K SAVED`: the number of the load, 0 where it is accepted, and the record that a save of the loaded card writes, in hex, `-` where
+// the load was refused. One to be converted prints `K LENGTH RESULT`, with 0 and `-` where it is refused. A row of another form, of more than 1100
+// bytes, or with a buffer over 620 prints `?`. Bytes after the last LF are dropped.
 //
 // The program takes constant memory, whatever the input. What a row prints is a definition, `printed`; no contract can say what is read or written.
 ghost use mathlib.Core.Bool.{true};
@@ -16,7 +17,8 @@ ghost use Rattle.card.specs.Address.{cellCount};
 ghost use Rattle.card.specs.Valid.{validCard};
 ghost use Rattle.saved.specs.Record.{configWidth, recordOf};
 ghost use Rattle.loads.specs.Rows.{isDash, isRow, mostBytes, bytesIn, digitPair, hexOf};
-ghost use Rattle.loads.specs.Rows.{acceptedText, refusedText, answerTo, printed, longestPrint, kept, rowAfter, rowAfterAll};
+ghost use Rattle.loads.specs.Rows.{acceptedText, refusedText, answerTo, longestPrint, kept, rowAfter, rowAfterAll};
+ghost use Rattle.loads.specs.Rows.{mostResult, isConversion, convertedText, conversionText, printedElse, printed};
 use card::card::Card;
 use libc::STDIN_FILENO;
 use libc::STDOUT_FILENO;
@@ -50,6 +52,19 @@ fn is_row(row: &[u8]) -> bool
 {
     let n = row.len();
     is_dash(row) | ((n <= 1100) & ((n % 2 == 0) & all_hex(row)))
+}
+
+// The length of a buffer, a blank and a record.
+fn is_conversion(row: &[u8]) -> bool
+    ensures { λ q. ⌜ q ≡ isConversion (now (row .entry)) ⌝ }
+{
+    let n = row.len();
+    if n < 5 {
+        return false;
+    }
+    let room = text::hex4_at(row, 0);
+    let fits = (n <= 1100) & (room.ok & (room.value <= 620));
+    (row[4] == b' ') & (fits & is_row(&row[5..n]))
 }
 
 // The byte that two digits say.
@@ -141,6 +156,54 @@ fn answer(bytes: &[u8], out: &mut [u8]) -> usize
     put_accepted(out, card)
 }
 
+// What the result of a conversion prints.
+fn put_converted(out: &mut [u8], result: &[u8]) -> usize
+    requires { ⌜ longestPrint ≤ length (now out) ⌝ }
+    requires { ⌜ length (now result) ≤ mostResult ⌝ }
+    ensures { λ _. ⌜ now (out .exit) ≡ sets (now (out .entry)) 0 (convertedText (now (result .entry))) ⌝ }
+    ensures { λ r. ⌜ r ≡ length (convertedText (now (result .entry))) ⌝ }
+    ensures { λ r. ⌜ r ≤ longestPrint ⌝ }
+{
+    let at = text::put_numbered(out, b"0 ", result.len() as u32, b" ");
+    let end = put_hex(out, at, result);
+    text::copy(out, end, b"\n")
+}
+
+// What the conversion of some bytes prints, with a buffer to be written to.
+fn answer_conversion(bytes: &[u8], buffer: &mut [u8], out: &mut [u8]) -> usize
+    requires { ⌜ longestPrint ≤ length (now out) ⌝ }
+    ensures { λ _. ⌜ now (out .exit) ≡ sets (now (out .entry)) 0 (conversionText (length (now (buffer .entry))) (now (bytes .entry))) ⌝ }
+    ensures { λ r. ⌜ r ≡ length (conversionText (length (now (buffer .entry))) (now (bytes .entry))) ⌝ }
+    ensures { λ r. ⌜ r ≤ longestPrint ⌝ }
+{
+    let done = convert::convert(bytes, buffer);
+    let k = done.k;
+    let n = done.len;
+    if k != 0 {
+        return text::put_numbered(out, b"", k as u32, b" 0 -\n");
+    }
+    put_converted(out, &buffer[0..n])
+}
+
+// What a row prints that is no record. The buffer is not empty, so that a byte beyond the result would show.
+fn print_else(row: &[u8], out: &mut [u8]) -> usize
+    requires { ⌜ longestPrint ≤ length (now out) ⌝ }
+    ensures { λ _. ⌜ now (out .exit) ≡ sets (now (out .entry)) 0 (printedElse (now (row .entry))) ⌝ }
+    ensures { λ r. ⌜ r ≡ length (printedElse (now (row .entry))) ⌝ }
+    ensures { λ r. ⌜ r ≤ longestPrint ⌝ }
+{
+    if !is_conversion(row) {
+        return text::copy(out, 0, b"?\n");
+    }
+    let room = text::hex4_at(row, 0);
+    let room = room.value as usize;
+    let n = row.len();
+    let mut bytes = [0u8; 550];
+    let mut buffer = [165u8; 620];
+    let n = bytes_in(&row[5..n], &mut bytes);
+    answer_conversion(&bytes[0..n], &mut buffer[0..room], out)
+}
+
 // What a row prints.
 fn print_row(row: &[u8], out: &mut [u8]) -> usize
     requires { ⌜ longestPrint ≤ length (now out) ⌝ }
@@ -149,7 +212,7 @@ fn print_row(row: &[u8], out: &mut [u8]) -> usize
     ensures { λ r. ⌜ r ≤ longestPrint ⌝ }
 {
     if !is_row(row) {
-        return text::copy(out, 0, b"?\n");
+        return print_else(row, out);
     }
     let mut bytes = [0u8; 550];
     let n = bytes_in(row, &mut bytes);
@@ -162,7 +225,7 @@ fn print_row(row: &[u8], out: &mut [u8]) -> usize
 fn show(line: &[u8], len: usize) -> bool
     requires { ⌜ len ≤ length (now line) ⌝ }
 {
-    let mut out = [0u8; 620];
+    let mut out = [0u8; 640];
     let n = print_row(&line[0..len], &mut out);
     io::write_all(STDOUT_FILENO, &out[0..n])
 }

@@ -4,7 +4,7 @@ use mathlib.Core.Path.{_≡_, refl, sym, ap, ap₂, _∙_}
 use mathlib.Core.Bool.{Bool, true, false, _&&_, false≢true, and-assoc}
 use mathlib.Core.List.{List, [], _∷_, _++_, map, append-nil, append-assoc}
 use native.Mathlib.Nat.{add-zero, zero-add, suc-add, add-assoc, zero-mul, suc-mul, add-mul, mul-assoc, not-suc-le-zero, pow-suc, pow-succ'}
-use native.Mathlib.Nat.{mod-eq-of-lt, mod-one, div-one, div-div-eq-div-mul}
+use native.Mathlib.Nat.{mod-lt, mod-eq-of-lt, mod-one, div-one, div-div-eq-div-mul}
 use native.Mathlib.Numerals.{add-one}
 use native.Mathlib.Omega.{arith}
 use lib.Arith.{mod-mul, digits-div, digits-mod}
@@ -130,6 +130,9 @@ big-value (suc w) acc v =
 -- a number that fits is read back
 pub big-read : (w v : ℕ) → v < 256 ^ w → bigValue 0 (bigEndian w v) ≡ v
 big-read w v h = big-value w 0 v ∙ ap (λ (k : ℕ). 0 * 256 ^ w + k) (mod-eq-of-lt h) ∙ omega (arith, zero-mul (256 ^ w))
+
+pub big-under : (w v : ℕ) → bigValue 0 (bigEndian w v) < 256 ^ w
+big-under w v = rw (big-value w 0 v) (omega (arith, zero-mul (256 ^ w), mod-lt v (byte-pos w)))
 
 -- bytes are written back from their value, whatever stood before them
 big-top : (acc : ℕ) (l : List ℕ) → Bytes l → bigValue acc l / 256 ^ length l ≡ acc

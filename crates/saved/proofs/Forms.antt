@@ -4,16 +4,17 @@ use Prim.Native.Nat.{ℕ, suc, _+_, _*_, _^_, _≤_, _<_}
 use mathlib.Core.Path.{_≡_, refl, sym, ap, _∙_}
 use mathlib.Core.Bool.{Bool, true, false, _&&_, cond}
 use mathlib.Core.List.{List, [], _∷_, _++_, map, append-assoc}
-use native.Mathlib.Nat.{zero-add, suc-mul, le-of-lt, lt-of-le-of-lt, mul-le-mul-right}
+use native.Mathlib.Nat.{zero-add, suc-mul, le-refl, le-of-lt, lt-of-le-of-lt, mul-le-mul-right}
 use native.Mathlib.Omega.{arith}
-use lib.Dec.{eqb}
+use lib.Dec.{eqb, ltb}
 use lib.ListN.{length, getD, take, drop, length-append, length-map, List·getD-append, List·getD-map}
 use lib.Seq.{take-at, take-all, drop-at, drop-drop, drop-append-le, getD-drop, getD-append-add, ext-getD}
-use borrow.Author.Tests.{le-ltb, eqb-true}
+use borrow.Author.Tests.{le-ltb, ltb-true, eqb-true}
 use Rattle.words.proofs.Listed.{length-listed, listed-at, listed-same}
 use Rattle.cells.specs.declared.cell.Cell.{Cell}
 use Rattle.cells.specs.Table.{largestConfig, constantType, largestConstant}
 use Rattle.cells.proofs.Laws.{constant-largest}
+use Rattle.cells.proofs.Rows.{and-right}
 use Rattle.card.specs.declared.card.Card.{Card}
 use Rattle.card.specs.declared.card.Connector.{Connector}
 use Rattle.card.specs.Address.{connectorCount}
@@ -26,7 +27,7 @@ use Rattle.card.proofs.Slots.{four}
 use Rattle.saved.specs.Record.{bigEndian, bigValue, triggerField, cellField, connectorField, fieldsFrom, encode, triggerLength, cellLength}
 use Rattle.saved.specs.Record.{connectorLength, recordLength, triggerIn, cellIn, connectorIn, cellsIn, connectorsIn, recordOf, sameBytes, loadNumberAs}
 use Rattle.saved.specs.Record.{normalConfig, normalCell, loadCells, normalRecord, SmallConstants, poweredUp, loadedAs}
-use Rattle.saved.proofs.Fields.{fields-length, field-at, fields-map, length-big, big-read, same-refl, same-sound, same-not}
+use Rattle.saved.proofs.Fields.{fields-length, field-at, fields-map, length-big, big-read, big-under, same-refl, same-sound, same-not}
 
 -- ---- the fields of a record
 
@@ -123,11 +124,16 @@ module _ (width i : ℕ) (cell : Cell) (bytes rest : List ℕ) (at : ℕ) (there
   unfolding cellField
   kind-there = sym (getD-drop at bytes 4 0) ∙ ap (λ (l : List ℕ). getD l 4 0) there
 
-  config-there : cell .config < 256 ^ width → bigValue 0 (take width (drop (at + 5) bytes)) ≡ cell .config
-  config-there h =
+  bytes-there : bigValue 0 (take width (drop (at + 5) bytes)) ≡ bigValue 0 (bigEndian width (cell .config))
+  bytes-there =
       ap (λ (l : List ℕ). bigValue 0 (take width l)) tail-there
       ∙ ap (bigValue 0) (take-at (bigEndian width (cell .config)) (cell .slots ++ rest) width (length-big width (cell .config)))
-      ∙ big-read width (cell .config) h
+
+  config-there : cell .config < 256 ^ width → bigValue 0 (take width (drop (at + 5) bytes)) ≡ cell .config
+  config-there h = bytes-there ∙ big-read width (cell .config) h
+
+  config-under : bigValue 0 (take width (drop (at + 5) bytes)) < 256 ^ width
+  config-under = rw bytes-there (big-under width (cell .config))
 
   slots-there : length (cell .slots) ≡ 4
       → getD bytes (at + (5 + width)) 0 ∷ getD bytes (at + (6 + width)) 0 ∷ getD bytes (at + (7 + width)) 0 ∷ getD bytes (at + (8 + width)) 0 ∷ []
@@ -231,6 +237,16 @@ normal-small cell small = ap with-config (go (eqb (cell .kind) constantType) ref
     go true e = rw (e, le-ltb largestConstant (cell .config) (small (eqb-true (cell .kind) constantType e)))
     go false e = rw e
 
+-- a normal form is no larger
+chosen-most : (b : Bool) (x y : ℕ) → (b ≡ true → x ≤ y) → cond b x y ≤ y
+chosen-most true x y h = h refl
+chosen-most false x y h = le-refl y
+
+normal-most : (kind config : ℕ) → normalConfig kind config ≤ config
+normal-most kind config =
+    chosen-most (eqb kind constantType && ltb largestConstant config) _ config
+    (λ e. omega (arith, ltb-true largestConstant config (and-right (eqb kind constantType) (ltb largestConstant config) e)))
+
 pub small-normal : (n width : ℕ) (bytes : List ℕ) → SmallConstants n width bytes → loadCells n width bytes ≡ cellsIn n width bytes
 small-normal n width bytes small =
     listed-same (λ i. normalCell (cellIn width bytes i)) (cellIn width bytes) n (λ i h. normal-small (cellIn width bytes i) (small i h))
@@ -256,16 +272,21 @@ pub refused-with : (n width : ℕ) (d : Card) (bytes : List ℕ) (k : ℕ) → l
     → (d ≡ loadedAs n width d bytes) × (k ≡ loadNumberAs n width bytes)
 refused-with n width d bytes k e other = (sym (load-refused-as n width d bytes (ap (λ (k : ℕ). eqb k 0) e ∙ other)), sym e)
 
+-- the cells that stand in some bytes have four slots
+in-slots : (n width : ℕ) (bytes : List ℕ) → FourSlots (cellsIn n width bytes)
+unfolding cellIn
+in-slots n width bytes i h =
+    let count = length-listed (cellIn width bytes) n in
+    ap (λ (c : Cell). length (c .slots)) (listed-at (cellIn width bytes) n i noCell (omega (arith, count)))
+
 -- bytes of another length are not those of the settings in them, and are refused with 14
 pub other-length : (n width : ℕ) (bytes : List ℕ) → (length bytes ≡ recordLength n width → ⊥)
     → sameBytes (encode width (triggerIn bytes) (cellsIn n width bytes) (connectorsIn n width bytes)) bytes ≡ false
-unfolding cellIn
 other-length n width bytes ne =
     let cells = cellsIn n width bytes in
     let connectors = connectorsIn n width bytes in
     let count = length-listed (cellIn width bytes) n in
-    let slots : FourSlots cells = λ i h. ap (λ (c : Cell). length (c .slots)) (listed-at (cellIn width bytes) n i noCell (omega (arith, count))) in
-    let long = encode-length width (triggerIn bytes) cells connectors slots in
+    let long = encode-length width (triggerIn bytes) cells connectors (in-slots n width bytes) in
     let sized : length (encode width (triggerIn bytes) cells connectors) ≡ recordLength n width =
     rw (count, length-listed (connectorIn n width bytes) connectorCount) at long in
     same-not (encode width (triggerIn bytes) cells connectors) bytes (λ e. ne (sym (ap length e) ∙ sized))
@@ -292,6 +313,24 @@ module _ (n width : ℕ) (bytes : List ℕ) (ok : loadNumberAs n width bytes ≡
   normal-same small =
       ap (λ (l : List Cell). encode width (triggerIn bytes) l (connectorsIn n width bytes)) (small-normal n width bytes small)
       ∙ same-sound _ bytes (tests .0)
+
+  -- its configurations fit in their bytes
+  read-under : (i : ℕ) → i < n → cellIn width bytes i .config < 256 ^ width
+  unfolding cellIn
+  read-under i h =
+      let cells = cellsIn n width bytes in
+      let at = triggerLength + i * cellLength width in
+      let inside : i < length cells = omega (arith, length-listed (cellIn width bytes) n) in
+      let place = cell-place width (triggerIn bytes) cells (connectorsIn n width bytes) (in-slots n width bytes) i inside in
+      config-under width i (getD cells i noCell) bytes _ at (ap (drop at) (sym (same-sound _ bytes (tests .0))) ∙ place)
+
+  pub accepted-fit : Fit width (loadCells n width bytes)
+  unfolding normalCell
+  accepted-fit i h =
+      let inside : i < n = omega (arith, length-listed (λ k. normalCell (cellIn width bytes k)) n) in
+      let cell = cellIn width bytes i in
+      rw (listed-at (λ k. normalCell (cellIn width bytes k)) n i noCell inside)
+      (lt-of-le-of-lt (normal-most (cell .kind) (cell .config)) (read-under i inside))
 
 module _ (n width : ℕ) (d : Card) (bytes : List ℕ) (ok : loadNumberAs n width bytes ≡ 0) where
   cells : List Cell

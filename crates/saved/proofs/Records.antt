@@ -1,16 +1,17 @@
 -- The theorems of the saved record, over the number n of cells: what a save writes, that a load undoes a save and a save a load, that a load gives a
 -- valid card, and that the settings of a record stay the same where it is written in another form.
-use Prim.Native.Nat.{ℕ, zero, suc, _+_, _*_, _^_, _≤_, _<_}
+use Prim.Native.Nat.{ℕ, zero, suc, _+_, _^_, _≤_, _<_}
 use mathlib.Core.Path.{_≡_, refl, sym, ap, ap₂, _∙_}
-use mathlib.Core.Bool.{Bool, true, false, cond}
+use mathlib.Core.Bool.{true, false, cond}
 use mathlib.Core.List.{List, [], _∷_, _++_, map, map-append, append-nil}
 use native.Mathlib.Nat.{zero-add}
 use native.Mathlib.Omega.{arith}
-use lib.Dec.{eqb, ltb, lit<}
-use lib.ListN.{length, getD, take, drop, length-map, drop-of-length-le}
+use lib.Dec.{eqb, lit<}
+use lib.ListN.{length, take, drop, length-map, drop-of-length-le}
 use lib.Seq.{take-at, sets-eq}
 use borrow.Author.Tests.{le-ltb, eq-eqb, ne-eqb}
 use Rattle.words.specs.Listed.{listed}
+use Rattle.words.proofs.Listed.{front-taken}
 use Rattle.cells.specs.declared.cell.Cell.{Cell}
 use Rattle.cells.specs.Table.{largestConfig}
 use Rattle.card.specs.declared.card.Card.{Card}
@@ -67,19 +68,19 @@ config-fits = lit< tt
 pub narrow-form : (n : ℕ) (bytes : List ℕ) → length bytes ≡ recordLength n narrowWidth → widthOf n bytes ≡ narrowWidth
 narrow-form n bytes e = rw (eq-eqb (length bytes) (recordLength n narrowWidth) e)
 
-wide-form : (m : ℕ) (bytes : List ℕ) → length bytes ≡ recordLength (suc m) configWidth → widthOf (suc m) bytes ≡ configWidth
-wide-form m bytes e = rw (ne-eqb (length bytes) (recordLength (suc m) narrowWidth) (λ same. omega arith))
+wide-form : (n : ℕ) (bytes : List ℕ) → 0 < n → length bytes ≡ recordLength n configWidth → widthOf n bytes ≡ configWidth
+wide-form n bytes some e = rw (ne-eqb (length bytes) (recordLength n narrowWidth) (λ same. omega arith))
 
 -- a record of the present length is loaded by the present form. Without cells the two forms are one
 pub number-wide : (n : ℕ) (bytes : List ℕ) → length bytes ≡ recordLength n configWidth → loadNumber n bytes ≡ loadNumberAs n configWidth bytes
 unfolding loadNumber loadNumberAs encode fieldsFrom connectorIn listed
 number-wide zero bytes e = ap (λ (w : ℕ). loadNumberAs 0 w bytes) (narrow-form 0 bytes e)
-number-wide (suc m) bytes e = ap (λ (w : ℕ). loadNumberAs (suc m) w bytes) (wide-form m bytes e)
+number-wide (suc m) bytes e = ap (λ (w : ℕ). loadNumberAs (suc m) w bytes) (wide-form (suc m) bytes (omega arith) e)
 
 pub loaded-wide : (n : ℕ) (d : Card) (bytes : List ℕ) → length bytes ≡ recordLength n configWidth → loaded n d bytes ≡ loadedAs n configWidth d bytes
 unfolding loaded loadedAs loadNumberAs encode fieldsFrom connectorIn listed
 loaded-wide zero d bytes e = ap (λ (w : ℕ). loadedAs 0 w d bytes) (narrow-form 0 bytes e)
-loaded-wide (suc m) d bytes e = ap (λ (w : ℕ). loadedAs (suc m) w d bytes) (wide-form m bytes e)
+loaded-wide (suc m) d bytes e = ap (λ (w : ℕ). loadedAs (suc m) w d bytes) (wide-form (suc m) bytes (omega arith) e)
 
 -- ---- loads
 
@@ -106,10 +107,18 @@ module _ (n : ℕ) (d : Card) (bytes : List ℕ) (ok : loadNumber n bytes ≡ 0)
   unfolding loadNumber loaded
   loaded-valid = loaded-valid-as n (widthOf n bytes) d bytes ok
 
-  -- and is saved as the same settings in the present form
-  pub save-load : recordOf n configWidth (loaded n d bytes) ≡ normalRecord n (widthOf n bytes) configWidth bytes
+  -- and is saved as the same settings, in any form and in the present one
+  pub save-in : (to : ℕ) → recordOf n to (loaded n d bytes) ≡ normalRecord n (widthOf n bytes) to bytes
   unfolding loadNumber loaded
-  save-load = save-load-as n (widthOf n bytes) d bytes ok configWidth
+  save-in to = save-load-as n (widthOf n bytes) d bytes ok to
+
+  pub save-load : recordOf n configWidth (loaded n d bytes) ≡ normalRecord n (widthOf n bytes) configWidth bytes
+  save-load = save-in configWidth
+
+  -- its cells are those that stand in the bytes
+  pub loaded-cells : take n (loaded n d bytes .cells) ≡ loadCells n (widthOf n bytes) bytes
+  loaded-cells =
+      ap (λ (c : Card). take n (c .cells)) load-powers ∙ front-taken (λ i. normalCell (cellIn (widthOf n bytes) bytes i)) n (d .cells)
 
   -- as the same bytes, where they are of that form and no constant is above 1
   pub save-same : length bytes ≡ recordLength n configWidth → SmallConstants n configWidth bytes → recordOf n configWidth (loaded n d bytes) ≡ bytes

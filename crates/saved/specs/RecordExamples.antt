@@ -17,7 +17,7 @@ use Rattle.saved.specs.Record.{normalCell, sameBytes, loadNumberAs, load
 -- ---- a record
 
 -- a field: tag, length high and low; of a cell then number, type, configuration in four bytes, X, Y, Z, F; of a connector address, type, source
-whole : List ℕ
+unfoldable pub whole : List ℕ
 whole =
     -- trigger 3
     (1 ∷ 0 ∷ 1 ∷ 3 ∷ [])
@@ -73,18 +73,18 @@ whole =
     ++ (3 ∷ 0 ∷ 3 ∷ 48 ∷ 1 ∷ 74 ∷ [])
 
 -- some of its bytes, from a place on
-part : ℕ → ℕ → List ℕ
+unfoldable pub part : ℕ → ℕ → List ℕ
 part from count = take count (drop from whole)
 
 -- it in the old form, each configuration by its two low bytes
-oldCell : ℕ → List ℕ
+unfoldable pub oldCell : ℕ → List ℕ
 oldCell i = (2 ∷ 0 ∷ 8 ∷ []) ++ part (7 + 13 * i) 2 ++ part (11 + 13 * i) 6
 
-old : List ℕ
+unfoldable pub old : List ℕ
 old = part 0 4 ++ fieldsFrom (λ i (x : ℕ). oldCell i) 0 (replicate 16 0) ++ part 212 96
 
 -- a record with other bytes at some places
-changed : List (ℕ × ℕ) → List ℕ → List ℕ
+unfoldable pub changed : List (ℕ × ℕ) → List ℕ → List ℕ
 changed [] bytes = bytes
 changed ((i, v) ∷ more) bytes = changed more (set bytes i v)
 

@@ -8,9 +8,11 @@ ghost use Rattle.card.specs.Fresh;
 ghost use Rattle.ticks.specs.Rest.{Decides, AtRest};
 ghost use Rattle.ticks.specs.Tick.{tick};
 ghost use Rattle.saved.specs.Record.{loadNumber, loaded};
+ghost use Rattle.convert.specs.Convert.{convertNumber, convertLength, convertedTo};
 ghost use Rattle.lines.specs.Line.{shortestReply, lineResult, resultOf};
 ghost use Rattle.printed.specs.Print.{printNumber, printLength, printedTo};
 use card::card::Card;
+use convert::Converted;
 use lines::line::Answered;
 use printed::print::Printed;
 use saved::record::Loaded;
@@ -81,4 +83,15 @@ pub extern "C" fn trigger_print(card: Card, buffer: &mut [u8]) -> Printed
     ensures { λ r. ⌜ r .len ≤ length (now (buffer .exit)) ⌝ }
 {
     printed::print::print(card, buffer)
+}
+
+// A record in the other of its two forms, written to the front of the buffer. The record's length picks the way; a refusal writes nothing.
+#[no_mangle]
+pub extern "C" fn trigger_convert(bytes: &[u8], buffer: &mut [u8]) -> Converted
+    ensures { λ r. ⌜ r .k ≡ convertNumber cellCount (length (now (buffer .entry))) (now (bytes .entry)) ⌝ }
+    ensures { λ r. ⌜ r .len ≡ convertLength cellCount (length (now (buffer .entry))) (now (bytes .entry)) ⌝ }
+    ensures { λ _. ⌜ now (buffer .exit) ≡ convertedTo cellCount (now (bytes .entry)) (now (buffer .entry)) ⌝ }
+    ensures { λ r. ⌜ r .len ≤ length (now (buffer .exit)) ⌝ }
+{
+    convert::convert(bytes, buffer)
 }

@@ -1,4 +1,4 @@
--- `loads::print_row` meets its contract: `?` where it is no row, and the answer to its bytes where it is one.
+-- `loads::print_row` meets its contract: the answer to its bytes where it is a record.
 use Prim.Native.Nat.{ℕ, _-_}
 use mathlib.Core.Path.{_≡_, sym, ap, _∙_}
 use native.Mathlib.Omega.{arith}
@@ -13,11 +13,8 @@ use Rattle.loads.proofs.print_row.Tie as tie
 is-row-requires : tie.Need-is-row-requires
 is-row-requires c κs = search needs
 
-slice-aggregate-copy : tie.Need-slice-aggregate-copy
-slice-aggregate-copy c = search needs
-
-copy-requires : tie.Need-copy-requires
-copy-requires c κs = search needs
+print-else-requires : tie.Need-print-else-requires
+print-else-requires c κs = search needs
 
 same-length : tie.Need-same-length
 same-length c = search needs
@@ -25,10 +22,10 @@ same-length c = search needs
 returns : tie.Need-returns
 unfolding printed
 returns c =
-    let put = c .before .before .copy .ensures in
-    let bad = c .before .before .before .before .before in
+    let put = c .before .before .print-else .ensures in
+    let bad = c .before .before .before .before in
     let none = sym (bad .before .is-row .ensures) ∙ not-true _ (bad .if1 .taken) in
-    (rw none (put .0), (rw none (put .1), search needs))
+    (rw none (put .0), (rw none (put .1 .0), put .1 .1))
 
 slice-aggregate-bytes-in : tie.Need-slice-aggregate-bytes-in
 slice-aggregate-bytes-in c = search needs
@@ -69,8 +66,7 @@ print-row-spec =
     tie.close
     (tie.spec
     is-row-requires
-    slice-aggregate-copy
-    copy-requires
+    print-else-requires
     same-length
     returns
     slice-aggregate-bytes-in

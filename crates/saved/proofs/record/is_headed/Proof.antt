@@ -1,5 +1,4 @@
 -- `saved::record::is_headed` meets its contract: the length, the head of the trigger, and those of the two rows of fields.
-use mathlib.Core.Path.{_≡_, refl, sym, ap, _∙_}
 use borrow.Author.Tests.{eq-eqb, ne-eqb}
 use Rattle.card.specs.Address.{cellCount}
 use Rattle.saved.specs.Record.{recordLength}

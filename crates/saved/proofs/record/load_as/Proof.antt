@@ -10,7 +10,6 @@ use Rattle.card.specs.declared.card.Connector.{Connector}
 use Rattle.card.specs.Address.{cellCount}
 use Rattle.card.specs.Valid.{valid}
 use Rattle.saved.specs.Record.{recordLength, triggerIn, loadCells, connectorsIn, loadNumberAs, poweredUp}
-use Rattle.saved.specs.Headers.{headed}
 use Rattle.saved.proofs.Forms.{valid-from, loaded-from, refused-with}
 use Rattle.saved.proofs.Headers.{headed-length, number-headed}
 use Rattle.saved.proofs.record.load_as.Statement.{statement}

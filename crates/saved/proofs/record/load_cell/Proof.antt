@@ -1,5 +1,4 @@
 -- `saved::record::load_cell` meets its contract: only the configuration is made normal.
-use mathlib.Core.Path.{ap, _∙_}
 use Rattle.saved.specs.Record.{normalCell}
 use borrow.Author.Needs.{needs}
 use Rattle.saved.proofs.record.load_cell.Statement.{statement}

@@ -1,12 +1,11 @@
 -- `saved::record::put_cell` meets its contract: head, configuration and slots, each behind the last.
 use Prim.Native.Nat.{ℕ, _+_, _-_}
-use mathlib.Core.Path.{_≡_, refl, ap, _∙_}
+use mathlib.Core.Path.{_≡_, ap, _∙_}
 use mathlib.Core.List.{List, [], _∷_, _++_}
 use native.Mathlib.Omega.{arith}
 use Rattle.text.proofs.Stores.{sets-three}
 use lib.ListN.{length, take, drop}
 use lib.Seq.{sets}
-use Rattle.saved.specs.Record.{cellField, bigEndian}
 use Rattle.saved.proofs.Fields.{big-low, length-big, cell-parts}
 use Rattle.saved.proofs.Forms.{cell-length}
 use borrow.Author.Needs.{needs}

@@ -1,5 +1,5 @@
 -- `saved::record::put_connectors` meets its contract: after k turns the fields of the first k entries are stored.
-use Prim.Native.Nat.{ℕ, _-_, _*_, _+_}
+use Prim.Native.Nat.{_-_}
 use mathlib.Core.Path.{_≡_, refl}
 use native.Mathlib.Omega.{arith}
 use lib.ListN.{length, take}

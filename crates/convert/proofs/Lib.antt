@@ -1,0 +1,3 @@
+-- Laws of the converter that its function or the crates above cite.
+pub mod Laws
+pub mod Conversion

@@ -1,0 +1,97 @@
+// A saved record in the other of its two forms, for cards that read only the old one.
+ghost use mathlib.Core.Path.{_≡_};
+ghost use Prim.Native.Nat.{_≤_};
+ghost use lib.ListN.{length, take};
+ghost use Rattle.card.specs.Address.{cellCount};
+ghost use Rattle.card.specs.Valid.{every};
+ghost use Rattle.saved.specs.Record.{configWidth, recordLength};
+ghost use Rattle.convert.specs.Convert.{otherWidth, narrowCell, convertNumber, convertLength, convertedTo};
+use card::limits::CELLS;
+use cells::cell::Cell;
+use cells::cell::Config;
+use saved::record::NARROW_LENGTH;
+use saved::record::NARROW_WIDTH;
+use saved::record::RECORD_LENGTH;
+use saved::record::WIDTH;
+use saved::record::encode_to;
+
+// The largest configuration that the old form has room for.
+const LARGEST_NARROW: Config = 65535;
+
+// 0 or the number of the refusal, and the result's length, 0 where it is refused.
+#[repr(C)]
+pub struct Converted {
+    pub k: u8,
+    pub len: usize,
+}
+
+// A form of records: the width of a configuration, and the length.
+struct Form {
+    width: usize,
+    len: usize,
+}
+
+// The form of the result.
+fn other_form(bytes: &[u8]) -> Form
+    ensures { λ r. ⌜ r .width ≡ otherWidth cellCount (now (bytes .entry)) ⌝ }
+    ensures { λ r. ⌜ r .width ≤ configWidth ⌝ }
+    ensures { λ r. ⌜ r .len ≡ recordLength cellCount (otherWidth cellCount (now (bytes .entry))) ⌝ }
+{
+    if bytes.len() == NARROW_LENGTH {
+        Form {
+            width: WIDTH,
+            len: RECORD_LENGTH,
+        }
+    } else {
+        Form {
+            width: NARROW_WIDTH,
+            len: NARROW_LENGTH,
+        }
+    }
+}
+
+// Whether the configurations of the first n cells have room in the old form. By recursion, as `card::edits::cleared`.
+fn all_narrow(cells: [Cell; CELLS], n: usize) -> bool
+    requires { ⌜ n ≤ cellCount ⌝ }
+    ensures { λ r. ⌜ r ≡ every narrowCell (take n cells) ⌝ }
+{
+    if n == 0 {
+        return true;
+    }
+    let i = n - 1;
+    let below = all_narrow(cells, i);
+    let cell = cells[i];
+    below & (cell.config <= LARGEST_NARROW)
+}
+
+// A record in its other form, constants above 1 made 1, to the front of a buffer; beyond it the buffer is as it was. k is 14 for a length of neither
+// form, else 1 for a buffer with no room for the result, else what a load of the record gives, else 17 where the old form has no room for a duration.
+// Where k is not 0 the buffer stays, and len is 0.
+pub fn convert(bytes: &[u8], buffer: &mut [u8]) -> Converted
+    ensures { λ r. ⌜ r .k ≡ convertNumber cellCount (length (now (buffer .entry))) (now (bytes .entry)) ⌝ }
+    ensures { λ r. ⌜ r .len ≡ convertLength cellCount (length (now (buffer .entry))) (now (bytes .entry)) ⌝ }
+    ensures { λ _. ⌜ now (buffer .exit) ≡ convertedTo cellCount (now (bytes .entry)) (now (buffer .entry)) ⌝ }
+    ensures { λ r. ⌜ r .len ≤ length (now (buffer .exit)) ⌝ }
+{
+    let given = bytes.len();
+    if (given != NARROW_LENGTH) & (given != RECORD_LENGTH) {
+        return Converted { k: 14, len: 0 };
+    }
+    let to = other_form(bytes);
+    if buffer.len() < to.len {
+        return Converted { k: 1, len: 0 };
+    }
+    let loaded = saved::record::load(card::card::fresh(), bytes);
+    let k = loaded.k;
+    if k != 0 {
+        return Converted { k: k, len: 0 };
+    }
+    let card = loaded.card;
+    let cells = card.cells;
+    let connectors = card.connectors;
+    if (to.width == NARROW_WIDTH) & !all_narrow(cells, CELLS) {
+        return Converted { k: 17, len: 0 };
+    }
+    encode_to(buffer, to.width, card.trigger, cells, connectors);
+    Converted { k: 0, len: to.len }
+}
