@@ -1,5 +1,6 @@
 -- Laws of the card that several functions or the crates above cite.
 pub mod ChangeLaws
+pub mod ChartLaws
 pub mod EditLaws
 pub mod Places
 pub mod PresetLaws

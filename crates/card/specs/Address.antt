@@ -1,7 +1,8 @@
--- Document 01, "Addresses": which bases are cells' and connectors', and the base of an address. What an address reads stands in ticks/specs/Reading.
+-- Document 01, "Addresses": which bases are cells' and connectors', and what an address is made of: its base, whether it is inverted, whether it is an
+-- edge. What it reads stands in ticks/specs/Reading.
 use Prim.Native.Nat.{ℕ, _+_, _%_}
-use mathlib.Core.Bool.{Bool, _&&_}
-use lib.Dec.{leb, ltb}
+use mathlib.Core.Bool.{Bool, _&&_, _||_}
+use lib.Dec.{leb, ltb, eqb}
 
 -- the number of cells, and of connectors, of the card
 abbrev pub cellCount : ℕ
@@ -28,10 +29,25 @@ firstConnector = 33
 abbrev pub among : ℕ → ℕ → ℕ → Bool
 among first count b = leb first b && ltb b (first + count)
 
+-- a base that is 0, a cell's or a connector's; the others are reserved
+unfoldable pub permittedBase : ℕ → ℕ → Bool
+permittedBase n b = eqb b 0 || (among firstCell n b || among firstConnector connectorCount b)
+
+-- "An address is 0 to 255"
+abbrev pub addressCount : ℕ
+addressCount = 256
+
 -- "its base is the address mod 64"
 abbrev pub baseOf : ℕ → ℕ
 baseOf a = a % 64
 
--- the first address of an edge
+-- "Inverted is 1 for 64-127 and 192-255"
+abbrev pub isInverted : ℕ → Bool
+isInverted a = among 64 64 a || among 192 64 a
+
+-- "edge is 1 from 128": the first address of an edge
 abbrev pub edgeAddress : ℕ
 edgeAddress = 128
+
+abbrev pub isEdge : ℕ → Bool
+isEdge a = leb edgeAddress a

@@ -1,12 +1,16 @@
--- What CCA F and Z do to each kind of state, and what they are refused, by computation.
+-- What CCA F and Z do to each kind of state, what they are refused, and rows of the address chart, by computation.
 use Prim.Native.Nat.{ℕ}
 use mathlib.Core.Path.{_≡_, refl}
 use mathlib.Core.Bool.{Bool, true, false}
 use mathlib.Core.List.{List, [], _∷_, map}
+use Rattle.words.specs.Bits.{bitNumber}
 use Rattle.cells.specs.declared.cell.Cell.{Cell}
 use Rattle.cells.specs.declared.cell.State.{State}
 use Rattle.cells.specs.Table.{rowOf}
 use Rattle.cells.specs.Work.{pulses}
+use Rattle.card.specs.declared.chart.Entry.{Entry}
+use Rattle.card.specs.Address.{cellCount, permittedBase}
+use Rattle.card.specs.Chart.{entryOf}
 use Rattle.card.specs.Edits.{configuredState, configured, statedAs, stated}
 use Rattle.card.specs.Context.{configShown}
 use Rattle.card.specs.Valid.{badConfig, noConfig, badStateAs, badState}
@@ -70,3 +74,25 @@ tests =
 test-table : map (λ (e : Bool × Bool). e .0) tests ≡ map (λ (e : Bool × Bool). e .1) tests
 unfolding rowOf badConfig noConfig badStateAs badState
 test-table = refl
+
+-- the address chart: address, base, inverted, edge, permitted
+row : ℕ → List ℕ
+row a =
+    let e : Entry = entryOf cellCount a in
+    a ∷ e .base ∷ bitNumber (e .inverted) ∷ bitNumber (e .edge) ∷ bitNumber (e .permitted) ∷ []
+
+abbrev rows : List (List ℕ × List ℕ)
+rows =
+    (row 0, 0 ∷ 0 ∷ 0 ∷ 0 ∷ 1 ∷ [])
+    ∷ (row 16, 16 ∷ 16 ∷ 0 ∷ 0 ∷ 1 ∷ [])
+    ∷ (row 17, 17 ∷ 17 ∷ 0 ∷ 0 ∷ 0 ∷ [])
+    ∷ (row 48, 48 ∷ 48 ∷ 0 ∷ 0 ∷ 1 ∷ [])
+    ∷ (row 64, 64 ∷ 0 ∷ 1 ∷ 0 ∷ 1 ∷ [])
+    ∷ (row 128, 128 ∷ 0 ∷ 0 ∷ 1 ∷ 1 ∷ [])
+    ∷ (row 192, 192 ∷ 0 ∷ 1 ∷ 1 ∷ 1 ∷ [])
+    ∷ (row 255, 255 ∷ 63 ∷ 1 ∷ 1 ∷ 0 ∷ [])
+    ∷ []
+
+row-table : map (λ (e : List ℕ × List ℕ). e .0) rows ≡ map (λ (e : List ℕ × List ℕ). e .1) rows
+unfolding row permittedBase
+row-table = refl

@@ -1,5 +1,6 @@
 -- What a reader must believe, in the order of document 01.
 pub mod Address
+pub mod Chart
 pub mod Connectors
 pub mod Fresh
 pub mod Edits

@@ -13,14 +13,12 @@ use Rattle.cells.specs.Table.{rowOf, typeCount}
 use Rattle.cells.specs.Work.{largestCount}
 use Rattle.card.specs.declared.card.Card.{Card}
 use Rattle.card.specs.declared.card.Connector.{Connector}
-use Rattle.card.specs.Address.{firstCell, firstConnector, connectorCount, among, baseOf, edgeAddress}
+use Rattle.card.specs.Address.{firstCell, firstConnector, connectorCount, among}
+use Rattle.card.specs.Chart.{entryOf}
+unfoldable pub use Rattle.card.specs.Address.{permittedBase}
 use Rattle.card.specs.Connectors.{pushPull, isOutput, noConnector}
 
 -- ---- single values
-
--- a base that is 0, a cell's or a connector's; the others are reserved
-unfoldable pub permittedBase : ℕ → ℕ → Bool
-permittedBase n b = eqb b 0 || (among firstCell n b || among firstConnector connectorCount b)
 
 -- the largest address, clock code and type of a connector
 abbrev pub largestAddress : ℕ
@@ -57,9 +55,9 @@ unusedSlot kind given =
     ((given .x && not (rowOf kind .used .x)) || (given .y && not (rowOf kind .used .y)))
     || ((given .z && not (rowOf kind .used .z)) || (given .f && not (rowOf kind .used .f)))
 
--- 11: "address over 255 or reserved"
+-- 11: "address over 255 or reserved", by its entry
 unfoldable pub badAddress : ℕ → ℕ → Bool
-badAddress n a = ltb largestAddress a || not (permittedBase n (baseOf a))
+badAddress n a = ltb largestAddress a || not (entryOf n a .permitted)
 
 -- 13: BNC1, the first connector, an output while the trigger is 4
 unfoldable pub frontDriven : ℕ → ℕ → Bool
@@ -69,7 +67,7 @@ frontDriven trigger kind = eqb trigger frontTrigger && isOutput kind
 
 -- 15: "unused slot or configuration not 0; edge slot under 128", else an address that a line could set
 unfoldable pub validSlot : ℕ → Bool → Bool → ℕ → Bool
-validSlot n used edge a = cond used (not (badAddress n a) && (not edge || leb edgeAddress a)) (eqb a 0)
+validSlot n used edge a = cond used (not (badAddress n a) && (not edge || entryOf n a .edge)) (eqb a 0)
 
 -- the four slots of a cell
 unfoldable pub validSlots : ℕ → Row → List ℕ → Bool

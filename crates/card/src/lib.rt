@@ -1,6 +1,7 @@
 // The card: what it holds, and how lines change its settings.
 pub mod card;
 pub mod change;
+pub mod chart;
 pub mod context;
 pub mod edits;
 pub mod limits;

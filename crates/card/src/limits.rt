@@ -21,9 +21,7 @@ pub const BACKPLANE: u16 = 0xffff << FRONT;
 // A number as a line gives it: it may be too large for what it is to set. It has at most ten digits, which 32 bits do not hold.
 pub type Number = u64;
 
-// The bases that addresses have, and the largest address.
-pub const BASES: Number = 64;
-
+// The largest address.
 pub const LARGEST_ADDRESS: Number = 255;
 
 // A word with a bit for each cell.

@@ -2,14 +2,17 @@
 ghost use mathlib.Core.Path.{_≡_};
 ghost use Prim.Native.Nat.{_≤_};
 ghost use lib.ListN.{take};
+ghost use Rattle.cells.specs.Table.{slots};
 ghost use Rattle.card.specs.Address.{cellCount};
+ghost use Rattle.card.specs.Chart.{Charted};
 ghost use Rattle.card.specs.Valid.{badPlace, badCellType, badConnectorType, badClock, badConfig, unusedSlot, badAddress, frontDriven};
 ghost use Rattle.card.specs.Valid.{validSlot, validSlots, validCell, validConnector, every, valid, isCounted, noConfig, badStateAs, badState, noState};
 use crate::card::Connector;
-use crate::limits::BASES;
+use crate::chart::Chart;
+use crate::chart::chart;
+use crate::chart::entry_of;
 use crate::limits::CELLS;
 use crate::limits::CONNECTORS;
-use crate::limits::EDGES;
 use crate::limits::FRONT_TRIGGER;
 use crate::limits::LARGEST_ADDRESS;
 use crate::limits::LARGEST_CLOCK;
@@ -69,12 +72,35 @@ pub fn unused_slot(kind: u8, given: Slots) -> bool
     ((given.x & !used.x) | (given.y & !used.y)) | ((given.z & !used.z) | (given.f & !used.f))
 }
 
-// 11: an address that is none, or reserved.
+// 11: an address that is none, or reserved, by its entry.
+fn refused(chart: &Chart, a: Number) -> bool
+    requires { ⌜ Charted (now chart) ⌝ }
+    ensures { λ r. ⌜ r ≡ badAddress cellCount a ⌝ }
+{
+    if LARGEST_ADDRESS < a {
+        return true;
+    }
+    let e = entry_of(chart, a as u8);
+    !e.permitted
+}
+
 pub fn bad_address(a: Number) -> bool
     ensures { λ r. ⌜ r ≡ badAddress cellCount a ⌝ }
 {
-    let b = a % BASES;
-    (LARGEST_ADDRESS < a) | !((b == 0) | (is_cell(b) | is_connector(b)))
+    let c = chart();
+    refused(&c, a)
+}
+
+// The same of four addresses, for which the chart is made once.
+pub fn bad_addresses(x: Number, y: Number, z: Number, f: Number) -> Slots
+    ensures { λ r. ⌜ r ≡ slots (badAddress cellCount x) (badAddress cellCount y) (badAddress cellCount z) (badAddress cellCount f) ⌝ }
+{
+    let c = chart();
+    let x = refused(&c, x);
+    let y = refused(&c, y);
+    let z = refused(&c, z);
+    let f = refused(&c, f);
+    Slots { x, y, z, f }
 }
 
 // 13: the type of BNC1 makes it an output while the trigger comes in by it.
@@ -84,49 +110,56 @@ pub fn front_driven(trigger: u8, kind: Number) -> bool
     (trigger == FRONT_TRIGGER) & ((kind == OPEN_DRAIN as Number) | (kind == PUSH_PULL as Number))
 }
 
-// What a slot may hold.
-fn valid_slot(used: bool, edge: bool, a: u8) -> bool
+// What a slot may hold. Here and below the chart is lent: it is made once for all settings.
+fn valid_slot(chart: &Chart, used: bool, edge: bool, a: u8) -> bool
+    requires { ⌜ Charted (now chart) ⌝ }
     ensures { λ r. ⌜ r ≡ validSlot cellCount used edge a ⌝ }
 {
     if used {
-        !bad_address(a as Number) & (!edge | (EDGES <= a))
+        let e = entry_of(chart, a);
+        e.permitted & (!edge | e.edge)
     } else {
         a == 0
     }
 }
 
 // What the four slots of a type may hold. There are four, since the array has that length.
-fn valid_slots(row: Row, s: [u8; 4]) -> bool
+fn valid_slots(chart: &Chart, row: Row, s: [u8; 4]) -> bool
+    requires { ⌜ Charted (now chart) ⌝ }
     ensures { λ r. ⌜ r ≡ validSlots cellCount row s ⌝ }
 {
     let used = row.used;
     let edge = row.edge;
-    let x = valid_slot(used.x, edge.x, s[0]);
-    let y = valid_slot(used.y, edge.y, s[1]);
-    let z = valid_slot(used.z, edge.z, s[2]);
-    let f = valid_slot(used.f, edge.f, s[3]);
+    let x = valid_slot(chart, used.x, edge.x, s[0]);
+    let y = valid_slot(chart, used.y, edge.y, s[1]);
+    let z = valid_slot(chart, used.z, edge.z, s[2]);
+    let f = valid_slot(chart, used.f, edge.f, s[3]);
     (x & y) & (z & f)
 }
 
 // The settings that a cell may have.
-fn valid_cell(cell: Cell) -> bool
+fn valid_cell(chart: &Chart, cell: Cell) -> bool
+    requires { ⌜ Charted (now chart) ⌝ }
     ensures { λ r. ⌜ r ≡ validCell cellCount cell ⌝ }
 {
     let row = row_of(cell.kind);
     let slots = cell.slots;
     let kind = cell.kind as Number;
-    (!bad_cell_type(kind) & (cell.config <= row.largest)) & valid_slots(row, slots)
+    (!bad_cell_type(kind) & (cell.config <= row.largest)) & valid_slots(chart, row, slots)
 }
 
 // The settings that a connector may have.
-fn valid_connector(c: Connector) -> bool
+fn valid_connector(chart: &Chart, c: Connector) -> bool
+    requires { ⌜ Charted (now chart) ⌝ }
     ensures { λ r. ⌜ r ≡ validConnector cellCount c ⌝ }
 {
-    !bad_connector_type(c.kind as Number) & !bad_address(c.source as Number)
+    let e = entry_of(chart, c.source);
+    !bad_connector_type(c.kind as Number) & e.permitted
 }
 
 // Each of the first n cells may have its settings. By recursion, as `edits::cleared`.
-fn valid_cells(cells: [Cell; CELLS], n: usize) -> bool
+fn valid_cells(chart: &Chart, cells: [Cell; CELLS], n: usize) -> bool
+    requires { ⌜ Charted (now chart) ⌝ }
     requires { ⌜ n ≤ cellCount ⌝ }
     ensures { λ r. ⌜ r ≡ every (validCell cellCount) (take n cells) ⌝ }
 {
@@ -134,17 +167,18 @@ fn valid_cells(cells: [Cell; CELLS], n: usize) -> bool
         return true;
     }
     let i = n - 1;
-    let below = valid_cells(cells, i);
-    below & valid_cell(cells[i])
+    let below = valid_cells(chart, cells, i);
+    below & valid_cell(chart, cells[i])
 }
 
 // So may every connector.
-fn valid_connectors(connectors: [Connector; CONNECTORS]) -> bool
+fn valid_connectors(chart: &Chart, connectors: [Connector; CONNECTORS]) -> bool
+    requires { ⌜ Charted (now chart) ⌝ }
     ensures { λ r. ⌜ r ≡ every (validConnector cellCount) connectors ⌝ }
 {
     let mut ok = true;
     for k in 0..CONNECTORS {
-        let v = valid_connector(connectors[k]);
+        let v = valid_connector(chart, connectors[k]);
         ok = ok & v;
     }
     ok
@@ -160,7 +194,8 @@ pub fn valid_settings(
 {
     let front = connectors[0];
     let clock = !bad_clock(trigger as Number) & !front_driven(trigger, front.kind as Number);
-    clock & (valid_cells(cells, CELLS) & valid_connectors(connectors))
+    let c = chart();
+    clock & (valid_cells(&c, cells, CELLS) & valid_connectors(&c, connectors))
 }
 
 // A counter: its count is read where other types have a configuration.

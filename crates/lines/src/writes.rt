@@ -131,11 +131,8 @@ fn any_too_large(p: Pairs) -> bool
 fn any_bad_address(p: Pairs) -> bool
     ensures { λ q. ⌜ q ≡ anyBadAddress cellCount p ⌝ }
 {
-    let x = valid::bad_address(p.x);
-    let y = valid::bad_address(p.y);
-    let z = valid::bad_address(p.z);
-    let f = valid::bad_address(p.f);
-    any_given(p.given, x, y, z, f)
+    let bad = valid::bad_addresses(p.x, p.y, p.z, p.f);
+    any_given(p.given, bad.x, bad.y, bad.z, bad.f)
 }
 
 // All pairs or none: 4 and 6 come before 10 and 11, whichever pair meets them.

@@ -4,13 +4,13 @@ use Prim.Native.Nat.{ℕ, suc, _+_, _*_, _≤_, _<_, zero-le}
 use mathlib.Core.Path.{_≡_, refl, sym, ap, ap₂, _∙_}
 use mathlib.Core.Bool.{Bool, true, false}
 use mathlib.Core.List.{List, [], _∷_, _++_, append-assoc, append-nil}
-use native.Mathlib.Nat.{add-zero, add-assoc, add-mul}
+use native.Mathlib.Nat.{add-zero, add-mul}
 use native.Mathlib.Numerals.{add-one}
 use native.Mathlib.Omega.{arith}
-use lib.ListN.{length, getD, take, length-append}
+use lib.ListN.{length, getD, take}
 use lib.Seq.{sets, take-suc, length-take-le}
 use Rattle.text.specs.Decimal.{decimal}
-use Rattle.text.proofs.Stores.{sets-append}
+pub use Rattle.text.proofs.Stores.{Placed, placed-then, placed-as}
 use Rattle.cells.specs.declared.cell.Cell.{Cell}
 use Rattle.cells.specs.declared.table.Slots.{Slots}
 use Rattle.cells.specs.Table.{rowOf, anySlot}
@@ -26,27 +26,6 @@ use Rattle.lines.specs.Wiring.{only, pairsIn, cellCommands, connectorCommands, 
 use Rattle.lines.specs.Wiring.{letterOf, cardLine, givenPair, givenPairs, pairsText, commandText}
 use Rattle.printed.specs.Parts.{lineFeed, linesText, commandsText, part, slotsText}
 use Rattle.printed.specs.Print.{wiringText}
-
--- ---- parts behind each other
-
--- the buffer l has become a: x stands there from p on, and the next part goes to `at`
-pub record Placed (l : List ℕ) (p : ℕ) (a x : List ℕ) (at : ℕ) : Type 0 where
-  pub bytes : a ≡ sets l p x
-  pub at-end : at ≡ p + length x
-
--- one part more
-pub placed-then : {l a x : List ℕ} {p at : ℕ} → Placed l p a x at → (y : List ℕ) {r : List ℕ} {end : ℕ} → r ≡ sets a at y → end ≡ at + length y
-    → Placed l p r (x ++ y) end
-placed-then {l} {a} {x} {p} {at} s y stored next =
-    record {
-      bytes = stored ∙ ap₂ (λ (b : List ℕ) (k : ℕ). sets b k y) (s .bytes) (s .at-end) ∙ sets-append l p x y;
-      at-end =
-          next ∙ ap (λ (k : ℕ). k + length y) (s .at-end) ∙ add-assoc p (length x) (length y) ∙ ap (λ (k : ℕ). p + k) (sym (length-append x y));
-    }
-
--- the same text, as a definition has it
-pub placed-as : {l a x y : List ℕ} {p at : ℕ} → x ≡ y → Placed l p a x at → Placed l p a y at
-placed-as {l} {p = p} e s = record { bytes = s .bytes ∙ ap (sets l p) e; at-end = s .at-end ∙ ap (λ (t : List ℕ). p + length t) e }
 
 -- ---- the parts of a line
 

@@ -2,7 +2,7 @@
 use Prim.Native.Nat.{ℕ, suc, _+_, _≤_, _<_}
 use mathlib.Core.Path.{_≡_, sym, ap, ap₂, _∙_}
 use mathlib.Core.List.{List, [], _∷_, _++_, append-nil, append-assoc}
-use native.Mathlib.Nat.{add-zero, zero-add}
+use native.Mathlib.Nat.{add-zero, add-assoc, zero-add}
 use native.Mathlib.Numerals.{add-one}
 use native.Mathlib.Omega.{arith}
 use lib.ListN.{length, getD, set, take, drop, length-append, drop-of-length-le}
@@ -45,7 +45,28 @@ module _ {A : Type 0} where
       let s : sets l 0 r ≡ r ++ drop (0 + length r) l = sets-eq r l 0 (rw (zero-add (length r)) h) in
       rw (s, e) (take-append-seam r (drop (0 + length r) l))
 
--- ---- a text written part by part
+-- ---- a text written part by part, from any place on
+
+-- the buffer l has become a: x stands there from p on, and the next part goes to `at`
+pub record Placed (l : List ℕ) (p : ℕ) (a x : List ℕ) (at : ℕ) : Type 0 where
+  pub bytes : a ≡ sets l p x
+  pub at-end : at ≡ p + length x
+
+-- one part more
+pub placed-then : {l a x : List ℕ} {p at : ℕ} → Placed l p a x at → (y : List ℕ) {r : List ℕ} {end : ℕ} → r ≡ sets a at y → end ≡ at + length y
+    → Placed l p r (x ++ y) end
+placed-then {l} {a} {x} {p} {at} s y stored next =
+    record {
+      bytes = stored ∙ ap₂ (λ (b : List ℕ) (k : ℕ). sets b k y) (s .bytes) (s .at-end) ∙ sets-append l p x y;
+      at-end =
+          next ∙ ap (λ (k : ℕ). k + length y) (s .at-end) ∙ add-assoc p (length x) (length y) ∙ ap (λ (k : ℕ). p + k) (sym (length-append x y));
+    }
+
+-- the same text, as a definition has it
+pub placed-as : {l a x y : List ℕ} {p at : ℕ} → x ≡ y → Placed l p a x at → Placed l p a y at
+placed-as {l} {p = p} e s = record { bytes = s .bytes ∙ ap (sets l p) e; at-end = s .at-end ∙ ap (λ (t : List ℕ). p + length t) e }
+
+-- ---- a text written part by part, from the front
 
 -- the buffer l has become a: the text x stands at its front, and the next part goes to `at`
 pub record Stored (l a : List ℕ) (x : List ℕ) (at : ℕ) : Type 0 where

@@ -4,6 +4,7 @@ pub mod Counting
 pub mod Counts
 pub mod Effective
 pub mod FastPath
+pub mod Quarters
 pub mod Sleep
 pub mod Ticks
 pub mod Turns

@@ -5,18 +5,20 @@ use mathlib.Core.Bool.{Bool, true, false, not, _&&_, _||_, Bool·beq, cond}
 use mathlib.Core.List.{List, [], _∷_}
 use native.Mathlib.Nat.{add-zero, mod-lt, lt-of-le-of-lt, lt-of-lt-of-le}
 use native.Mathlib.Numerals.{one-add}
-use native.Mathlib.Decide.{decLt}
+use native.Mathlib.Decide.{decLt, ℕ-discrete}
 use native.Mathlib.Omega.{arith}
 use lib.Dec.{ltb, lit<}
 use lib.Bits.{bitAnd, bitOr, bitXor, xor-lt, and-le-l}
 use lib.ListN.{getD}
 use lib.Pow.{ones-lt, pow-mono}
+use mathlib.Core.Logic.{inl, inr}
 use borrow.Author.Tests.{eq-eqb, ne-eqb, lt-ltb, le-ltb}
 use Rattle.words.specs.Bits.{bitAt, wordOf}
 use Rattle.words.proofs.Laws.{bit-zero, bit-above, bit-ones, bit-low, bit-high, bit-and, bit-or, bit-xor, bit-built, built-same, built-of-bits}
-use Rattle.card.specs.Address.{connectorCount, firstCell, firstConnector, among, baseOf}
+use Rattle.card.specs.Address.{connectorCount, firstCell, firstConnector, among, baseOf, isInverted, isEdge}
 use Rattle.card.proofs.Places.{among-in, among-below, among-above}
 use Rattle.ticks.specs.Reading.{levelAt, readsLevels, reads, slotsRead, mixed, view}
+use Rattle.ticks.proofs.Quarters.{Quarter, InQuarter, in-quarter}
 
 -- ---- two words under a mask
 
@@ -184,10 +186,18 @@ rose n b i h = bit-and n (bitXor b all) i ∙ ap (λ (x : Bool). bitAt n i && x)
 fell : (n b i : ℕ) → i < 64 → bitAt (bitAnd (bitXor n all) b) i ≡ (not (bitAt n i) && bitAt b i)
 fell n b i h = bit-and (bitXor n all) b i ∙ ap (λ (x : Bool). x && bitAt b i) (flipped n i h)
 
+-- an address other than 192, by what it is
+reads-as : (now before : ℕ → Bool) (a q : ℕ) (inverted edge : Bool) → Quarter a q inverted edge → (a ≡ 192 → ⊥)
+    → reads now before a ≡ readsLevels inverted edge (now (baseOf a)) (before (baseOf a))
+unfolding reads
+reads-as now before a q inverted edge e other =
+    ap (λ (b : Bool). cond b true (readsLevels (isInverted a) (isEdge a) (now (baseOf a)) (before (baseOf a)))) (ne-eqb a 192 other)
+    ∙ ap₂ (λ (i e : Bool). readsLevels i e (now (baseOf a)) (before (baseOf a))) (e .1) (e .2)
+
 -- an address reads its base in the word of its quarter
 pub quarter-reads : (n b a : ℕ) → a < 256 → bitAt (getD (quarterWords n b) (a / 64) 0) (a % 64) ≡ reads (bitAt n) (bitAt b) a
 unfolding reads readsLevels bitAt
-quarter-reads n b a h = level (decLt a 64)
+quarter-reads n b a h = go (in-quarter a h)
   where
     i : ℕ
     i = a % 64
@@ -195,45 +205,35 @@ quarter-reads n b a h = level (decLt a 64)
     below : i < 64
     below = mod-lt a (lit< tt)
 
-    last : Dec (192 < a) → 192 ≤ a → bitAt (bitOr (bitAnd (bitXor n all) b) 1) i ≡ reads (bitAt n) (bitAt b) a
-    last (yes k) g =
+    word : {q : ℕ} → a / 64 ≡ q → bitAt (getD (quarterWords n b) (a / 64) 0) i ≡ bitAt (getD (quarterWords n b) q 0) i
+    word e = ap (λ (k : ℕ). bitAt (getD (quarterWords n b) k 0) i) e
+
+    -- what it reads, but for 192
+    shown : (q : ℕ) (inverted edge : Bool) → Quarter a q inverted edge → (a ≡ 192 → ⊥)
+        → reads (bitAt n) (bitAt b) a ≡ readsLevels inverted edge (bitAt n i) (bitAt b i)
+    shown = reads-as (bitAt n) (bitAt b) a
+
+    last : Quarter a 3 true true → Dec (a ≡ 192) → bitAt (bitOr (bitAnd (bitXor n all) b) 1) i ≡ reads (bitAt n) (bitAt b) a
+    last e (no other) =
+        let q = e .0 in
         let z : 1 ≤ i = omega arith in
-        let e : a ≡ 192 → ⊥ = omega arith in
-        rw (ne-eqb a 192 e, le-ltb a 64 (omega arith), le-ltb a 128 (omega arith), le-ltb a 192 g)
-        (bit-or (bitAnd (bitXor n all) b) 1 i
+        bit-or (bitAnd (bitXor n all) b) 1 i
         ∙ ap (λ (x : Bool). bitAt (bitAnd (bitXor n all) b) i || x) (bit-above 1 1 i (omega arith) z)
         ∙ or-false (bitAt (bitAnd (bitXor n all) b) i)
-        ∙ fell n b i below)
-    last (no k) g =
-        let e : a ≡ 192 = omega arith in
+        ∙ fell n b i below
+        ∙ sym (shown 3 true true e other)
+    last e (yes it) =
         let z : i ≡ 0 = omega arith in
-        rw (eq-eqb a 192 e)
+        rw (eq-eqb a 192 it)
         (bit-or (bitAnd (bitXor n all) b) 1 i
         ∙ ap (λ (k : ℕ). bitAt (bitAnd (bitXor n all) b) i || bitAt 1 k) z
         ∙ or-true (bitAt (bitAnd (bitXor n all) b) i))
 
-    fall : Dec (a < 192) → 128 ≤ a → bitAt (getD (quarterWords n b) (a / 64) 0) i ≡ reads (bitAt n) (bitAt b) a
-    fall (yes k) g =
-        let q : a / 64 ≡ 2 = omega arith in
-        let e : a ≡ 192 → ⊥ = omega arith in
-        rw (q, ne-eqb a 192 e, le-ltb a 64 (omega arith), le-ltb a 128 g, lt-ltb a 192 k) (rose n b i below)
-    fall (no k) g =
-        let q : a / 64 ≡ 3 = omega arith in
-        rw q (last (decLt 192 a) (omega arith))
-
-    inverse : Dec (a < 128) → 64 ≤ a → bitAt (getD (quarterWords n b) (a / 64) 0) i ≡ reads (bitAt n) (bitAt b) a
-    inverse (yes k) g =
-        let q : a / 64 ≡ 1 = omega arith in
-        let e : a ≡ 192 → ⊥ = omega arith in
-        rw (q, ne-eqb a 192 e, le-ltb a 64 g, lt-ltb a 128 k) (flipped n i below)
-    inverse (no k) g = fall (decLt a 192) (omega arith)
-
-    level : Dec (a < 64) → bitAt (getD (quarterWords n b) (a / 64) 0) i ≡ reads (bitAt n) (bitAt b) a
-    level (yes k) =
-        let q : a / 64 ≡ 0 = omega arith in
-        let e : a ≡ 192 → ⊥ = omega arith in
-        rw (q, ne-eqb a 192 e, lt-ltb a 64 k)
-    level (no k) = inverse (decLt a 128) (omega arith)
+    go : InQuarter a → bitAt (getD (quarterWords n b) (a / 64) 0) i ≡ reads (bitAt n) (bitAt b) a
+    go (inl e) = let q = e .0 in word (e .0) ∙ sym (shown 0 false false e (omega arith))
+    go (inr (inl e)) = let q = e .0 in word (e .0) ∙ flipped n i below ∙ sym (shown 1 true false e (omega arith))
+    go (inr (inr (inl e))) = let q = e .0 in word (e .0) ∙ rose n b i below ∙ sym (shown 2 false true e (omega arith))
+    go (inr (inr (inr e))) = word (e .0) ∙ last e (ℕ-discrete a 192)
 
 -- an address looks at one base below 64, so the word of a view reads as the view
 pub reads-built : (f g : ℕ → Bool) (a : ℕ) → reads (bitAt (wordOf f 64)) (bitAt (wordOf g 64)) a ≡ reads f g a

@@ -7,7 +7,7 @@ use lib.ListN.{getD}
 use Rattle.words.specs.Bits.{bitAt}
 use Rattle.cells.specs.declared.table.Slots.{Slots}
 use Rattle.cells.specs.Table.{slots}
-use Rattle.card.specs.Address.{connectorCount, firstCell, firstConnector, among, baseOf}
+use Rattle.card.specs.Address.{connectorCount, firstCell, firstConnector, among, baseOf, isInverted, isEdge}
 
 -- the level at a base: "base 0 is always low", cells, connectors; "17-32 and 49-63 are reserved", and low
 unfoldable pub levelAt : ℕ → (ℕ → Bool) → (ℕ → Bool) → ℕ → Bool
@@ -15,13 +15,12 @@ levelAt n cells connectors b =
     cond (among firstCell n b) (cells (b - firstCell)) (cond (among firstConnector connectorCount b) (connectors (b - firstConnector)) false)
 
 -- "0-63 reads the level, 64-127 its inverse, 128-191 is high in a tick where the level rose, 192-255 where it fell"
-unfoldable pub readsLevels : ℕ → Bool → Bool → Bool
-readsLevels a now before =
-    cond (ltb a 64) now (cond (ltb a 128) (not now) (cond (ltb a 192) (now && not before) (not now && before)))
+unfoldable pub readsLevels : (inverted edge now before : Bool) → Bool
+readsLevels inverted edge now before = cond edge (cond inverted (not now && before) (now && not before)) (cond inverted (not now) now)
 
--- "Exception: 192 is high in every tick, 128 never": 128 is never high because base 0 is always low
+-- by base, inverted and edge, as the chart has them; "Exception: 192 is high in every tick, 128 never": 128 is never high because base 0 is always low
 unfoldable pub reads : (ℕ → Bool) → (ℕ → Bool) → ℕ → Bool
-reads now before a = cond (eqb a 192) true (readsLevels a (now (baseOf a)) (before (baseOf a)))
+reads now before a = cond (eqb a 192) true (readsLevels (isInverted a) (isEdge a) (now (baseOf a)) (before (baseOf a)))
 
 -- the readings of the four slots of a cell
 unfoldable pub slotsRead : (ℕ → Bool) → (ℕ → Bool) → List ℕ → Slots

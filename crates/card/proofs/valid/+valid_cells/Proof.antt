@@ -17,16 +17,16 @@ use Rattle.card.proofs.valid.valid_cell.Reads as valid-cell-reads
 use Rattle.card.proofs.valid.+valid_cells.{statement}
 use Rattle.card.proofs.valid.+valid_cells.Tie.{close}
 
-abbrev μ-valid-cells : Measures 0 valid-cells-kinds.ps ℕ
-μ-valid-cells κs a = a .1 .0
+abbrev μ-valid-cells : Measures 1 valid-cells-kinds.ps ℕ
+μ-valid-cells κs a = a .1 .1 .0
 
-abbrev valid-cells-at : ℕ → In 0 valid-cells-kinds.ps
+abbrev valid-cells-at : ℕ → In 1 valid-cells-kinds.ps
 valid-cells-at t =
-    and 0 valid-cells-kinds.ps (is 0 valid-cells-kinds.ps μ-valid-cells t) valid-cells.Pre
+    and 1 valid-cells-kinds.ps (is 1 valid-cells-kinds.ps μ-valid-cells t) valid-cells.Pre
 
-abbrev valid-cells-below : ℕ → In 0 valid-cells-kinds.ps
+abbrev valid-cells-below : ℕ → In 1 valid-cells-kinds.ps
 valid-cells-below t =
-    and 0 valid-cells-kinds.ps (falls 0 valid-cells-kinds.ps _<_ μ-valid-cells t) valid-cells.Pre
+    and 1 valid-cells-kinds.ps (falls 1 valid-cells-kinds.ps _<_ μ-valid-cells t) valid-cells.Pre
 
 valid-cells-returns : (t : ℕ) → valid-cells-lts.Need-returns (
   valid-cells-below t,
@@ -86,9 +86,9 @@ valid-cells-returns-2 : (t : ℕ) → valid-cells-lts.Need-returns-2 (
 valid-cells-returns-2 t c =
     let a = c .before .before .before .before .args in
     let one : (a .n - 1) + 1 ≡ a .n = omega arith in
-    tested-next (validCell cellCount) cellCount (a .n - 1) (a .t1) noCell _ _ (omega arith, c .before .before .valid-cells .ensures)
+    tested-next (validCell cellCount) cellCount (a .n - 1) (a .t2) noCell _ _ (omega arith, c .before .before .valid-cells .ensures)
     (omega arith) (search needs) (c .valid-cell .ensures) .1
-    ∙ ap (λ (k : ℕ). every (validCell cellCount) (take k (a .t1))) one
+    ∙ ap (λ (k : ℕ). every (validCell cellCount) (take k (a .t2))) one
 
 pub +valid-cells-spec : {M : Type 1} → statement M
 +valid-cells-spec = close μ-valid-cells λ t. valid-cells-lts.spec (

@@ -22,6 +22,9 @@ cast-front-driven c = search needs
 front-driven-requires : tie.Need-front-driven-requires
 front-driven-requires c κs = search needs
 
+chart-requires : tie.Need-chart-requires
+chart-requires c κs = search needs
+
 valid-cells-requires : tie.Need-valid-cells-requires
 valid-cells-requires c κs = search needs
 
@@ -31,13 +34,14 @@ valid-connectors-requires c κs = search needs
 returns : tie.Need-returns
 unfolding valid
 returns c =
-    let f = c .before .before in
+    let v = c .before .before in
+    let f = v .before .before .before in
     let b = f .before .before in
     let a = b .before .before .args in
     let sixteen : length (a .cells) ≡ cellCount = search needs in
     let taken = length-take-le cellCount (a .cells) (omega arith) in
     let others : length (a .t3) ≡ connectorCount = search needs in
-    rw (b .bad-clock .ensures, f .front-driven .ensures, c .before .valid-cells .ensures, c .valid-connectors .ensures, taken, others, and-true)
+    rw (b .bad-clock .ensures, f .front-driven .ensures, v .valid-cells .ensures, c .valid-connectors .ensures, taken, others, and-true)
 
 pub valid-settings-spec : {M : Type 1} → statement M
 valid-settings-spec =
@@ -47,6 +51,7 @@ valid-settings-spec =
     bad-clock-requires
     cast-front-driven
     front-driven-requires
+    chart-requires
     valid-cells-requires
     valid-connectors-requires
     returns)

@@ -1,19 +1,24 @@
--- `card::valid::valid_slot` meets its contract, for a used slot and for another.
-use borrow.Author.Needs.{needs}
+-- `card::valid::valid_slot` meets its contract, for a used slot by its entry, and for another.
+use Rattle.card.specs.Address.{cellCount}
 use Rattle.card.specs.Valid.{validSlot}
+use Rattle.card.proofs.ChartLaws.{entry-allowed}
+use borrow.Author.Needs.{needs}
 use Rattle.card.proofs.valid.valid_slot.Statement.{statement}
 use Rattle.card.proofs.valid.valid_slot.Tie as tie
 
-bad-address-requires : tie.Need-bad-address-requires
-bad-address-requires c κs = search needs
+entry-of-requires : tie.Need-entry-of-requires
+entry-of-requires c κs = search needs
 
 returns : tie.Need-returns
 unfolding validSlot
-returns c = rw (c .before .if1 .taken, c .bad-address .ensures)
+returns c =
+    let e = c .before .before in
+    let a = e .before .before .args in
+    rw (e .before .if1 .taken, e .entry-of .ensures, entry-allowed cellCount (a .a) (search needs))
 
 returns-2 : tie.Need-returns-2
 unfolding validSlot
 returns-2 c = rw (c .if1 .left)
 
 pub valid-slot-spec : {M : Type 1} → statement M
-valid-slot-spec = tie.close (tie.spec bad-address-requires returns returns-2)
+valid-slot-spec = tie.close (tie.spec entry-of-requires returns returns-2)

@@ -34,7 +34,7 @@ returns : tie.Need-returns
 unfolding validSlots
 returns c =
     let a = c .before .before .before .before .before .before .args in
-    let four : length (a .t2) ≡ 4 = search needs in
+    let four : length (a .t3) ≡ 4 = search needs in
     rw (c .before .before .before .valid-slot .ensures, c .before .before .valid-slot2 .ensures, c .before .valid-slot3 .ensures, c .valid-slot4 .ensures, four)
 
 pub valid-slots-spec : {M : Type 1} → statement M

@@ -1,33 +1,21 @@
--- `lines::writes::any_bad_address` meets its contract: each test by its call.
+-- `lines::writes::any_bad_address` meets its contract: the four tests by one call.
+use mathlib.Core.Path.{ap, _∙_}
+use Rattle.cells.specs.declared.table.Slots.{Slots}
+use Rattle.lines.specs.Refusal.{anyGiven}
 use borrow.Author.Needs.{needs}
 use Rattle.lines.proofs.writes.any_bad_address.Statement.{statement}
 use Rattle.lines.proofs.writes.any_bad_address.Tie as tie
 
-bad-address-requires : tie.Need-bad-address-requires
-bad-address-requires c κs = search needs
-
-bad-address-requires-2 : tie.Need-bad-address-requires-2
-bad-address-requires-2 c κs = search needs
-
-bad-address-requires-3 : tie.Need-bad-address-requires-3
-bad-address-requires-3 c κs = search needs
-
-bad-address-requires-4 : tie.Need-bad-address-requires-4
-bad-address-requires-4 c κs = search needs
+bad-addresses-requires : tie.Need-bad-addresses-requires
+bad-addresses-requires c κs = search needs
 
 any-given-requires : tie.Need-any-given-requires
 any-given-requires c κs = search needs
 
 returns : tie.Need-returns
-returns c = cc
+returns c =
+    let p = c .before .before .args .p in
+    c .any-given .ensures ∙ ap (λ (s : Slots). anyGiven (p .given) (s .x) (s .y) (s .z) (s .f)) (c .before .bad-addresses .ensures)
 
 pub any-bad-address-spec : {M : Type 1} → statement M
-any-bad-address-spec =
-    tie.close
-    (tie.spec
-    bad-address-requires
-    bad-address-requires-2
-    bad-address-requires-3
-    bad-address-requires-4
-    any-given-requires
-    returns)
+any-bad-address-spec = tie.close (tie.spec bad-addresses-requires any-given-requires returns)
