@@ -1,4 +1,4 @@
-// A card wired and ticked through the static library of crates/trigger:
+// A card wired and ticked through the static library of crates/trigger, as clients/rust wraps it:
 //
 //     card CARD KIND N [show]
 //
@@ -7,129 +7,12 @@
 // what plrun is to be given for the same wiring and ticks, and on standard error what plrun must answer to the ticks.
 use std::hint::black_box;
 
-// The structs of crates/cells, crates/card and crates/lines that cross the interface, field by field.
-#[allow(dead_code)]
-mod trigger {
-    #[repr(C)]
-    #[derive(Clone, Copy)]
-    pub struct Pulses(pub u32);
+use trigger::{Answer, Card, Input};
 
-    #[repr(C)]
-    #[derive(Clone, Copy)]
-    pub struct State {
-        pub count: Pulses,
-        pub bit: bool,
-        pub pulse: bool,
-    }
-
-    #[repr(C)]
-    #[derive(Clone, Copy)]
-    pub struct Cell {
-        pub kind: u8,
-        pub config: u32,
-        pub slots: [u8; 4],
-        pub state: State,
-    }
-
-    #[repr(C)]
-    #[derive(Clone, Copy)]
-    pub struct Connector {
-        pub kind: u8,
-        pub source: u8,
-    }
-
-    #[repr(C)]
-    #[derive(Clone, Copy)]
-    pub struct Memory {
-        pub driven: u16,
-        pub outputs: u16,
-        pub outputs2: u16,
-        pub outputs3: u16,
-        pub levels: u16,
-        pub levels2: u16,
-    }
-
-    #[repr(C)]
-    #[derive(Clone, Copy)]
-    pub struct Card {
-        pub cells: [Cell; 16],
-        pub connectors: [Connector; 16],
-        pub edited: u64,
-        pub memory: Memory,
-        pub pointer: u8,
-        pub trigger: u8,
-    }
-
-    #[repr(C)]
-    #[derive(Clone, Copy)]
-    pub struct Input {
-        pub code: u8,
-        pub sample: u16,
-        pub attached: u16,
-    }
-
-    #[repr(C)]
-    pub struct Answer {
-        pub ran: bool,
-        pub driven: u16,
-        pub cells: u16,
-        pub woken: u16,
-        pub count: u32,
-    }
-
-    #[repr(C)]
-    pub struct Ticked {
-        pub card: Card,
-        pub answer: Answer,
-    }
-
-    #[repr(C)]
-    pub struct Answered {
-        pub card: Card,
-        pub k: u8,
-        pub len: usize,
-    }
-
-    // A slice of Rattle is a pointer and a length.
-    #[link(name = "trigger", kind = "static")]
-    extern "C" {
-        pub fn trigger_fresh() -> Card;
-        pub fn trigger_full_tick(card: Card, input: Input) -> Ticked;
-        pub fn trigger_quick_tick(card: Card, input: Input) -> Ticked;
-        pub fn trigger_at_rest(card: Card, input: Input) -> bool;
-        pub fn trigger_line(
-            card: Card,
-            text: *const u8,
-            text_len: usize,
-            reply: *mut u8,
-            reply_len: usize,
-            store: *mut u8,
-            store_len: usize,
-        ) -> Answered;
-    }
-}
-
-use trigger::{Answer, Card, Input, Ticked};
-
-// The card after a line that must not be refused.
-fn line(card: Card, text: &str) -> Card {
-    let (mut reply, mut store) = ([0u8; 16], [0u8; 308]);
-    let answered = unsafe {
-        trigger::trigger_line(
-            card,
-            text.as_ptr(),
-            text.len(),
-            reply.as_mut_ptr(),
-            reply.len(),
-            store.as_mut_ptr(),
-            store.len(),
-        )
-    };
-    assert!(
-        answered.k == 0 && reply.starts_with(b":A\r\n"),
-        "{text} is refused"
-    );
-    answered.card
+// A line that must not be refused.
+fn line(card: &mut Card, text: &str) {
+    let reply = card.line(text.as_bytes(), &mut []);
+    assert_eq!(reply.result(), Ok(None), "{text} is refused");
 }
 
 // A fixed sequence of numbers.
@@ -195,11 +78,7 @@ fn waking(n: usize) -> Vec<String> {
         } else {
             (10, "36CCB X=41 Y=42 Z=43 F=44")
         };
-        [
-            format!("M E={i}"),
-            format!("36CCA Y={kind}"),
-            slots.into(),
-        ]
+        [format!("M E={i}"), format!("36CCA Y={kind}"), slots.into()]
     };
     (1..=16).flat_map(cell).collect()
 }
@@ -214,18 +93,15 @@ fn show(answer: &Answer, input: Input, kind: &str) {
         "T {code} {sample:04x} {attached:04x} {}",
         if kind == "quick" { 'Q' } else { 'F' }
     );
-    if answer.ran {
-        let Answer {
-            driven,
-            cells,
-            woken,
-            count,
-            ..
-        } = answer;
-        eprintln!("T {driven:04x} {cells:04x} {woken:04x} {count}");
-    } else {
-        eprintln!("T -");
-    }
+    eprintln!("{answer}");
+}
+
+// The kinds of turns of the loop.
+#[derive(Clone, Copy)]
+enum Turn {
+    Full,
+    Quick,
+    None,
 }
 
 fn main() {
@@ -237,10 +113,10 @@ fn main() {
         _ => panic!("card CARD KIND N [show]"),
     };
     let n: u32 = n.parse().expect("a number of ticks");
-    let tick: Option<unsafe extern "C" fn(Card, Input) -> Ticked> = match kind {
-        "full" | "idle" => Some(trigger::trigger_full_tick),
-        "quick" => Some(trigger::trigger_quick_tick),
-        "none" => None,
+    let turn = match kind {
+        "full" | "idle" => Turn::Full,
+        "quick" => Turn::Quick,
+        "none" => Turn::None,
         _ => panic!("full, quick, idle or none"),
     };
     let mut random = Random(1);
@@ -257,11 +133,8 @@ fn main() {
     if shown {
         lines.iter().for_each(|text| println!("{text}"));
     }
-    let mut card = lines
-        .iter()
-        .fold(unsafe { trigger::trigger_fresh() }, |card, text| {
-            line(card, text)
-        });
+    let mut card = Card::fresh();
+    lines.iter().for_each(|text| line(&mut card, text));
     let moving = name == "busy";
     let code = if kind == "idle" { 9 } else { 0 };
     let (mut checksum, mut woken) = (0u32, 0u64);
@@ -272,15 +145,14 @@ fn main() {
             sample,
             attached: 0xffff,
         };
-        let Some(tick) = tick else {
-            black_box(input);
-            continue;
+        let answer = match turn {
+            Turn::Full => card.full_tick(input),
+            Turn::Quick => card.quick_tick(input),
+            Turn::None => {
+                black_box(input);
+                continue;
+            }
         };
-        let Ticked {
-            card: after,
-            answer,
-        } = unsafe { tick(card, input) };
-        card = after;
         checksum =
             checksum.rotate_left(1) ^ u32::from(answer.driven) << 16 ^ u32::from(answer.cells);
         woken += u64::from(answer.count);

@@ -1,0 +1,259 @@
+/*
+ * The trigger card as a static library: target/staticlib/libtrigger.a, made by `rt staticlib trigger`.
+ *
+ * A card is one value without pointers: a call takes it and returns the card after it. The library allocates nothing and keeps nothing between calls,
+ * so two threads may call it at once, each with cards and buffers of its own.
+ *
+ * Bytes are passed as a pointer and a length. The pointer is never NULL, also where the length is 0; it must be good for that many bytes for the time
+ * of the call, and a buffer that is written must not overlap another buffer of the same call. No buffer needs to end in a zero, and no text that is
+ * written ends in one. What a length leaves no room for is refused, never written.
+ *
+ * `k` is 0, or the number of the refusal; docs/MANUAL.md says what each means. A refused call leaves card and store as they were.
+ */
+#ifndef TRIGGER_H
+#define TRIGGER_H
+
+#include <stdbool.h>
+#include <stddef.h>
+#include <stdint.h>
+
+#define TRIGGER_CELLS 16
+#define TRIGGER_CONNECTORS 16
+
+/* The fewest bytes that a reply buffer may have; no reply is longer. */
+#define TRIGGER_REPLY 16
+
+/* The length of a record, which `36SS Z` writes and a load takes. */
+#define TRIGGER_RECORD 308
+
+/* The length of an old record, which a load takes as well. */
+#define TRIGGER_OLD_RECORD 276
+
+/* A buffer of this length has room for the wiring of any card. */
+#define TRIGGER_TEXT 2771
+
+/* What a cell keeps between ticks: a flip-flop's bit, a timer's count and pulse, a counter's count and, as bit, whether it is active. */
+typedef struct {
+    uint32_t count;
+    bool bit;
+    bool pulse;
+} trigger_state;
+
+/* A cell: its type, its configuration, the addresses in its slots X Y Z F, and its state. */
+typedef struct {
+    uint8_t kind;
+    uint32_t config;
+    uint8_t slots[4];
+    trigger_state state;
+} trigger_cell;
+
+/* A connector: its type (0 input, 1 open-drain, 2 push-pull) and the address that it is driven from. */
+typedef struct {
+    uint8_t kind;
+    uint8_t source;
+} trigger_connector;
+
+/* The words of the last tick that ran, of the one before it (2), and of the one before that (3). */
+typedef struct {
+    uint16_t driven;
+    uint16_t outputs;
+    uint16_t outputs2;
+    uint16_t outputs3;
+    uint16_t levels;
+    uint16_t levels2;
+} trigger_memory;
+
+/*
+ * The card: cells 1 to 16, connectors BNC1 to BNC8 and TTL0 to TTL7, the set of edited cells, what is remembered of ticks, the place that lines are
+ * for (1 to 16 or 33 to 48), and the code of the clock that it ticks by. Read it as you like; to change it, use lines.
+ */
+typedef struct {
+    trigger_cell cells[TRIGGER_CELLS];
+    trigger_connector connectors[TRIGGER_CONNECTORS];
+    uint64_t edited;
+    trigger_memory memory;
+    uint8_t pointer;
+    uint8_t trigger;
+} trigger_card;
+
+/* What comes in with a tick: the code of its clock, the levels at the connectors (bits 0-7 BNC1-8, 8-15 TTL0-7), and which have something attached. */
+typedef struct {
+    uint8_t code;
+    uint16_t sample;
+    uint16_t attached;
+} trigger_input;
+
+/*
+ * What a tick answers: whether it ran; what the card drives at the connectors, in the order of the sample; the outputs of the cells, bit 0 of cell 1;
+ * which cells were worked out, and how many. A tick of another clock than the card's does not run, and its words are 0.
+ */
+typedef struct {
+    bool ran;
+    uint16_t driven;
+    uint16_t cells;
+    uint16_t woken;
+    uint32_t count;
+} trigger_answer;
+
+/* The card after a tick, and the answer. */
+typedef struct {
+    trigger_card card;
+    trigger_answer answer;
+} trigger_ticked;
+
+/* The card after a line, the number of the refusal, and the length of the reply. */
+typedef struct {
+    trigger_card card;
+    uint8_t k;
+    size_t len;
+} trigger_answered;
+
+/* The card after a load, and the number of the refusal. */
+typedef struct {
+    trigger_card card;
+    uint8_t k;
+} trigger_loaded;
+
+/* The number of the refusal, and the length of the text, 0 where it is refused. */
+typedef struct {
+    uint8_t k;
+    size_t len;
+} trigger_printed;
+
+/* The number of the refusal, and the length of the converted record, 0 where it is refused. */
+typedef struct {
+    uint8_t k;
+    size_t len;
+} trigger_converted;
+
+#ifdef __cplusplus
+extern "C" {
+#endif
+
+/* A card as it first powers up. */
+trigger_card trigger_fresh(void);
+
+/* A tick in which every cell is worked out. */
+trigger_ticked trigger_full_tick(trigger_card card, trigger_input input);
+
+/*
+ * A tick in which only those cells are worked out that the waking rules name. On a card that calls have made, the card after it, the driven word and
+ * the cell word are those of a full tick.
+ */
+trigger_ticked trigger_quick_tick(trigger_card card, trigger_input input);
+
+/* Whether a quick tick with this input would work out no cell and leave the card as it is. Then the clock may stop until something else comes in. */
+bool trigger_at_rest(trigger_card card, trigger_input input);
+
+/*
+ * One line, without an ending. The reply is written to the front of its buffer, with CR LF: `:A`, `:A n` or `:N-k`. A reply buffer of fewer than
+ * TRIGGER_REPLY bytes is refused with 1, and nothing is written. `36SS Z` writes the record to the front of the store and is refused with 1 where the
+ * store has fewer than TRIGGER_RECORD bytes; other lines leave the store alone.
+ */
+trigger_answered trigger_line(trigger_card card, const uint8_t *text, size_t text_len, uint8_t *reply, size_t reply_len, uint8_t *store,
+                              size_t store_len);
+
+/*
+ * The card powers up with the settings in a record. Any bytes may be given: 14 where they are not a record of TRIGGER_RECORD or TRIGGER_OLD_RECORD
+ * bytes, 15 where its settings are none that lines can set.
+ */
+trigger_loaded trigger_load(trigger_card card, const uint8_t *bytes, size_t bytes_len);
+
+/*
+ * The settings as lines, each with LF, to the front of the buffer: given to a fresh card, they set the same wiring. 16 where the buffer has no room
+ * for them; it then stays as it was.
+ */
+trigger_printed trigger_print(trigger_card card, uint8_t *buffer, size_t buffer_len);
+
+/*
+ * A record in its other form, to the front of the buffer: the old one of a present one, and back. 14 where the length is that of neither, else 1 where
+ * the buffer has no room for the result, else what a load of the record gives, else 17 where the old form has no room for a duration. Where it is
+ * refused, the buffer stays as it was.
+ */
+trigger_converted trigger_convert(const uint8_t *bytes, size_t bytes_len, uint8_t *buffer, size_t buffer_len);
+
+#ifdef __cplusplus
+}
+#endif
+
+/* The layout of the library, on a machine with pointers of 64 bits. */
+#ifdef __cplusplus
+#define TRIGGER_CHECK(test) static_assert(test, #test)
+#else
+#define TRIGGER_CHECK(test) _Static_assert(test, #test)
+#endif
+#define TRIGGER_SIZE(type, size) TRIGGER_CHECK(sizeof(type) == (size))
+#define TRIGGER_AT(type, field, at) TRIGGER_CHECK(offsetof(type, field) == (at))
+
+TRIGGER_SIZE(bool, 1);
+TRIGGER_SIZE(size_t, 8);
+
+TRIGGER_SIZE(trigger_state, 8);
+TRIGGER_AT(trigger_state, count, 0);
+TRIGGER_AT(trigger_state, bit, 4);
+TRIGGER_AT(trigger_state, pulse, 5);
+
+TRIGGER_SIZE(trigger_cell, 20);
+TRIGGER_AT(trigger_cell, kind, 0);
+TRIGGER_AT(trigger_cell, config, 4);
+TRIGGER_AT(trigger_cell, slots, 8);
+TRIGGER_AT(trigger_cell, state, 12);
+
+TRIGGER_SIZE(trigger_connector, 2);
+TRIGGER_AT(trigger_connector, kind, 0);
+TRIGGER_AT(trigger_connector, source, 1);
+
+TRIGGER_SIZE(trigger_memory, 12);
+TRIGGER_AT(trigger_memory, driven, 0);
+TRIGGER_AT(trigger_memory, outputs, 2);
+TRIGGER_AT(trigger_memory, outputs2, 4);
+TRIGGER_AT(trigger_memory, outputs3, 6);
+TRIGGER_AT(trigger_memory, levels, 8);
+TRIGGER_AT(trigger_memory, levels2, 10);
+
+TRIGGER_SIZE(trigger_card, 376);
+TRIGGER_AT(trigger_card, cells, 0);
+TRIGGER_AT(trigger_card, connectors, 320);
+TRIGGER_AT(trigger_card, edited, 352);
+TRIGGER_AT(trigger_card, memory, 360);
+TRIGGER_AT(trigger_card, pointer, 372);
+TRIGGER_AT(trigger_card, trigger, 373);
+
+TRIGGER_SIZE(trigger_input, 6);
+TRIGGER_AT(trigger_input, code, 0);
+TRIGGER_AT(trigger_input, sample, 2);
+TRIGGER_AT(trigger_input, attached, 4);
+
+TRIGGER_SIZE(trigger_answer, 12);
+TRIGGER_AT(trigger_answer, ran, 0);
+TRIGGER_AT(trigger_answer, driven, 2);
+TRIGGER_AT(trigger_answer, cells, 4);
+TRIGGER_AT(trigger_answer, woken, 6);
+TRIGGER_AT(trigger_answer, count, 8);
+
+TRIGGER_SIZE(trigger_ticked, 392);
+TRIGGER_AT(trigger_ticked, card, 0);
+TRIGGER_AT(trigger_ticked, answer, 376);
+
+TRIGGER_SIZE(trigger_answered, 392);
+TRIGGER_AT(trigger_answered, card, 0);
+TRIGGER_AT(trigger_answered, k, 376);
+TRIGGER_AT(trigger_answered, len, 384);
+
+TRIGGER_SIZE(trigger_loaded, 384);
+TRIGGER_AT(trigger_loaded, card, 0);
+TRIGGER_AT(trigger_loaded, k, 376);
+
+TRIGGER_SIZE(trigger_printed, 16);
+TRIGGER_AT(trigger_printed, k, 0);
+TRIGGER_AT(trigger_printed, len, 8);
+
+TRIGGER_SIZE(trigger_converted, 16);
+TRIGGER_AT(trigger_converted, k, 0);
+TRIGGER_AT(trigger_converted, len, 8);
+
+#undef TRIGGER_AT
+#undef TRIGGER_SIZE
+#undef TRIGGER_CHECK
+
+#endif

@@ -1,0 +1,251 @@
+//! The sixteen-cell trigger card, as a value.
+//!
+//! A [`Card`] starts [`fresh`](Card::fresh), is wired by [lines](Card::line), and ticks [full](Card::full_tick) or [quick](Card::quick_tick). It saves its
+//! wiring as a record (the line `36SS Z`), [loads](Card::load) one, and [prints](Card::print) its wiring as lines. The calls are those of the static
+//! library of crates/trigger, which is proved; they allocate nothing and keep nothing between calls.
+//!
+//! ```
+//! let mut card = trigger::Card::fresh();
+//! let mut store = [0; trigger::RECORD];
+//! for text in ["M E=33", "36CCA Z=41"] {
+//!     card.line(text.as_bytes(), &mut store).result().expect("not refused");
+//! }
+//! let input = trigger::Input { code: 0, sample: 0x0100, attached: 0xffff };
+//! card.quick_tick(input);
+//! assert_eq!(card.quick_tick(input).driven, 1);
+//! ```
+#![no_std]
+#![warn(missing_docs)]
+
+mod raw;
+
+use core::fmt;
+use core::num::NonZeroU8;
+use core::str;
+
+pub use raw::{Answer, Cell, Connector, Input, State, CELLS, CONNECTORS};
+
+/// The length of a record: a store needs as many bytes for `36SS Z`.
+pub const RECORD: usize = 308;
+
+/// The length of an old record, which a load takes as well.
+pub const OLD_RECORD: usize = 276;
+
+/// A buffer of this length has room for the wiring of any card.
+pub const TEXT: usize = 2771;
+
+// The longest reply, which is also the fewest bytes that the library takes for a reply buffer.
+const REPLY: usize = 16;
+
+/// The number of a refusal; docs/MANUAL.md says what each means. It displays as plrun prints it, `:N-9`.
+#[derive(Clone, Copy, Debug, PartialEq, Eq)]
+pub struct Refusal(NonZeroU8);
+
+impl Refusal {
+    /// The number.
+    pub fn number(self) -> u8 {
+        self.0.get()
+    }
+}
+
+impl fmt::Display for Refusal {
+    fn fmt(&self, f: &mut fmt::Formatter) -> fmt::Result {
+        write!(f, ":N-{}", self.0)
+    }
+}
+
+impl core::error::Error for Refusal {}
+
+// 0 is no refusal.
+#[inline]
+fn accepted(k: u8) -> Result<(), Refusal> {
+    NonZeroU8::new(k).map_or(Ok(()), |k| Err(Refusal(k)))
+}
+
+/// The reply to a line. It displays as plrun prints it: `:A`, `:A 12` or `:N-9`.
+#[derive(Clone, Copy, Debug, PartialEq, Eq)]
+pub struct Reply {
+    k: u8,
+    len: usize,
+    buffer: [u8; REPLY],
+}
+
+impl Reply {
+    /// What the card would send, with CR LF at its end.
+    pub fn bytes(&self) -> &[u8] {
+        &self.buffer[..self.len]
+    }
+
+    /// The refusal, or the number that an accepted line was answered with, if any.
+    pub fn result(&self) -> Result<Option<u32>, Refusal> {
+        accepted(self.k)?;
+        Ok(self.text().strip_prefix(":A ").and_then(|n| n.parse().ok()))
+    }
+
+    fn text(&self) -> &str {
+        str::from_utf8(self.bytes())
+            .expect("a reply is ASCII")
+            .trim_end()
+    }
+}
+
+impl fmt::Display for Reply {
+    fn fmt(&self, f: &mut fmt::Formatter) -> fmt::Result {
+        f.write_str(self.text())
+    }
+}
+
+/// As plrun prints it: driven word, cells and woken set in hex and how many woke, or `T -` where the tick did not run.
+impl fmt::Display for Answer {
+    fn fmt(&self, f: &mut fmt::Formatter) -> fmt::Result {
+        let Answer {
+            ran,
+            driven,
+            cells,
+            woken,
+            count,
+        } = self;
+        if *ran {
+            write!(f, "T {driven:04x} {cells:04x} {woken:04x} {count}")
+        } else {
+            f.write_str("T -")
+        }
+    }
+}
+
+/// A card.
+#[derive(Clone, Copy, Debug, PartialEq, Eq)]
+pub struct Card(raw::Card);
+
+impl Default for Card {
+    fn default() -> Card {
+        Card::fresh()
+    }
+}
+
+// In each unsafe block below the slices are valid as references are, and those that are written overlap nothing, since they are borrowed mutably.
+impl Card {
+    /// A card as it first powers up.
+    #[inline]
+    pub fn fresh() -> Card {
+        Card(unsafe { raw::trigger_fresh() })
+    }
+
+    /// A tick in which every cell is worked out.
+    #[inline]
+    pub fn full_tick(&mut self, input: Input) -> Answer {
+        let ticked = unsafe { raw::trigger_full_tick(self.0, input) };
+        self.0 = ticked.card;
+        ticked.answer
+    }
+
+    /// A tick in which only those cells are worked out that the waking rules name. The card after it, the driven word and the cell word are
+    /// those of a full tick.
+    #[inline]
+    pub fn quick_tick(&mut self, input: Input) -> Answer {
+        let ticked = unsafe { raw::trigger_quick_tick(self.0, input) };
+        self.0 = ticked.card;
+        ticked.answer
+    }
+
+    /// Whether a quick tick with this input would work out no cell and leave the card as it is. Then the clock may stop until something else comes in.
+    #[inline]
+    pub fn at_rest(&self, input: Input) -> bool {
+        unsafe { raw::trigger_at_rest(self.0, input) }
+    }
+
+    /// One line, without an ending. A refused line leaves card and store as they were. `36SS Z` writes the record to the front of the store, and is
+    /// refused with 1 where that has fewer than [`RECORD`] bytes; other lines do not look at the store, which may be empty for them.
+    #[inline]
+    pub fn line(&mut self, text: &[u8], store: &mut [u8]) -> Reply {
+        let mut buffer = [0; REPLY];
+        let answered = unsafe {
+            raw::trigger_line(
+                self.0,
+                text.as_ptr(),
+                text.len(),
+                buffer.as_mut_ptr(),
+                buffer.len(),
+                store.as_mut_ptr(),
+                store.len(),
+            )
+        };
+        self.0 = answered.card;
+        Reply {
+            k: answered.k,
+            len: answered.len,
+            buffer,
+        }
+    }
+
+    /// The card powers up with the settings in a record. Any bytes may be given: 14 where they are not a record of [`RECORD`] or [`OLD_RECORD`] bytes,
+    /// 15 where its settings are none that lines can set; the card is then as it was.
+    #[inline]
+    pub fn load(&mut self, record: &[u8]) -> Result<(), Refusal> {
+        let loaded = unsafe { raw::trigger_load(self.0, record.as_ptr(), record.len()) };
+        self.0 = loaded.card;
+        accepted(loaded.k)
+    }
+
+    /// The settings as lines, each with LF, written to the front of the buffer: given to a fresh card, they set the same wiring. 16 where the buffer
+    /// has no room for them; it then stays as it was. [`TEXT`] bytes are always enough.
+    #[inline]
+    pub fn print<'a>(&self, buffer: &'a mut [u8]) -> Result<&'a str, Refusal> {
+        let printed = unsafe { raw::trigger_print(self.0, buffer.as_mut_ptr(), buffer.len()) };
+        accepted(printed.k)?;
+        Ok(str::from_utf8(&buffer[..printed.len]).expect("a wiring is ASCII"))
+    }
+
+    /// Cells 1 to 16.
+    pub fn cells(&self) -> &[Cell; CELLS] {
+        &self.0.cells
+    }
+
+    /// The connectors: BNC1 to BNC8, then TTL0 to TTL7.
+    pub fn connectors(&self) -> &[Connector; CONNECTORS] {
+        &self.0.connectors
+    }
+
+    /// The place that lines are for: a cell, 1 to 16, or a connector, 33 to 48.
+    pub fn pointer(&self) -> u8 {
+        self.0.pointer
+    }
+
+    /// The code of the clock that the card ticks by.
+    pub fn trigger(&self) -> u8 {
+        self.0.trigger
+    }
+
+    /// What the card drove at the connectors in the last tick that ran, in the order of the sample.
+    pub fn driven(&self) -> u16 {
+        self.0.memory.driven
+    }
+
+    /// The outputs of the cells in the last tick that ran, bit 0 of cell 1.
+    pub fn outputs(&self) -> u16 {
+        self.0.memory.outputs
+    }
+
+    /// The levels of the connectors in the last tick that ran, in the order of the sample.
+    pub fn levels(&self) -> u16 {
+        self.0.memory.levels
+    }
+}
+
+/// A record in its other form, written to the front of the buffer: the old one of a present one, and back. 14 where the length is that of neither, else
+/// 1 where the buffer has no room for the result, else what a [load](Card::load) of the record gives, else 17 where the old form has no room for a
+/// duration. Where it is refused, the buffer stays as it was.
+#[inline]
+pub fn convert<'a>(record: &[u8], buffer: &'a mut [u8]) -> Result<&'a [u8], Refusal> {
+    // The slices are valid as references are, and the borrowed buffer overlaps nothing.
+    let converted = unsafe {
+        raw::trigger_convert(
+            record.as_ptr(),
+            record.len(),
+            buffer.as_mut_ptr(),
+            buffer.len(),
+        )
+    };
+    accepted(converted.k)?;
+    Ok(&buffer[..converted.len])
+}

@@ -1,0 +1,186 @@
+//! The structs that cross the interface of the static library, field by field, and its calls. Each struct stands in the crate of the repository that its
+//! comment names; a field added there is added here and in clients/c/trigger.h, at the same place.
+use core::mem::{offset_of, size_of};
+
+/// How many cells a card has.
+pub const CELLS: usize = 16;
+
+/// How many connectors a card has.
+pub const CONNECTORS: usize = 16;
+
+/// What a cell keeps between ticks.
+// crates/cells/src/cell.rt; `Pulses` there is a struct around the count.
+#[repr(C)]
+#[derive(Clone, Copy, Debug, PartialEq, Eq)]
+pub struct State {
+    /// A timer's count of pulses left, or a counter's count.
+    pub count: u32,
+    /// A flip-flop's bit, or whether a counter is active.
+    pub bit: bool,
+    /// Whether a delay's pulse is on.
+    pub pulse: bool,
+}
+
+/// One of the cells.
+// crates/cells/src/cell.rt
+#[repr(C)]
+#[derive(Clone, Copy, Debug, PartialEq, Eq)]
+pub struct Cell {
+    /// Its type.
+    pub kind: u8,
+    /// A constant, a lookup's code or a duration; 0 where the type has none.
+    pub config: u32,
+    /// The addresses in its slots X, Y, Z and F.
+    pub slots: [u8; 4],
+    /// What it keeps between ticks.
+    pub state: State,
+}
+
+/// A front or backplane connector.
+// crates/card/src/card.rt
+#[repr(C)]
+#[derive(Clone, Copy, Debug, PartialEq, Eq)]
+pub struct Connector {
+    /// Its type: 0 input, 1 open-drain, 2 push-pull.
+    pub kind: u8,
+    /// The address that it is driven from.
+    pub source: u8,
+}
+
+// crates/card/src/card.rt
+#[repr(C)]
+#[derive(Clone, Copy, Debug, PartialEq, Eq)]
+pub struct Memory {
+    pub driven: u16,
+    pub outputs: u16,
+    pub outputs2: u16,
+    pub outputs3: u16,
+    pub levels: u16,
+    pub levels2: u16,
+}
+
+// crates/card/src/card.rt
+#[repr(C)]
+#[derive(Clone, Copy, Debug, PartialEq, Eq)]
+pub struct Card {
+    pub cells: [Cell; CELLS],
+    pub connectors: [Connector; CONNECTORS],
+    pub edited: u64,
+    pub memory: Memory,
+    pub pointer: u8,
+    pub trigger: u8,
+}
+
+/// What comes in with a tick.
+// crates/ticks/src/tick.rt
+#[repr(C)]
+#[derive(Clone, Copy, Debug, PartialEq, Eq)]
+pub struct Input {
+    /// The code of its clock.
+    pub code: u8,
+    /// The levels at the connectors: bits 0 to 7 BNC1 to BNC8, bits 8 to 15 TTL0 to TTL7.
+    pub sample: u16,
+    /// Which connectors have something attached, in the order of the sample.
+    pub attached: u16,
+}
+
+/// What a tick answers. A tick of another clock than the card's does not run, and its words are 0.
+// crates/ticks/src/tick.rt
+#[repr(C)]
+#[derive(Clone, Copy, Debug, PartialEq, Eq)]
+pub struct Answer {
+    /// Whether the tick ran.
+    pub ran: bool,
+    /// What the card drives at the connectors, in the order of the sample.
+    pub driven: u16,
+    /// The outputs of the cells, bit 0 of cell 1.
+    pub cells: u16,
+    /// The cells that were worked out.
+    pub woken: u16,
+    /// How many these are.
+    pub count: u32,
+}
+
+// crates/ticks/src/tick.rt
+#[repr(C)]
+pub struct Ticked {
+    pub card: Card,
+    pub answer: Answer,
+}
+
+// crates/lines/src/line.rt
+#[repr(C)]
+pub struct Answered {
+    pub card: Card,
+    pub k: u8,
+    pub len: usize,
+}
+
+// crates/saved/src/record.rt
+#[repr(C)]
+pub struct Loaded {
+    pub card: Card,
+    pub k: u8,
+}
+
+// crates/printed/src/print.rt
+#[repr(C)]
+pub struct Printed {
+    pub k: u8,
+    pub len: usize,
+}
+
+// crates/convert/src/lib.rt
+#[repr(C)]
+pub struct Converted {
+    pub k: u8,
+    pub len: usize,
+}
+
+// A slice of the library is a pointer and a length. Every call takes every value; what the caller sees to is that each slice is valid, and that none
+// that is written overlaps another.
+#[link(name = "trigger", kind = "static")]
+extern "C" {
+    pub fn trigger_fresh() -> Card;
+    pub fn trigger_full_tick(card: Card, input: Input) -> Ticked;
+    pub fn trigger_quick_tick(card: Card, input: Input) -> Ticked;
+    pub fn trigger_at_rest(card: Card, input: Input) -> bool;
+    pub fn trigger_load(card: Card, bytes: *const u8, bytes_len: usize) -> Loaded;
+    pub fn trigger_line(
+        card: Card,
+        text: *const u8,
+        text_len: usize,
+        reply: *mut u8,
+        reply_len: usize,
+        store: *mut u8,
+        store_len: usize,
+    ) -> Answered;
+    pub fn trigger_print(card: Card, buffer: *mut u8, buffer_len: usize) -> Printed;
+    pub fn trigger_convert(
+        bytes: *const u8,
+        bytes_len: usize,
+        buffer: *mut u8,
+        buffer_len: usize,
+    ) -> Converted;
+}
+
+// The size of a struct, and where each of its fields lies.
+macro_rules! layout {
+    ($type:ty: $size:literal, $($field:ident $at:literal),+) => {
+        const _: () = assert!(size_of::<$type>() == $size);
+        $(const _: () = assert!(offset_of!($type, $field) == $at);)+
+    };
+}
+
+layout!(State: 8, count 0, bit 4, pulse 5);
+layout!(Cell: 20, kind 0, config 4, slots 8, state 12);
+layout!(Connector: 2, kind 0, source 1);
+layout!(Memory: 12, driven 0, outputs 2, outputs2 4, outputs3 6, levels 8, levels2 10);
+layout!(Card: 376, cells 0, connectors 320, edited 352, memory 360, pointer 372, trigger 373);
+layout!(Input: 6, code 0, sample 2, attached 4);
+layout!(Answer: 12, ran 0, driven 2, cells 4, woken 6, count 8);
+layout!(Ticked: 392, card 0, answer 376);
+layout!(Answered: 392, card 0, k 376, len 384);
+layout!(Loaded: 384, card 0, k 376);
+layout!(Printed: 16, k 0, len 8);
+layout!(Converted: 16, k 0, len 8);
