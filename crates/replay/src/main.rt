@@ -7,6 +7,7 @@
 // `.lines` are those of the folder examples. `edge` and `late` are worked out by hand from the
 // rules of ticks; `count-quick` and `count-full` are one counter made of flip-flops, ticked both
 // ways.
+// `manual` holds the examples of docs/MANUAL.md, in its order; docs/check-manual compares them.
 // `long` is more than a buffer of input and of output: lines cut at every place by the end of a
 // block of 2048 bytes, lines of thousands of bytes, NUL bytes, and a last line without LF. Ticks,
 // pointer and loads of the store come again and again, so that a card, store or line that is lost
@@ -60,4 +61,5 @@ fn main() {
     replay(b"late.in");
     replay(b"count-quick.in");
     replay(b"count-full.in");
+    replay(b"manual.in");
 }
