@@ -18,7 +18,7 @@ use Rattle.cells.specs.Table.{rowOf, masked, levelSlots, anySlot, slots,
 use Rattle.cells.specs.Work.{constantOut, gateOut, flopNext, trigger, taken, shotBusy, delayBusy, nextCount, nextPulse, countAfter, pulseAfter}
 use Rattle.cells.specs.Work.{keeping, holding, counting, activeAfter, startedBy, keptActive, raised, countedUp, countedAs, counter}
 use Rattle.cells.specs.Work.{workAs, workOut}
-use Rattle.cells.specs.Wake.{timerStirred, flopClock, counterStirred, stirredAs, stirred, hasEdges, NeverStirred, differ, disagreeOn}
+use Rattle.cells.specs.Wake.{timerStirred, flopClock, counterStirred, stirredAs, stirred, hasEdges, NeverStirred, differ, differing, disagreeOn}
 use Rattle.cells.specs.Wake.{disagree, moved, wakes}
 use Rattle.cells.proofs.Rows.{every-row}
 
@@ -98,16 +98,10 @@ slot-same true false true false d h = absurd (true≢false d)
 slot-same true false false true d h = absurd (true≢false d)
 slot-same true false false false d h = refl
 
--- the slots of a set in which two readings have other values
-differing : Slots → Slots → Slots → Slots
-differing s a b = slots (differ (s .x) (a .x) (b .x)) (differ (s .y) (a .y) (b .y)) (differ (s .z) (a .z) (b .z)) (differ (s .f) (a .f) (b .f))
-
 agree : (s a b : Slots) → disagreeOn s a b ≡ false → Empty (differing s a b)
-unfolding differing
 agree s a b d = empty (differing s a b) d
 
 same : (w : Row) (a b : Slots) → disagreeOn (levelSlots w) a b ≡ false → Same (w .edge) (masked (w .used) a) (masked (w .used) b)
-unfolding differing
 same w a b d =
     let e = agree (levelSlots w) a b d in
     record {
@@ -406,7 +400,7 @@ differ-trans true false true c p q = absurd (true≢false p)
 differ-trans true false false c p q = q
 
 pub disagree-trans : (kind : ℕ) (a b c : Slots) → disagree kind a b ≡ false → disagree kind b c ≡ false → disagree kind a c ≡ false
-unfolding disagree differing
+unfolding disagree
 disagree-trans kind a b c p q =
     let l = levelSlots (rowOf kind) in
     let u = agree l a b p in

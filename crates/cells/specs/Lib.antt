@@ -2,6 +2,8 @@
 pub mod Table
 pub mod Work
 pub mod Wake
+pub mod Reasons
 pub mod Reading
 pub mod Effect
 pub mod Examples
+pub mod ReasonExamples

@@ -1,7 +1,7 @@
 -- Document 01, "Who wakes", and document 02, "Counter cells": whether a quick tick works out a cell.
 use Prim.Native.Nat.{ℕ}
 use mathlib.Core.Path.{_≡_}
-use mathlib.Core.Bool.{Bool, false, not, _&&_, _||_, Bool·beq}
+use mathlib.Core.Bool.{Bool, true, false, not, _&&_, _||_, Bool·beq}
 use lib.Dec.{ltb}
 use Rattle.cells.specs.declared.table.Slots.{Slots}
 use Rattle.cells.specs.declared.table.Class.{Class}
@@ -11,12 +11,16 @@ use Rattle.cells.specs.declared.table.FlopKind.the-variants.{DFlop, Sync
 use Rattle.cells.specs.declared.table.CounterKind.{CounterKind}
 use Rattle.cells.specs.declared.table.CounterKind.the-variants.{WhileBoth, WhileEither, FromStart, FromStartAtZero}
 use Rattle.cells.specs.declared.cell.State.{State}
-use Rattle.cells.specs.Table.{rowOf, masked, levelSlots, anySlot}
+use Rattle.cells.specs.Table.{slots, rowOf, masked, levelSlots, anySlot}
 use Rattle.cells.specs.Work.{trigger}
 
--- "a timer's ... trigger is high; a timer's clock is high while its count is above 0 or its pulse is on"
+-- "a timer's clock is high while its count is above 0 or its pulse is on"
+abbrev pub timerClock : State → Slots → Bool
+timerClock s r = r .y && (ltb 0 (s .count .0) || s .pulse)
+
+-- "a timer's ... trigger is high", or its clock as above
 abbrev pub timerStirred : State → Slots → Bool
-timerStirred s r = trigger r || (r .y && (ltb 0 (s .count .0) || s .pulse))
+timerStirred s r = trigger r || timerClock s r
 
 -- a flip-flop's clock: Z in a JK, Y in the others
 abbrev pub flopClock : FlopKind → Slots → Bool
@@ -25,12 +29,23 @@ flopClock SyncDFlop r = r .y
 flopClock ClearDFlop r = r .y
 flopClock Jk r = r .z
 
--- counters wake "on start, stop, and on a clock while active (19 and 20 by A and B as read in that tick, 21 and 22 by what they kept)"
+-- "a clock while active (19 and 20 by A and B as read in that tick, 21 and 22 by what they kept)"
+abbrev pub counterClock : CounterKind → State → Slots → Bool
+counterClock WhileBoth s r = r .y && (r .x && r .f)
+counterClock WhileEither s r = r .y && (r .x || r .f)
+counterClock FromStart s r = r .y && s .bit
+counterClock FromStartAtZero s r = r .y && s .bit
+
+-- "21 and 22 take start, clock, reset, stop"
+abbrev pub hasStart : CounterKind → Bool
+hasStart WhileBoth = false
+hasStart WhileEither = false
+hasStart FromStart = true
+hasStart FromStartAtZero = true
+
+-- counters wake "on start, stop, and on a clock while active"
 abbrev pub counterStirred : CounterKind → State → Slots → Bool
-counterStirred WhileBoth s r = r .y && (r .x && r .f)
-counterStirred WhileEither s r = r .y && (r .x || r .f)
-counterStirred FromStart s r = (r .x || r .f) || (r .y && s .bit)
-counterStirred FromStartAtZero s r = (r .x || r .f) || (r .y && s .bit)
+counterStirred k s r = (hasStart k && (r .x || r .f)) || counterClock k s r
 
 -- stirred: "a flip-flop's clock slot is high", or the above; gates and constants are never stirred
 unfoldable pub stirredAs : Class → State → Slots → Bool
@@ -57,8 +72,12 @@ NeverStirred kind = (s : State) (r : Slots) → stirred kind s r ≡ false
 abbrev pub differ : Bool → Bool → Bool → Bool
 differ s a b = s && not (Bool·beq a b)
 
+-- the slots of the set in which they have
+abbrev pub differing : Slots → Slots → Slots → Slots
+differing s a b = slots (differ (s .x) (a .x) (b .x)) (differ (s .y) (a .y) (b .y)) (differ (s .z) (a .z) (b .z)) (differ (s .f) (a .f) (b .f))
+
 abbrev pub disagreeOn : Slots → Slots → Slots → Bool
-disagreeOn s a b = (differ (s .x) (a .x) (b .x) || differ (s .y) (a .y) (b .y)) || (differ (s .z) (a .z) (b .z) || differ (s .f) (a .f) (b .f))
+disagreeOn s a b = anySlot (differing s a b)
 
 -- "a used slot that isn't an edge slot has another value than in that tick"
 unfoldable pub disagree : ℕ → Slots → Slots → Bool

@@ -4,7 +4,7 @@ ghost use mathlib.Core.Path.{_≡_};
 ghost use Rattle.cells.specs.Table.{masked, anySlot};
 ghost use Rattle.cells.specs.Reading.{readFrom, slotsFrom};
 ghost use Rattle.cells.specs.Wake;
-ghost use Rattle.cells.specs.Wake.{timerStirred, flopClock, counterStirred, stirredAs, hasEdges, moved};
+ghost use Rattle.cells.specs.Wake.{timerClock, timerStirred, flopClock, counterClock, hasStart, counterStirred, stirredAs, hasEdges, moved};
 use crate::cell::State;
 use crate::reading::QUARTERS;
 use crate::reading::four;
@@ -19,16 +19,23 @@ use crate::table::class_of;
 use crate::table::unpacked;
 use crate::table::used_of;
 
-// A timer's trigger, or its clock while there is something to count or to end.
+// A timer's clock while there is something to count or to end.
+pub fn timer_clock(s: State, r: Slots) -> bool
+    ensures { λ q. ⌜ q ≡ timerClock s r ⌝ }
+{
+    let count = s.count;
+    r.y & ((0 < count.0) | s.pulse)
+}
+
+// A timer's trigger, or that clock.
 fn timer_stirred(s: State, r: Slots) -> bool
     ensures { λ q. ⌜ q ≡ timerStirred s r ⌝ }
 {
-    let count = s.count;
-    (r.x | r.f) | (r.y & ((0 < count.0) | s.pulse))
+    (r.x | r.f) | timer_clock(s, r)
 }
 
 // Whether a flip-flop's clock slot is high.
-fn flop_clock(flop: FlopKind, r: Slots) -> bool
+pub fn flop_clock(flop: FlopKind, r: Slots) -> bool
     ensures { λ q. ⌜ q ≡ flopClock flop r ⌝ }
 {
     match flop {
@@ -39,16 +46,35 @@ fn flop_clock(flop: FlopKind, r: Slots) -> bool
     }
 }
 
-// A counter's clock while it is active; start and stop of one that has them.
-fn counter_stirred(counter: CounterKind, s: State, r: Slots) -> bool
-    ensures { λ q. ⌜ q ≡ counterStirred counter s r ⌝ }
+// A counter's clock while it is active.
+pub fn counter_clock(counter: CounterKind, s: State, r: Slots) -> bool
+    ensures { λ q. ⌜ q ≡ counterClock counter s r ⌝ }
 {
     match counter {
         CounterKind::WhileBoth => r.y & (r.x & r.f),
         CounterKind::WhileEither => r.y & (r.x | r.f),
-        CounterKind::FromStart => (r.x | r.f) | (r.y & s.bit),
-        CounterKind::FromStartAtZero => (r.x | r.f) | (r.y & s.bit),
+        CounterKind::FromStart => r.y & s.bit,
+        CounterKind::FromStartAtZero => r.y & s.bit,
     }
+}
+
+// Whether a counter has start and stop.
+pub fn has_start(counter: CounterKind) -> bool
+    ensures { λ q. ⌜ q ≡ hasStart counter ⌝ }
+{
+    match counter {
+        CounterKind::WhileBoth => false,
+        CounterKind::WhileEither => false,
+        CounterKind::FromStart => true,
+        CounterKind::FromStartAtZero => true,
+    }
+}
+
+// Its start or stop, or that clock.
+fn counter_stirred(counter: CounterKind, s: State, r: Slots) -> bool
+    ensures { λ q. ⌜ q ≡ counterStirred counter s r ⌝ }
+{
+    (has_start(counter) & (r.x | r.f)) | counter_clock(counter, s, r)
 }
 
 // Whether an edge that matters to the class is high among the used readings.
@@ -74,7 +100,7 @@ pub fn stirred(kind: u8, s: State, r: Slots) -> bool
 }
 
 // The readings of the slots of a set; a slot outside it reads low.
-fn within(set: Slots, r: Slots) -> Slots
+pub fn within(set: Slots, r: Slots) -> Slots
     ensures { λ m. ⌜ m ≡ masked set r ⌝ }
 {
     Slots {

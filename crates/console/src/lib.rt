@@ -133,7 +133,7 @@ fn put_plain(out: &mut [u8], reply: &[u8]) -> usize
 }
 
 // A line that asks for a load of the store.
-fn is_load(text: &[u8]) -> bool
+pub fn is_load(text: &[u8]) -> bool
     ensures { λ q. ⌜ q ≡ isLoadLine (now (text .entry)) ⌝ }
 {
     if text.len() != 1 {
@@ -143,7 +143,7 @@ fn is_load(text: &[u8]) -> bool
 }
 
 // The tick that a line asks for.
-fn do_tick(card: Card, t: TickLine) -> Ticked
+pub fn do_tick(card: Card, t: TickLine) -> Ticked
     ensures { λ r. ⌜ (r ≡ tick cellCount (t .full) card (t .input)) × (r .answer .count < 10 ^ maxDigits) ⌝ }
 {
     let input = t.input;

@@ -172,7 +172,7 @@ fn lines_in(connectors: [Connector; CONNECTORS], m: Memory, input: Input) -> Lin
 }
 
 // What the readers of the tick see.
-fn wires_of(m: Memory, levels: u16) -> Wires
+pub fn wires_of(m: Memory, levels: u16) -> Wires
     ensures { λ w. ⌜ w ≡ wiresOf m levels ⌝ }
 {
     Wires {

@@ -50,7 +50,7 @@ pub fn words_now(i: u32, below: CellWord, w: Wires) -> [u64; QUARTERS]
 }
 
 // What it read in the last tick that ran.
-fn words_last(i: u32, w: Wires) -> [u64; QUARTERS]
+pub fn words_last(i: u32, w: Wires) -> [u64; QUARTERS]
     requires { ⌜ i < 64 ⌝ }
     ensures { λ q. ⌜ ReadsAs q (sawLast cellCount i w) (sawEarlier cellCount i w) ⌝ }
 {

@@ -1,31 +1,20 @@
--- `cells::wake::counter_stirred` meets its contract: in each arm the counter is known, and the code tests what the definition says of it.
+-- `cells::wake::counter_stirred` meets its contract: start and stop where it has them, and the clock.
+use mathlib.Core.Path.{ap₂}
+use mathlib.Core.Bool.{Bool, _&&_, _||_}
 use borrow.Author.Needs.{needs}
 use Rattle.cells.proofs.wake.counter_stirred.Statement.{statement}
 use Rattle.cells.proofs.wake.counter_stirred.Tie as tie
 
-enum-told : tie.Need-enum-told
-enum-told c = search needs
+has-start-requires : tie.Need-has-start-requires
+has-start-requires c κs = search needs
 
-enum-told-2 : tie.Need-enum-told-2
-enum-told-2 c = search needs
-
-enum-told-3 : tie.Need-enum-told-3
-enum-told-3 c = search needs
-
-enum-told-4 : tie.Need-enum-told-4
-enum-told-4 c = search needs
+counter-clock-requires : tie.Need-counter-clock-requires
+counter-clock-requires c κs = search needs
 
 returns : tie.Need-returns
-returns c = rw (c .before .before .enum-told .given .1)
-
-returns-2 : tie.Need-returns-2
-returns-2 c = rw (c .before .before .enum-told2 .given .1)
-
-returns-3 : tie.Need-returns-3
-returns-3 c = rw (c .before .before .before .enum-told3 .given .1)
-
-returns-4 : tie.Need-returns-4
-returns-4 c = rw (c .before .before .before .enum-told4 .given .1)
+returns c =
+    let r = c .before .before .before .args .r in
+    ap₂ (λ (h k : Bool). (h && (r .x || r .f)) || k) (c .before .before .has-start .ensures) (c .counter-clock .ensures)
 
 pub counter-stirred-spec : {M : Type 1} → statement M
-counter-stirred-spec = tie.close (tie.spec enum-told enum-told-2 enum-told-3 enum-told-4 returns returns-2 returns-3 returns-4)
+counter-stirred-spec = tie.close (tie.spec has-start-requires counter-clock-requires returns)

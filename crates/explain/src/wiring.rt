@@ -1,0 +1,251 @@
+// Cells and connectors with their settings, and which of them two cards have otherwise.
+ghost use Prim.Native.Nat.{_<_, _≤_};
+use crate::names::address;
+use crate::names::cell_name;
+use crate::names::connector_kind;
+use crate::names::connector_name;
+use crate::names::slot_name;
+use crate::names::type_name;
+use crate::out::Page;
+use crate::out::around;
+use crate::out::either;
+use crate::out::put;
+use crate::out::put_if;
+use card::card::Card;
+use card::card::Connector;
+use card::limits::CELLS;
+use card::limits::CONNECTORS;
+use card::limits::EditedSet;
+use cells::cell::Cell;
+use cells::table::Class;
+use cells::table::class_of;
+use cells::table::row_of;
+
+// A slot of a cell, where it is used: "Y (clock) 192, always high". A semicolon stands before all but the first.
+fn put_slot(
+    out: &mut Page,
+    at: usize,
+    first: usize,
+    used: bool,
+    kind: u8,
+    slot: u8,
+    a: u8,
+) -> usize {
+    if !used {
+        return at;
+    }
+    let b = put_if(at != first, out, at, b"; ");
+    let c = slot_name(out, b, kind, slot);
+    let d = put(out, c, b" ");
+    address(out, d, a)
+}
+
+// The slots that a cell uses, in a line of their own.
+fn put_slots(out: &mut Page, at: usize, cell: Cell) -> usize {
+    let row = row_of(cell.kind);
+    let used = row.used;
+    let s = cell.slots;
+    if !((used.x | used.y) | (used.z | used.f)) {
+        return at;
+    }
+    let first = put(out, at, b"      ");
+    let x = put_slot(out, first, first, used.x, cell.kind, 0, s[0]);
+    let y = put_slot(out, x, first, used.y, cell.kind, 1, s[1]);
+    let z = put_slot(out, y, first, used.z, cell.kind, 2, s[2]);
+    let f = put_slot(out, z, first, used.f, cell.kind, 3, s[3]);
+    put(out, f, b".\n")
+}
+
+// A configuration with what it is: "duration 2".
+pub fn put_config(out: &mut Page, at: usize, kind: u8, config: u32) -> usize {
+    let class = class_of(kind);
+    match class {
+        Class::Nothing => at,
+        Class::Constant => around(out, at, b"value ", config, b""),
+        Class::Gate(_) => around(out, at, b"code ", config, b""),
+        Class::Flop(_) => at,
+        Class::OneShot(_) => around(out, at, b"duration ", config, b""),
+        Class::Delay(_) => around(out, at, b"duration ", config, b""),
+        Class::Counter(_) => at,
+    }
+}
+
+// ", duration 2", where the type has a configuration.
+fn put_configured(out: &mut Page, at: usize, cell: Cell) -> usize {
+    let row = row_of(cell.kind);
+    if !row.configured {
+        return at;
+    }
+    let a = put(out, at, b", ");
+    put_config(out, a, cell.kind, cell.config)
+}
+
+// The settings of cell i.
+pub fn put_cell(out: &mut Page, at: usize, i: u8, cell: Cell) -> usize {
+    let a = put(out, at, b"    ");
+    let b = cell_name(out, a, i);
+    let c = put(out, b, b": ");
+    let d = type_name(out, c, cell.kind);
+    let e = put_configured(out, d, cell);
+    let f = put(out, e, b".\n");
+    put_slots(out, f, cell)
+}
+
+// The settings of connector k, in a line.
+pub fn put_connector(out: &mut Page, at: usize, k: u8, c: Connector) -> usize {
+    let a = put(out, at, b"    ");
+    let b = connector_name(out, a, k);
+    let d = put(out, b, b": ");
+    let e = connector_kind(out, d, c.kind, c.source);
+    put(out, e, b".\n")
+}
+
+// Whether two cells have the same settings.
+fn alike(a: Cell, b: Cell) -> bool {
+    let s = a.slots;
+    let t = b.slots;
+    let slots = ((s[0] == t[0]) & (s[1] == t[1])) & ((s[2] == t[2]) & (s[3] == t[3]));
+    ((a.kind == b.kind) & (a.config == b.config)) & slots
+}
+
+// A cell, where it has other settings now.
+fn put_changed_cell(out: &mut Page, at: usize, i: u8, before: Cell, after: Cell) -> usize {
+    if alike(before, after) {
+        return at;
+    }
+    put_cell(out, at, i, after)
+}
+
+// The cells that have.
+fn put_cells(out: &mut Page, at: usize, before: [Cell; CELLS], after: [Cell; CELLS]) -> usize {
+    let mut n = at;
+    for i in 0..CELLS as u8 {
+        let k = i as usize;
+        n = put_changed_cell(out, n, i, before[k], after[k]);
+    }
+    n
+}
+
+// A connector, where it has other settings now.
+fn put_changed_connector(out: &mut Page, at: usize, k: u8, b: Connector, a: Connector) -> usize {
+    if (a.kind == b.kind) & (a.source == b.source) {
+        return at;
+    }
+    put_connector(out, at, k, a)
+}
+
+// The connectors that have.
+fn put_connectors(
+    out: &mut Page,
+    at: usize,
+    before: [Connector; CONNECTORS],
+    after: [Connector; CONNECTORS],
+) -> usize {
+    let mut n = at;
+    for i in 0..CONNECTORS as u8 {
+        let k = i as usize;
+        n = put_changed_connector(out, n, i, before[k], after[k]);
+    }
+    n
+}
+
+// The trigger source, where it is another one now.
+fn put_trigger(out: &mut Page, at: usize, before: u8, after: u8) -> usize {
+    if before == after {
+        return at;
+    }
+    around(
+        out,
+        at,
+        b"    Ticks of clock ",
+        after as u32,
+        b" run now, and others are idle.\n",
+    )
+}
+
+// The settings that one card has otherwise than another, a line for each.
+pub fn put_changes(out: &mut Page, at: usize, before: Card, after: Card) -> usize {
+    let a = put_trigger(out, at, before.trigger, after.trigger);
+    let cells = before.cells;
+    let new_cells = after.cells;
+    let connectors = before.connectors;
+    let new_connectors = after.connectors;
+    let b = put_cells(out, a, cells, new_cells);
+    let c = put_connectors(out, b, connectors, new_connectors);
+    if c == at {
+        return put(out, c, b"    No setting is another one than before.\n");
+    }
+    c
+}
+
+// A cell of a set: " cell 1".
+fn put_member(out: &mut Page, at: usize, set: u64, i: u32) -> usize
+    requires { ⌜ i < 16 ⌝ }
+{
+    if !words::bit(set, i) {
+        return at;
+    }
+    around(out, at, b" cell ", i + 1, b"")
+}
+
+fn put_members(out: &mut Page, at: usize, set: u64) -> usize {
+    let mut n = at;
+    for i in 0..CELLS as u32 {
+        n = put_member(out, n, set, i);
+    }
+    n
+}
+
+// The cells of a set: " cell 1 cell 10.", or " none.".
+pub fn put_set(out: &mut Page, at: usize, set: u64) -> usize {
+    let a = put_members(out, at, set);
+    either(a == at, out, a, b" none.\n", b".\n")
+}
+
+// A connector that is high: " BNC1".
+fn put_if_high(out: &mut Page, at: usize, levels: u16, k: u32) -> usize
+    requires { ⌜ k < 16 ⌝ }
+{
+    if !words::bit(levels as u64, k) {
+        return at;
+    }
+    let a = put(out, at, b" ");
+    connector_name(out, a, k as u8)
+}
+
+// The connectors of a range that are high: " BNC1 BNC3".
+fn put_all_high(out: &mut Page, at: usize, levels: u16, from: u32, to: u32) -> usize
+    requires { ⌜ from ≤ to ⌝ }
+    requires { ⌜ to ≤ 16 ⌝ }
+{
+    let mut n = at;
+    for k in from..to {
+        n = put_if_high(out, n, levels, k);
+    }
+    n
+}
+
+// " BNC1 BNC3.", or " none.".
+pub fn put_high(out: &mut Page, at: usize, levels: u16, from: u32, to: u32) -> usize
+    requires { ⌜ from ≤ to ⌝ }
+    requires { ⌜ to ≤ 16 ⌝ }
+{
+    let a = put_all_high(out, at, levels, from, to);
+    either(a == at, out, a, b" none.\n", b".\n")
+}
+
+// Which cells a call has edited.
+pub fn put_edited(out: &mut Page, at: usize, set: EditedSet) -> usize {
+    if set == 0 {
+        return at;
+    }
+    if set == 65535 {
+        return put(
+            out,
+            at,
+            b"    All cells are edited: they wake in the next tick.\n",
+        );
+    }
+    let a = put(out, at, b"    Edited, so it wakes in the next tick:");
+    put_set(out, a, set)
+}

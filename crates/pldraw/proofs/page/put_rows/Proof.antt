@@ -1,0 +1,57 @@
+-- `pldraw::page::put_rows` is safe and ends: a row is drawn for no more than were looked at.
+use Prim.Native.Nat.{_≤_, _+_, _*_, _-_}
+use mathlib.Core.Logic.{⊎-elim}
+use native.Mathlib.Omega.{arith}
+use Rattle.pldraw.specs.Page.{mostRows}
+use borrow.Author.Needs.{needs}
+use Rattle.pldraw.proofs.page.put_rows.Statement.{statement}
+use Rattle.pldraw.proofs.page.put_rows.Tie as tie
+
+abbrev Inv-loop : tie.InvT-loop
+Inv-loop card words s set y₀ r₀ y r = (r ≤ mostRows) × (y ≤ 18 + 22 * r)
+
+abbrev μ-loop : tie.MeasureT-loop
+μ-loop card words s set y₀ r₀ y r = mostRows - r
+
+loop-holds : tie.Need-loop-holds Inv-loop μ-loop
+loop-holds c = search needs
+
+bit-of-requires : tie.Need-bit-of-requires Inv-loop μ-loop
+bit-of-requires c κs = search needs
+
+bit-requires : tie.Need-bit-requires Inv-loop μ-loop
+bit-requires c κs = search needs
+
+put-row-requires : tie.Need-put-row-requires Inv-loop μ-loop
+put-row-requires c κs = search needs
+
+add-y : tie.Need-add-y Inv-loop μ-loop
+add-y c = search needs
+
+add-r : tie.Need-add-r Inv-loop μ-loop
+add-r c = search needs
+
+loop-less : tie.Need-loop-less Inv-loop μ-loop
+loop-less c = search needs
+
+loop-again : tie.Need-loop-again Inv-loop μ-loop
+loop-again c = ⊎-elim (λ w. (omega arith, omega arith)) (λ w. (omega arith, omega arith)) (c .if1 .came)
+
+returns : tie.Need-returns Inv-loop μ-loop
+returns c = search needs
+
+pub put-rows-spec : {M : Type 1} → statement M
+put-rows-spec =
+    tie.close
+    (tie.spec
+    Inv-loop
+    μ-loop
+    loop-holds
+    bit-of-requires
+    bit-requires
+    put-row-requires
+    add-y
+    add-r
+    loop-less
+    loop-again
+    returns)

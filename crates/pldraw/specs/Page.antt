@@ -1,0 +1,22 @@
+-- The limits of the picture.
+use Prim.Native.Nat.{ℕ, _+_, _≤_}
+use Rattle.pldraw.specs.declared.page.Strip.{Strip}
+
+-- the ticks that are kept, and those that stand side by side
+abbrev pub keptTicks : ℕ
+keptTicks = 300
+
+abbrev pub columns : ℕ
+columns = 60
+
+-- the rows that there can be: sixteen connectors and sixteen cells
+abbrev pub mostRows : ℕ
+mostRows = 32
+
+-- no strip is higher
+abbrev pub highestStrip : ℕ
+highestStrip = 800
+
+-- a strip of kept ticks that has room side by side
+abbrev pub Fits : Strip → Type 0
+Fits s = (s .start ≤ s .end) × ((s .end ≤ keptTicks) × (s .end ≤ s .start + columns))

@@ -1,0 +1,61 @@
+-- `plwave::main` is safe and ends: the time stays within 64 bits.
+use Prim.Native.Nat.{ℕ, _≤_, _-_}
+use borrow.Author.Needs.{needs}
+use Rattle.plwave.proofs.main.Statement.{statement}
+use Rattle.plwave.proofs.main.Tie as tie
+
+abbrev most : ℕ
+most = 18446744073709551615
+
+abbrev Inv-loop : tie.InvT-loop
+Inv-loop block₀ line₀ store₀ feed₀ last₀ t₀ block line store feed last t = t ≤ most
+
+abbrev μ-loop : tie.MeasureT-loop
+μ-loop block₀ line₀ store₀ feed₀ last₀ t₀ block line store feed last t = most - t
+
+put-header-requires : tie.Need-put-header-requires Inv-loop μ-loop
+put-header-requires c κs = search needs
+
+start-requires : tie.Need-start-requires Inv-loop μ-loop
+start-requires c κs = search needs
+
+loop-holds : tie.Need-loop-holds Inv-loop μ-loop
+loop-holds c = search needs
+
+next-requires : tie.Need-next-requires Inv-loop μ-loop
+next-requires c κs = search needs
+
+put-tick-requires : tie.Need-put-tick-requires Inv-loop μ-loop
+put-tick-requires c κs = search needs
+
+add-t : tie.Need-add-t Inv-loop μ-loop
+add-t c = search needs
+
+loop-less : tie.Need-loop-less Inv-loop μ-loop
+loop-less c = search needs
+
+loop-again : tie.Need-loop-again Inv-loop μ-loop
+loop-again c = search needs
+
+put-time-requires : tie.Need-put-time-requires Inv-loop μ-loop
+put-time-requires c κs = search needs
+
+returns : tie.Need-returns Inv-loop μ-loop
+returns c = search needs
+
+pub main-spec : {M : Type 1} → statement M
+main-spec =
+    tie.close
+    (tie.spec
+    Inv-loop
+    μ-loop
+    put-header-requires
+    start-requires
+    loop-holds
+    next-requires
+    put-tick-requires
+    add-t
+    loop-less
+    loop-again
+    put-time-requires
+    returns)

@@ -1,0 +1,28 @@
+-- `scope::shown_by` meets its contract: an idle tick shows nothing, another one its words.
+use borrow.Author.Tests.{not-true, not-false}
+use Rattle.scope.specs.Steps.{shownBy}
+use borrow.Author.Needs.{needs}
+use Rattle.scope.proofs.shown_by.Statement.{statement}
+use Rattle.scope.proofs.shown_by.Tie as tie
+
+nothing-requires : tie.Need-nothing-requires
+nothing-requires c κs = search needs
+
+returns : tie.Need-returns
+unfolding shownBy
+returns c =
+    let t = c .before .before .before .before .args .t in
+    rw (not-true (t .answer .ran) (c .before .if1 .taken)) (c .nothing .ensures)
+
+words-in-requires : tie.Need-words-in-requires
+words-in-requires c κs = search needs
+
+returns-2 : tie.Need-returns-2
+unfolding shownBy
+returns-2 c =
+    let e = c .before .before .before in
+    let t = e .before .before .before .args .t in
+    rw (not-false (t .answer .ran) (e .if1 .left), c .words-in .ensures)
+
+pub shown-by-spec : {M : Type 1} → statement M
+shown-by-spec = tie.close (tie.spec nothing-requires returns words-in-requires returns-2)

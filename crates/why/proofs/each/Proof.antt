@@ -1,0 +1,86 @@
+-- `why::each` meets its contract: after i turns the first i entries are the reasons of the first i cells.
+use Prim.Native.Nat.{ℕ, _-_, _≤_, zero-le}
+use mathlib.Core.Path.{_≡_, refl}
+use mathlib.Core.List.{List, _++_}
+use native.Mathlib.Omega.{arith}
+use lib.ListN.{drop, getD}
+use borrow.Author.Needs.{needs}
+use Rattle.words.specs.Listed.{listed}
+use Rattle.words.proofs.Listed.{listed-next, listed-done}
+use Rattle.cells.specs.declared.cell.Cell.{Cell}
+use Rattle.cells.specs.declared.reasons.Reasons.{Reasons}
+use Rattle.card.specs.Address.{cellCount}
+use Rattle.card.specs.Fresh.{noCell}
+use Rattle.ticks.specs.declared.tick.Wires.{Wires}
+use Rattle.why.specs.Reasons.{reasonsAt, noReasons}
+use Rattle.why.proofs.each.Statement.{statement}
+use Rattle.why.proofs.each.Tie as tie
+
+abbrev at : List Cell → ℕ → Wires → ℕ → ℕ → Reasons
+at cells edited w below i = reasonsAt cellCount (getD cells i noCell) i edited w below
+
+abbrev Inv-loop : tie.InvT-loop
+Inv-loop edited w below cells next₀ i₀ next i = (i ≤ cellCount) × (next ≡ listed (at cells edited w below) i ++ drop i next₀)
+
+abbrev μ-loop : tie.MeasureT-loop
+μ-loop edited w below cells next₀ i₀ next i = cellCount - i
+
+loop-holds : tie.Need-loop-holds Inv-loop μ-loop
+unfolding listed
+loop-holds c = (zero-le, refl)
+
+cast-at : tie.Need-cast-at Inv-loop μ-loop
+cast-at c = search needs
+
+mul-reasons-at : tie.Need-mul-reasons-at Inv-loop μ-loop
+mul-reasons-at c = search needs
+
+array-copy-out-reasons-at : tie.Need-array-copy-out-reasons-at Inv-loop μ-loop
+array-copy-out-reasons-at c = search needs
+
+reasons-at-requires : tie.Need-reasons-at-requires Inv-loop μ-loop
+reasons-at-requires c κs = search needs
+
+mul-next : tie.Need-mul-next Inv-loop μ-loop
+mul-next c = search needs
+
+array-set-from-next : tie.Need-array-set-from-next Inv-loop μ-loop
+array-set-from-next c = search needs
+
+add-i : tie.Need-add-i Inv-loop μ-loop
+add-i c = search needs
+
+loop-less : tie.Need-loop-less Inv-loop μ-loop
+loop-less c = search needs
+
+loop-again : tie.Need-loop-again Inv-loop μ-loop
+loop-again c =
+    let a = c .before .before .before .before .args in
+    let l = c .before .before .before .loop in
+    let f = at (a .t1) (a .edited) (a .w) (a .below) in
+    (omega arith, listed-next f (l .i) (a .blank) (l .next) _ noReasons (l .inv .1) (c .reasons-at .ensures) (search needs))
+
+returns : tie.Need-returns Inv-loop μ-loop
+returns c =
+    let a = c .before .before .args in
+    let l = c .before .loop in
+    let end : l .i ≡ cellCount = omega arith in
+    listed-done (at (a .t1) (a .edited) (a .w) (a .below)) cellCount (a .blank) (l .next) (rw end at (l .inv .1)) (search needs)
+
+pub each-spec : {M : Type 1} → statement M
+each-spec =
+    tie.close
+    (tie.spec
+    Inv-loop
+    μ-loop
+    loop-holds
+    cast-at
+    mul-reasons-at
+    array-copy-out-reasons-at
+    reasons-at-requires
+    mul-next
+    array-set-from-next
+    add-i
+    loop-less
+    loop-again
+    returns)
