@@ -32,19 +32,17 @@
 /* A buffer of this length has room for the wiring of any card. */
 #define TRIGGER_TEXT 2771
 
-/* What a cell keeps between ticks: a flip-flop's bit, a timer's count and pulse, a counter's count and, as bit, whether it is active. */
+/*
+ * A cell: its configuration, the addresses in its slots X Y Z F and its type; and what it keeps between ticks: a flip-flop's bit, a timer's count and
+ * pulse, a counter's count and, as bit, whether it is active.
+ */
 typedef struct {
+    uint32_t config;
     uint32_t count;
+    uint8_t slots[4];
+    uint8_t kind;
     bool bit;
     bool pulse;
-} trigger_state;
-
-/* A cell: its type, its configuration, the addresses in its slots X Y Z F, and its state. */
-typedef struct {
-    uint8_t kind;
-    uint32_t config;
-    uint8_t slots[4];
-    trigger_state state;
 } trigger_cell;
 
 /* A connector: its type (0 input, 1 open-drain, 2 push-pull) and the address that it is driven from. */
@@ -188,16 +186,13 @@ trigger_converted trigger_convert(const uint8_t *bytes, size_t bytes_len, uint8_
 TRIGGER_SIZE(bool, 1);
 TRIGGER_SIZE(size_t, 8);
 
-TRIGGER_SIZE(trigger_state, 8);
-TRIGGER_AT(trigger_state, count, 0);
-TRIGGER_AT(trigger_state, bit, 4);
-TRIGGER_AT(trigger_state, pulse, 5);
-
-TRIGGER_SIZE(trigger_cell, 20);
-TRIGGER_AT(trigger_cell, kind, 0);
-TRIGGER_AT(trigger_cell, config, 4);
+TRIGGER_SIZE(trigger_cell, 16);
+TRIGGER_AT(trigger_cell, config, 0);
+TRIGGER_AT(trigger_cell, count, 4);
 TRIGGER_AT(trigger_cell, slots, 8);
-TRIGGER_AT(trigger_cell, state, 12);
+TRIGGER_AT(trigger_cell, kind, 12);
+TRIGGER_AT(trigger_cell, bit, 13);
+TRIGGER_AT(trigger_cell, pulse, 14);
 
 TRIGGER_SIZE(trigger_connector, 2);
 TRIGGER_AT(trigger_connector, kind, 0);
@@ -211,13 +206,13 @@ TRIGGER_AT(trigger_memory, outputs3, 6);
 TRIGGER_AT(trigger_memory, levels, 8);
 TRIGGER_AT(trigger_memory, levels2, 10);
 
-TRIGGER_SIZE(trigger_card, 376);
+TRIGGER_SIZE(trigger_card, 312);
 TRIGGER_AT(trigger_card, cells, 0);
-TRIGGER_AT(trigger_card, connectors, 320);
-TRIGGER_AT(trigger_card, edited, 352);
-TRIGGER_AT(trigger_card, memory, 360);
-TRIGGER_AT(trigger_card, pointer, 372);
-TRIGGER_AT(trigger_card, trigger, 373);
+TRIGGER_AT(trigger_card, connectors, 256);
+TRIGGER_AT(trigger_card, edited, 288);
+TRIGGER_AT(trigger_card, memory, 296);
+TRIGGER_AT(trigger_card, pointer, 308);
+TRIGGER_AT(trigger_card, trigger, 309);
 
 TRIGGER_SIZE(trigger_input, 6);
 TRIGGER_AT(trigger_input, code, 0);
@@ -231,18 +226,18 @@ TRIGGER_AT(trigger_answer, cells, 4);
 TRIGGER_AT(trigger_answer, woken, 6);
 TRIGGER_AT(trigger_answer, count, 8);
 
-TRIGGER_SIZE(trigger_ticked, 392);
+TRIGGER_SIZE(trigger_ticked, 328);
 TRIGGER_AT(trigger_ticked, card, 0);
-TRIGGER_AT(trigger_ticked, answer, 376);
+TRIGGER_AT(trigger_ticked, answer, 312);
 
-TRIGGER_SIZE(trigger_answered, 392);
+TRIGGER_SIZE(trigger_answered, 328);
 TRIGGER_AT(trigger_answered, card, 0);
-TRIGGER_AT(trigger_answered, k, 376);
-TRIGGER_AT(trigger_answered, len, 384);
+TRIGGER_AT(trigger_answered, k, 312);
+TRIGGER_AT(trigger_answered, len, 320);
 
-TRIGGER_SIZE(trigger_loaded, 384);
+TRIGGER_SIZE(trigger_loaded, 320);
 TRIGGER_AT(trigger_loaded, card, 0);
-TRIGGER_AT(trigger_loaded, k, 376);
+TRIGGER_AT(trigger_loaded, k, 312);
 
 TRIGGER_SIZE(trigger_printed, 16);
 TRIGGER_AT(trigger_printed, k, 0);

@@ -23,7 +23,7 @@ use core::fmt;
 use core::num::NonZeroU8;
 use core::str;
 
-pub use raw::{Answer, Cell, Connector, Input, State, CELLS, CONNECTORS};
+pub use raw::{Answer, Cell, Connector, Input, CELLS, CONNECTORS};
 
 /// The length of a record: a store needs as many bytes for `36SS Z`.
 pub const RECORD: usize = 308;

@@ -8,32 +8,23 @@ pub const CELLS: usize = 16;
 /// How many connectors a card has.
 pub const CONNECTORS: usize = 16;
 
-/// What a cell keeps between ticks.
+/// One of the cells: its settings, and what it keeps between ticks.
 // crates/cells/src/cell.rt; `Pulses` there is a struct around the count.
 #[repr(C)]
 #[derive(Clone, Copy, Debug, PartialEq, Eq)]
-pub struct State {
+pub struct Cell {
+    /// A constant, a lookup's code or a duration; 0 where the type has none.
+    pub config: u32,
     /// A timer's count of pulses left, or a counter's count.
     pub count: u32,
+    /// The addresses in its slots X, Y, Z and F.
+    pub slots: [u8; 4],
+    /// Its type.
+    pub kind: u8,
     /// A flip-flop's bit, or whether a counter is active.
     pub bit: bool,
     /// Whether a delay's pulse is on.
     pub pulse: bool,
-}
-
-/// One of the cells.
-// crates/cells/src/cell.rt
-#[repr(C)]
-#[derive(Clone, Copy, Debug, PartialEq, Eq)]
-pub struct Cell {
-    /// Its type.
-    pub kind: u8,
-    /// A constant, a lookup's code or a duration; 0 where the type has none.
-    pub config: u32,
-    /// The addresses in its slots X, Y, Z and F.
-    pub slots: [u8; 4],
-    /// What it keeps between ticks.
-    pub state: State,
 }
 
 /// A front or backplane connector.
@@ -172,15 +163,14 @@ macro_rules! layout {
     };
 }
 
-layout!(State: 8, count 0, bit 4, pulse 5);
-layout!(Cell: 20, kind 0, config 4, slots 8, state 12);
+layout!(Cell: 16, config 0, count 4, slots 8, kind 12, bit 13, pulse 14);
 layout!(Connector: 2, kind 0, source 1);
 layout!(Memory: 12, driven 0, outputs 2, outputs2 4, outputs3 6, levels 8, levels2 10);
-layout!(Card: 376, cells 0, connectors 320, edited 352, memory 360, pointer 372, trigger 373);
+layout!(Card: 312, cells 0, connectors 256, edited 288, memory 296, pointer 308, trigger 309);
 layout!(Input: 6, code 0, sample 2, attached 4);
 layout!(Answer: 12, ran 0, driven 2, cells 4, woken 6, count 8);
-layout!(Ticked: 392, card 0, answer 376);
-layout!(Answered: 392, card 0, k 376, len 384);
-layout!(Loaded: 384, card 0, k 376);
+layout!(Ticked: 328, card 0, answer 312);
+layout!(Answered: 328, card 0, k 312, len 320);
+layout!(Loaded: 320, card 0, k 312);
 layout!(Printed: 16, k 0, len 8);
 layout!(Converted: 16, k 0, len 8);

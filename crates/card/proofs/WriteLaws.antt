@@ -20,6 +20,7 @@ use Rattle.card.specs.declared.card.Card.{Card}
 use Rattle.card.specs.declared.card.Connector.{Connector}
 use Rattle.card.specs.Address.{firstCell, firstConnector, connectorCount, among, edgeAddress}
 use Rattle.card.specs.Connectors.{openDrain, pushPull, isOutput, noConnector}
+use Rattle.cells.specs.State.{cellOf}
 use Rattle.card.specs.Fresh.{clearState, noCell}
 use Rattle.card.specs.Valid.{largestAddress, frontTrigger, frontDriven, badPlace, badConnectorType, badConfig, unusedSlot, badAddress, validSlot}
 use Rattle.card.specs.Valid.{validSlots, validCell, validConnector}
@@ -106,16 +107,16 @@ module _ (n : ℕ) (cell : Cell) (ok : validCell n cell ≡ true) where
   config-permitted e = rw (e, le-ltb (rowOf (cell .kind) .largest) (cell .config) (config-most n cell ok))
 
   -- the type and the configuration
-  pub configured-is : configuredAs cell ≡ record { kind = cell .kind; config = cell .config; slots = typed (cell .kind) .slots; state = clearState }
+  pub configured-is : configuredAs cell ≡ cellOf (cell .kind) (cell .config) (typed (cell .kind) .slots) clearState
   unfolding configuredAs configured typed
   configured-is = go (rowOf (cell .kind) .configured) (largest-none (cell .kind))
     where
       blank : ℕ → Cell
-      blank v = record { kind = cell .kind; config = v; slots = typed (cell .kind) .slots; state = clearState }
+      blank v = cellOf (cell .kind) v (typed (cell .kind) .slots) clearState
 
       go : (b : Bool) → (b || eqb (rowOf (cell .kind) .largest) 0) ≡ true
           → cond b (configured (typed (cell .kind)) (cell .config)) (typed (cell .kind)) ≡ blank (cell .config)
-      go true e = λ i. record { kind = cell .kind; config = cell .config; slots = typed (cell .kind) .slots; state = clear-stays (rowOf (cell .kind) .kept) i }
+      go true e = λ i. cellOf (cell .kind) (cell .config) (typed (cell .kind) .slots) (clear-stays (rowOf (cell .kind) .kept) i)
       go false e =
           let none = eqb-true (rowOf (cell .kind) .largest) 0 e in
           let zero : 0 ≡ cell .config = omega (arith, config-most n cell ok) in
@@ -153,8 +154,8 @@ module _ (n : ℕ) (cell : Cell) (ok : validCell n cell ≡ true) where
       let z = written-slot n (r .used .z) (r .edge .z) (getD s 2 0) (edges .2) (each .2) in
       let f = written-slot n (r .used .f) (r .edge .f) (getD s 3 0) (edges .3) (each .3) in
       ap (λ (c : Cell). wired c (r .used) s) configured-is
-      ∙ (λ i. record { kind = cell .kind; config = cell .config; slots = x i ∷ y i ∷ z i ∷ f i ∷ []; state = clearState })
-      ∙ ap (λ (l : List ℕ). record { kind = cell .kind; config = cell .config; slots = l; state = clearState }) (four s (cell-slots n cell ok))
+      ∙ (λ i. cellOf (cell .kind) (cell .config) (x i ∷ y i ∷ z i ∷ f i ∷ []) clearState)
+      ∙ ap (λ (l : List ℕ). cellOf (cell .kind) (cell .config) l clearState) (four s (cell-slots n cell ok))
 
   -- a type that uses no slot has none to write
   pub unslotted : let u = rowOf (cell .kind) .used in ((u .x || u .y) || (u .z || u .f)) ≡ false → configuredAs cell ≡ written cell

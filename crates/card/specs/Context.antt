@@ -8,6 +8,7 @@ use Rattle.cells.specs.declared.table.Kept.{Kept}
 use Rattle.cells.specs.declared.table.Kept.the-variants.{Stateless, Bit, Count, Counted}
 use Rattle.cells.specs.declared.cell.State.{State}
 use Rattle.cells.specs.declared.cell.Cell.{Cell}
+use Rattle.cells.specs.State.{stateOf}
 use Rattle.cells.specs.Table.{rowOf}
 use Rattle.card.specs.declared.card.Card.{Card}
 use Rattle.card.specs.declared.context.Context.{Context}
@@ -37,7 +38,7 @@ typeRead x = cond (x .celled) (x .cell .kind) (x .connector .kind)
 
 -- document 02: of a counter "a CCA Z read gives the count"
 unfoldable pub configShown : Cell → ℕ
-configShown cell = cond (isCounted (rowOf (cell .kind) .kept)) (cell .state .count .0) (cell .config)
+configShown cell = cond (isCounted (rowOf (cell .kind) .kept)) (cell .count .0) (cell .config)
 
 abbrev pub configRead : Context → ℕ
 configRead x = cond (x .celled) (configShown (x .cell)) (x .connector .source)
@@ -50,7 +51,7 @@ stateAs Count s = s .count .0
 stateAs Counted s = s .count .0
 
 abbrev pub stateRead : Context → ℕ
-stateRead x = stateAs (rowOf (x .cell .kind) .kept) (x .cell .state)
+stateRead x = stateAs (rowOf (x .cell .kind) .kept) (stateOf (x .cell))
 
 -- "`36CCB p?`", the slots counted from X; there are four
 abbrev pub slotRead : Context → ℕ → ℕ

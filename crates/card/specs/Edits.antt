@@ -13,6 +13,7 @@ use Rattle.cells.specs.declared.cell.Cell.{Cell}
 use Rattle.cells.specs.declared.cell.State.{State}
 use Rattle.cells.specs.declared.cell.Pulses.{Pulses}
 use Rattle.cells.specs.Table.{rowOf}
+use Rattle.cells.specs.State.{stateOf, cellOf, withState}
 use Rattle.cells.specs.Work.{pulses}
 use Rattle.card.specs.declared.card.Card.{Card}
 use Rattle.card.specs.declared.card.Connector.{Connector}
@@ -89,13 +90,9 @@ setTrigger c t =
     (cond (eqb t frontTrigger) (set (c .connectors) 0 (record { kind = input; source = getD (c .connectors) 0 noConnector .source })) (c .connectors))
     (c .edited)
 
--- a cell with another state
-abbrev pub cellWith : Cell → State → Cell
-cellWith cell s = record { kind = cell .kind; config = cell .config; slots = cell .slots; state = s }
-
 -- "`HOME E` or `! E` clears all states"; "by HOME and by a load, all are" edited
 abbrev pub clearedCell : Cell → Cell
-clearedCell cell = cellWith cell clearState
+clearedCell cell = withState cell clearState
 
 -- the first n of some cells; the others stay
 abbrev pub clearedCells : ℕ → List Cell → List Cell
@@ -113,7 +110,7 @@ blankSlots edge = blankSlot (edge .x) ∷ blankSlot (edge .y) ∷ blankSlot (edg
 
 -- "Y sets the type (clears configuration, slots, state; edge slots become 128)"
 unfoldable pub typed : ℕ → Cell
-typed kind = record { kind = kind; config = 0; slots = blankSlots (rowOf kind .edge); state = clearState }
+typed kind = cellOf kind 0 (blankSlots (rowOf kind .edge)) clearState
 
 unfoldable pub setType : ℕ → Card → ℕ → Card
 setType n c kind = putCell n c (typed kind)
@@ -126,8 +123,7 @@ configuredState Count s = clearState
 configuredState Counted s = s
 
 unfoldable pub configured : Cell → ℕ → Cell
-configured cell config =
-    record { kind = cell .kind; config = config; slots = cell .slots; state = configuredState (rowOf (cell .kind) .kept) (cell .state) }
+configured cell config = cellOf (cell .kind) config (cell .slots) (configuredState (rowOf (cell .kind) .kept) (stateOf cell))
 
 unfoldable pub setConfig : ℕ → Card → ℕ → Card
 setConfig n c config = putCell n c (configured (currentCell n c) config)
@@ -150,7 +146,7 @@ statedAs Count s v = countState s (pulses v)
 statedAs Counted s v = recountedState s (pulses v)
 
 unfoldable pub stated : Cell → ℕ → Cell
-stated cell v = cellWith cell (statedAs (rowOf (cell .kind) .kept) (cell .state) v)
+stated cell v = withState cell (statedAs (rowOf (cell .kind) .kept) (stateOf cell) v)
 
 unfoldable pub setState : ℕ → Card → ℕ → Card
 setState n c v = putCell n c (stated (currentCell n c) v)
@@ -172,8 +168,7 @@ wiredSlots given edge v old =
     ∷ []
 
 unfoldable pub wired : Cell → Slots → List ℕ → Cell
-wired cell given v =
-    record { kind = cell .kind; config = cell .config; slots = wiredSlots given (rowOf (cell .kind) .edge) v (cell .slots); state = cell .state }
+wired cell given v = cellOf (cell .kind) (cell .config) (wiredSlots given (rowOf (cell .kind) .edge) v (cell .slots)) (stateOf cell)
 
 unfoldable pub setSlots : ℕ → Card → Slots → List ℕ → Card
 setSlots n c given v = putCell n c (wired (currentCell n c) given v)

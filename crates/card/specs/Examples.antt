@@ -5,8 +5,8 @@ use mathlib.Core.Bool.{Bool, true, false}
 use mathlib.Core.List.{List, [], _∷_, map}
 use Rattle.words.specs.Bits.{bitNumber}
 use Rattle.cells.specs.declared.cell.Cell.{Cell}
-use Rattle.cells.specs.declared.cell.State.{State}
 use Rattle.cells.specs.Table.{rowOf}
+use Rattle.cells.specs.State.{state, cellOf}
 use Rattle.cells.specs.Work.{pulses}
 use Rattle.card.specs.declared.chart.Entry.{Entry}
 use Rattle.card.specs.Address.{cellCount, permittedBase}
@@ -21,25 +21,25 @@ Shown = Bool × ℕ × Bool
 
 -- a cell of a type with configuration 5, its bit set, count 3 and in a pulse
 full : ℕ → Cell
-full kind = record { kind = kind; config = 5; slots = []; state = record { bit = true; count = pulses 3; pulse = true } }
+full kind = cellOf kind 5 [] (state (pulses 3) true true)
 
-shown : State → Shown
-shown s = (s .bit, s .count .0, s .pulse)
+shown : Cell → Shown
+shown cell = (cell .bit, cell .count .0, cell .pulse)
 
 -- given, expected
 abbrev states : List (Shown × Shown)
 states =
     -- F: "0 or 1 for flip-flops, the count for timers, ending a pulse"; of a counter "the count and leaves "active" as it is"
-    (shown (stated (full 1) 0 .state), (false, 3, true))
-    ∷ (shown (stated (full 9) 7 .state), (true, 7, false))
-    ∷ (shown (stated (full 19) 7 .state), (true, 7, true))
-    ∷ (shown (stated (full 22) 0 .state), (true, 0, true))
+    (shown (stated (full 1) 0), (false, 3, true))
+    ∷ (shown (stated (full 9) 7), (true, 7, false))
+    ∷ (shown (stated (full 19) 7), (true, 7, true))
+    ∷ (shown (stated (full 22) 0), (true, 0, true))
     -- document 02, "Long exposures": a timer's count "to 4,294,967,295"
-    ∷ (shown (stated (full 9) 4294967295 .state), (true, 4294967295, false))
-    ∷ (shown (stated (full 16) 65536 .state), (true, 65536, false))
+    ∷ (shown (stated (full 9) 4294967295), (true, 4294967295, false))
+    ∷ (shown (stated (full 16) 65536), (true, 65536, false))
     -- Z "clears a timer's state"
-    ∷ (shown (configured (full 9) 7 .state), (false, 0, false))
-    ∷ (shown (configured (full 2) 7 .state), (true, 3, true))
+    ∷ (shown (configured (full 9) 7), (false, 0, false))
+    ∷ (shown (configured (full 2) 7), (true, 3, true))
     ∷ []
 
 state-table : map (λ (e : Shown × Shown). e .0) states ≡ map (λ (e : Shown × Shown). e .1) states

@@ -5,6 +5,7 @@ use mathlib.Core.List.{List, [], _++_}
 use lib.ListN.{replicate}
 use Rattle.cells.specs.declared.cell.Cell.{Cell}
 use Rattle.cells.specs.declared.cell.State.{State}
+use Rattle.cells.specs.State.{cellOf}
 use Rattle.cells.specs.Work.{pulses}
 use Rattle.card.specs.declared.card.Connector.{Connector}
 use Rattle.card.specs.declared.card.Card.{Card}
@@ -17,11 +18,11 @@ clearState = record { bit = false; count = pulses 0; pulse = false }
 
 -- "cells constant 0"
 abbrev pub freshCell : Cell
-freshCell = record { kind = 0; config = 0; slots = replicate 4 0; state = clearState }
+freshCell = cellOf 0 0 (replicate 4 0) clearState
 
 -- past the list: a constant 0 with no slots
 abbrev pub noCell : Cell
-noCell = record { kind = 0; config = 0; slots = []; state = clearState }
+noCell = cellOf 0 0 [] clearState
 
 -- "BNCs push-pull from 0, backplane inputs from 0"
 abbrev pub freshConnectors : List Connector

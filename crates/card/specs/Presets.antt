@@ -8,6 +8,7 @@ use lib.ListN.{getD, drop}
 use Rattle.words.specs.Bits.{bitAt, wordOf}
 use Rattle.words.specs.Listed.{listed}
 use Rattle.cells.specs.declared.cell.Cell.{Cell}
+use Rattle.cells.specs.State.{cellOf}
 use Rattle.card.specs.declared.card.Card.{Card}
 use Rattle.card.specs.declared.card.Connector.{Connector}
 use Rattle.card.specs.Address.{cellCount, connectorCount, firstCell}
@@ -19,7 +20,7 @@ use Rattle.card.specs.Fresh.{clearState, noCell}
 
 -- "a cell is set whole, slots not named 0, its state cleared"
 abbrev pub whole : ℕ → ℕ → List ℕ → Cell
-whole kind config slots = record { kind = kind; config = config; slots = slots; state = clearState }
+whole kind config slots = cellOf kind config slots clearState
 
 -- by type, in the order of "Cells"
 abbrev pub constant : ℕ → Cell

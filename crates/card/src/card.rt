@@ -10,7 +10,6 @@ use crate::limits::INPUT;
 use crate::limits::PUSH_PULL;
 use cells::cell::Cell;
 use cells::cell::Pulses;
-use cells::cell::State;
 
 // A front or backplane connector: its type (0 input, 1 open-drain, 2 push-pull) and the address that it is driven from.
 #[repr(C)]
@@ -77,11 +76,9 @@ pub fn fresh() -> Card
         kind: 0,
         config: 0,
         slots: [0, 0, 0, 0],
-        state: State {
-            bit: false,
-            count: Pulses(0),
-            pulse: false,
-        },
+        count: Pulses(0),
+        bit: false,
+        pulse: false,
     };
     let front = Connector {
         kind: PUSH_PULL,

@@ -18,6 +18,7 @@ use crate::valid::is_counted;
 use cells::cell::Cell;
 use cells::cell::Config;
 use cells::cell::State;
+use cells::cell::state_of;
 use cells::table::Kept;
 use cells::table::row_of;
 
@@ -71,8 +72,7 @@ fn config_shown(cell: Cell) -> Value
 {
     let row = row_of(cell.kind);
     let kept = row.kept;
-    let s = cell.state;
-    let count = s.count;
+    let count = cell.count;
     if is_counted(kept) {
         count.0
     } else {
@@ -112,8 +112,7 @@ pub fn read_state(x: Context) -> Value
     let cell = x.cell;
     let row = row_of(cell.kind);
     let kept = row.kept;
-    let s = cell.state;
-    state_as(kept, s)
+    state_as(kept, state_of(cell))
 }
 
 // What slot number i of the cell at the pointer holds, X being 0; there is none from 4 on, and its answer is 0.

@@ -22,6 +22,8 @@ use cells::cell::Config;
 use cells::cell::Count;
 use cells::cell::Pulses;
 use cells::cell::State;
+use cells::cell::state_of;
+use cells::cell::with_state;
 use cells::table::Kept;
 use cells::table::Slots;
 use cells::table::row_of;
@@ -52,7 +54,9 @@ pub fn current_cell(card: Card) -> Cell
             kind: 0,
             config: 0,
             slots: [0, 0, 0, 0],
-            state: CLEAR,
+            count: Pulses(0),
+            bit: false,
+            pulse: false,
         }
     }
 }
@@ -138,9 +142,11 @@ fn cleared(cells: [Cell; CELLS], n: usize) -> [Cell; CELLS]
         return cells;
     }
     let i = n - 1;
-    let clear = CLEAR;
+    let none = Pulses(0);
     let mut cell = cells[i];
-    cell.state = clear;
+    cell.count = none;
+    cell.bit = false;
+    cell.pulse = false;
     let mut next = cleared(cells, i);
     next[i] = cell;
     next
@@ -179,7 +185,9 @@ fn typed(kind: u8) -> Cell
         kind: kind,
         config: 0,
         slots: slots,
-        state: CLEAR,
+        count: Pulses(0),
+        bit: false,
+        pulse: false,
     }
 }
 
@@ -207,10 +215,9 @@ pub fn set_config(card: Card, config: Config) -> Card
     let cell = current_cell(card);
     let row = row_of(cell.kind);
     let kept = row.kept;
-    let mut next = cell;
+    let s = configured_state(kept, state_of(cell));
+    let mut next = with_state(cell, s);
     next.config = config;
-    let s = configured_state(kept, cell.state);
-    next.state = s;
     put_cell(card, next)
 }
 
@@ -260,10 +267,8 @@ pub fn set_state(card: Card, v: Count) -> Card
     let cell = current_cell(card);
     let row = row_of(cell.kind);
     let kept = row.kept;
-    let mut next = cell;
-    let s = stated_as(kept, cell.state, v);
-    next.state = s;
-    put_cell(card, next)
+    let s = stated_as(kept, state_of(cell), v);
+    put_cell(card, with_state(cell, s))
 }
 
 // What a slot holds after a write: an edge slot stores the address of an edge.

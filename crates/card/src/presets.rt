@@ -24,7 +24,6 @@ use crate::limits::PUSH_PULL;
 use cells::cell::Cell;
 use cells::cell::Config;
 use cells::cell::Pulses;
-use cells::cell::State;
 
 // How many rows the two tables have: no preset has a number past the first, and none past the second sets a cell.
 const SOURCE_ROWS: usize = 60;
@@ -293,11 +292,9 @@ fn wired_cell(step: bool, place: u8, w: u64) -> Cell
         kind: byte(w, 5),
         config: byte(w, 4) as Config,
         slots: slots,
-        state: State {
-            bit: false,
-            count: Pulses(0),
-            pulse: false,
-        },
+        count: Pulses(0),
+        bit: false,
+        pulse: false,
     }
 }
 

@@ -183,10 +183,40 @@ fn worked(s: State, e: Effect) -> Worked
 {
     match e {
         Effect::Same(out) => Worked { state: s, out: out },
-        Effect::Next(next, out) => Worked {
-            state: next,
-            out: out,
-        },
+        Effect::Bit(bit) => {
+            let mut next = s;
+            next.bit = bit;
+            Worked {
+                state: next,
+                out: bit,
+            }
+        }
+        Effect::Count(count) => {
+            let mut next = s;
+            next.count = count;
+            Worked {
+                state: next,
+                out: 0 < count.0,
+            }
+        }
+        Effect::Timed(count, pulse) => {
+            let mut next = s;
+            next.count = count;
+            next.pulse = pulse;
+            Worked {
+                state: next,
+                out: pulse,
+            }
+        }
+        Effect::Counted(count, active, out) => {
+            let mut next = s;
+            next.count = count;
+            next.bit = active;
+            Worked {
+                state: next,
+                out: out,
+            }
+        }
     }
 }
 
@@ -195,7 +225,7 @@ fn step(kind: u8, s: State, r: Slots) -> State
     ensures { λ t. ⌜ t ≡ workOut kind duration s r .state ⌝ }
 {
     let q = levels(r);
-    let e = cells::work::work(kind, DURATION, s, 0, 1, 2, 3, &q);
+    let e = cells::work::work(kind, DURATION, s.count, s.bit, s.pulse, 0, 1, 2, 3, &q);
     let w = worked(s, e);
     put_step(r, w);
     w.state

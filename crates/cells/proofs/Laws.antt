@@ -145,8 +145,8 @@ pulse-again false false n p v e h k = refl
 pulse-again false true n p v e h k = rw k (sym h)
 
 -- what a timer that is not stirred tells: no trigger, no clock while there is something to count or to end
-quiet-trigger : (s : State) (r : Slots) → timerStirred s r ≡ false → trigger r ≡ false
-quiet-trigger s r h = or-left (trigger r) _ h
+quiet-trigger : (count : ℕ) (pulse : Bool) (r : Slots) → timerStirred count pulse r ≡ false → trigger r ≡ false
+quiet-trigger count pulse r h = or-left (trigger r) _ h
 
 and-or-left : (y a b : Bool) → (y && (a || b)) ≡ false → (y && a) ≡ false
 and-or-left true a b h = or-left a b h
@@ -156,26 +156,26 @@ and-or-right : (y a b : Bool) → (y && (a || b)) ≡ false → (y && b) ≡ fal
 and-or-right true a b h = or-right a b h
 and-or-right false a b h = refl
 
-quiet-clock : (s : State) (r : Slots) → timerStirred s r ≡ false → (r .y && ltb 0 (s .count .0)) ≡ false
-quiet-clock s r h = and-or-left (r .y) (ltb 0 (s .count .0)) _ (or-right (trigger r) _ h)
+quiet-clock : (count : ℕ) (pulse : Bool) (r : Slots) → timerStirred count pulse r ≡ false → (r .y && ltb 0 count) ≡ false
+quiet-clock count pulse r h = and-or-left (r .y) (ltb 0 count) _ (or-right (trigger r) _ h)
 
-quiet-pulse : (s : State) (r : Slots) → timerStirred s r ≡ false → (r .y && s .pulse) ≡ false
-quiet-pulse s r h = and-or-right (r .y) (ltb 0 (s .count .0)) _ (or-right (trigger r) _ h)
+quiet-pulse : (count : ℕ) (pulse : Bool) (r : Slots) → timerStirred count pulse r ≡ false → (r .y && pulse) ≡ false
+quiet-pulse count pulse r h = and-or-right (r .y) (ltb 0 count) _ (or-right (trigger r) _ h)
 
 not-taken : (t : Bool) (r : Slots) (busy : Bool) → trigger r ≡ false → taken t r busy ≡ false
 unfolding taken
 not-taken t r busy h = rw h
 
 -- a taken trigger aside, neither the duration nor when a timer is busy matters
-module _ (t : Bool) (d : ℕ) (s : State) (m n : Slots) (took busy : Bool) (z : n .z ≡ m .z) (u : State) (h : timerStirred u n ≡ false) where
-  count-quiet : u .count .0 ≡ countAfter took d s m → countAfter (taken t n busy) d u n ≡ countAfter took d s m
+module _ (t : Bool) (d : ℕ) (s : State) (m n : Slots) (took busy : Bool) (z : n .z ≡ m .z) (c : ℕ) (p : Bool) (h : timerStirred c p n ≡ false) where
+  count-quiet : c ≡ countAfter took d (s .count .0) m → countAfter (taken t n busy) d c n ≡ countAfter took d (s .count .0) m
   count-quiet e =
-      rw (not-taken t n busy (quiet-trigger u n h), z) (count-again (m .z) (n .y) (u .count .0) _ e (quiet-clock u n h) ∙ e)
+      rw (not-taken t n busy (quiet-trigger c p n h), z) (count-again (m .z) (n .y) c _ e (quiet-clock c p n h) ∙ e)
 
-  pulse-quiet : u .pulse ≡ pulseAfter took d s m → pulseAfter (taken t n busy) d u n ≡ pulseAfter took d s m
+  pulse-quiet : p ≡ pulseAfter took d (s .count .0) (s .pulse) m → pulseAfter (taken t n busy) d c p n ≡ pulseAfter took d (s .count .0) (s .pulse) m
   pulse-quiet e =
-      rw (not-taken t n busy (quiet-trigger u n h), z)
-      (pulse-again (m .z) (n .y) (u .count .0) (u .pulse) _ e (quiet-pulse u n h) (quiet-clock u n h) ∙ e)
+      rw (not-taken t n busy (quiet-trigger c p n h), z)
+      (pulse-again (m .z) (n .y) c p _ e (quiet-pulse c p n h) (quiet-clock c p n h) ∙ e)
 
 stop-again : (z f b : Bool) → cond (z || false) false (cond (z || f) false b) ≡ cond (z || f) false b
 stop-again true f b = refl
@@ -183,7 +183,7 @@ stop-again false f b = refl
 
 -- a counter that is not stirred: the same slots, or neither start nor stop, say whether it is active
 module _ (s : State) (e m n : Slots) (same : Same e m n) where
-  active-again : (k : CounterKind) → Empty (masked (counterAlways k) e) → counterStirred k (counter k s m .state) n ≡ false
+  active-again : (k : CounterKind) → Empty (masked (counterAlways k) e) → counterStirred k (counter k s m .state .bit) n ≡ false
       → activeAfter k n (counter k s m .state .count .0) (counter k s m .state .bit) ≡ activeAfter k m (s .count .0) (s .bit)
   unfolding counterAlways
   active-again WhileBoth fit h = rw (same .x (fit .x), same .f (fit .f))
@@ -196,7 +196,7 @@ module _ (s : State) (e m n : Slots) (same : Same e m n) where
       rw (or-left (n .x) (n .f) edges, or-right (n .x) (n .f) edges, same .z (fit .z)) (stop-again (m .z) (m .f) _)
 
   -- and its clock finds it inactive
-  clock-idle : (k : CounterKind) → Empty (masked (counterAlways k) e) → counterStirred k (counter k s m .state) n ≡ false
+  clock-idle : (k : CounterKind) → Empty (masked (counterAlways k) e) → counterStirred k (counter k s m .state .bit) n ≡ false
       → (n .y && activeAfter k m (s .count .0) (s .bit)) ≡ false
   unfolding counterAlways
   clock-idle WhileBoth fit h = rw (← same .x (fit .x), ← same .f (fit .f)) h
@@ -225,7 +225,7 @@ counted-again false true false c v e h = refl
 counted-again false true true c v e h = absurd (true≢false h)
 
 counter-again : (k : CounterKind) (s : State) (e m n : Slots) → Empty (masked (counterAlways k) e) → Same e m n
-    → counterStirred k (counter k s m .state) n ≡ false → counter k (counter k s m .state) n ≡ counter k s m
+    → counterStirred k (counter k s m .state .bit) n ≡ false → counter k (counter k s m .state) n ≡ counter k s m
 counter-again k s e m n fit same h =
     let a = activeAfter k m (s .count .0) (s .bit) in
     let b = keptActive k (s .bit) a in
@@ -247,12 +247,13 @@ again-as (Flop f) config s e m n fit same h = ap (holding s) (flop-again f e m n
 again-as (OneShot t) config s e m n fit same h =
     let u = workAs (OneShot t) config s m .state in
     ap (λ (c : ℕ). counting s c (s .pulse) (ltb 0 c))
-    (count-quiet t config s m n (taken t m (shotBusy s)) (shotBusy u) (same .z (fit .z)) u h refl)
+    (count-quiet t config s m n (taken t m (shotBusy (s .count .0))) (shotBusy (u .count .0)) (same .z (fit .z)) (u .count .0) (u .pulse) h refl)
 again-as (Delay t) config s e m n fit same h =
     let u = workAs (Delay t) config s m .state in
-    let took = taken t m (delayBusy s) in
-    let c = count-quiet t config s m n took (delayBusy u) (same .z (fit .z)) u h refl in
-    let p = pulse-quiet t config s m n took (delayBusy u) (same .z (fit .z)) u h refl in
+    let took = taken t m (delayBusy (s .count .0) (s .pulse)) in
+    let busy = delayBusy (u .count .0) (u .pulse) in
+    let c = count-quiet t config s m n took busy (same .z (fit .z)) (u .count .0) (u .pulse) h refl in
+    let p = pulse-quiet t config s m n took busy (same .z (fit .z)) (u .count .0) (u .pulse) h refl in
     λ i. counting s (c i) (p i) (p i)
 again-as (Counter k) config s e m n fit same h = counter-again k s e m n fit same h
 
@@ -304,15 +305,15 @@ flop-still SyncDFlop r e = e .y
 flop-still ClearDFlop r e = e .y
 flop-still Jk r e = e .z
 
-timer-still : (s : State) (r : Slots) → Empty (masked (slots true true false true) r) → timerStirred s r ≡ false
-timer-still s r e = rw (e .x, e .y, e .f)
+timer-still : (count : ℕ) (pulse : Bool) (r : Slots) → Empty (masked (slots true true false true) r) → timerStirred count pulse r ≡ false
+timer-still count pulse r e = rw (e .x, e .y, e .f)
 
-counter-still : (k : CounterKind) (s : State) (r : Slots) → Empty (masked (counterStirs k) r) → counterStirred k s r ≡ false
+counter-still : (k : CounterKind) (active : Bool) (r : Slots) → Empty (masked (counterStirs k) r) → counterStirred k active r ≡ false
 unfolding counterStirs
-counter-still WhileBoth s r e = rw (e .y)
-counter-still WhileEither s r e = rw (e .y)
-counter-still FromStart s r e = rw (e .x, e .y, e .f)
-counter-still FromStartAtZero s r e = rw (e .x, e .y, e .f)
+counter-still WhileBoth active r e = rw (e .y)
+counter-still WhileEither active r e = rw (e .y)
+counter-still FromStart active r e = rw (e .x, e .y, e .f)
+counter-still FromStartAtZero active r e = rw (e .x, e .y, e .f)
 
 still-as : (k : Class) (s : State) (r : Slots) → Empty (masked (stirs k) r) → stirredAs k s r ≡ false
 unfolding stirs stirredAs
@@ -320,9 +321,9 @@ still-as Nothing s r e = refl
 still-as Constant s r e = refl
 still-as (Gate g) s r e = refl
 still-as (Flop f) s r e = flop-still f r e
-still-as (OneShot t) s r e = timer-still s r e
-still-as (Delay t) s r e = timer-still s r e
-still-as (Counter k) s r e = counter-still k s r e
+still-as (OneShot t) s r e = timer-still (s .count .0) (s .pulse) r e
+still-as (Delay t) s r e = timer-still (s .count .0) (s .pulse) r e
+still-as (Counter k) s r e = counter-still k (s .bit) r e
 
 slot-still : (s u e a : Bool) → (s && (u && not e)) ≡ false → (e && a) ≡ false → (s && (u && a)) ≡ false
 slot-still false u e a p q = refl

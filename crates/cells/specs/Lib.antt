@@ -1,5 +1,6 @@
 -- What a reader must believe, in the order of document 01.
 pub mod Table
+pub mod State
 pub mod Work
 pub mod Wake
 pub mod Reasons

@@ -16,9 +16,9 @@ clockAs Nothing s r = false
 clockAs Constant s r = false
 clockAs (Gate g) s r = false
 clockAs (Flop f) s r = flopClock f r
-clockAs (OneShot t) s r = timerClock s r
-clockAs (Delay t) s r = timerClock s r
-clockAs (Counter k) s r = counterClock k s r
+clockAs (OneShot t) s r = timerClock (s .count .0) (s .pulse) r
+clockAs (Delay t) s r = timerClock (s .count .0) (s .pulse) r
+clockAs (Counter k) s r = counterClock k (s .bit) r
 
 -- a high X or F wakes by itself: triggers, or start and stop
 abbrev pub hasTriggers : Class → Bool

@@ -15,12 +15,12 @@ use Rattle.cells.specs.Table.{slots, rowOf, masked, levelSlots, anySlot}
 use Rattle.cells.specs.Work.{trigger}
 
 -- "a timer's clock is high while its count is above 0 or its pulse is on"
-abbrev pub timerClock : State → Slots → Bool
-timerClock s r = r .y && (ltb 0 (s .count .0) || s .pulse)
+abbrev pub timerClock : (count : ℕ) (pulse : Bool) → Slots → Bool
+timerClock count pulse r = r .y && (ltb 0 count || pulse)
 
 -- "a timer's ... trigger is high", or its clock as above
-abbrev pub timerStirred : State → Slots → Bool
-timerStirred s r = trigger r || timerClock s r
+abbrev pub timerStirred : (count : ℕ) (pulse : Bool) → Slots → Bool
+timerStirred count pulse r = trigger r || timerClock count pulse r
 
 -- a flip-flop's clock: Z in a JK, Y in the others
 abbrev pub flopClock : FlopKind → Slots → Bool
@@ -30,11 +30,11 @@ flopClock ClearDFlop r = r .y
 flopClock Jk r = r .z
 
 -- "a clock while active (19 and 20 by A and B as read in that tick, 21 and 22 by what they kept)"
-abbrev pub counterClock : CounterKind → State → Slots → Bool
-counterClock WhileBoth s r = r .y && (r .x && r .f)
-counterClock WhileEither s r = r .y && (r .x || r .f)
-counterClock FromStart s r = r .y && s .bit
-counterClock FromStartAtZero s r = r .y && s .bit
+abbrev pub counterClock : CounterKind → (active : Bool) → Slots → Bool
+counterClock WhileBoth active r = r .y && (r .x && r .f)
+counterClock WhileEither active r = r .y && (r .x || r .f)
+counterClock FromStart active r = r .y && active
+counterClock FromStartAtZero active r = r .y && active
 
 -- "21 and 22 take start, clock, reset, stop"
 abbrev pub hasStart : CounterKind → Bool
@@ -44,8 +44,8 @@ hasStart FromStart = true
 hasStart FromStartAtZero = true
 
 -- counters wake "on start, stop, and on a clock while active"
-abbrev pub counterStirred : CounterKind → State → Slots → Bool
-counterStirred k s r = (hasStart k && (r .x || r .f)) || counterClock k s r
+abbrev pub counterStirred : CounterKind → (active : Bool) → Slots → Bool
+counterStirred k active r = (hasStart k && (r .x || r .f)) || counterClock k active r
 
 -- stirred: "a flip-flop's clock slot is high", or the above; gates and constants are never stirred
 unfoldable pub stirredAs : Class → State → Slots → Bool
@@ -53,9 +53,9 @@ stirredAs Nothing s r = false
 stirredAs Constant s r = false
 stirredAs (Gate g) s r = false
 stirredAs (Flop f) s r = flopClock f r
-stirredAs (OneShot t) s r = timerStirred s r
-stirredAs (Delay t) s r = timerStirred s r
-stirredAs (Counter k) s r = counterStirred k s r
+stirredAs (OneShot t) s r = timerStirred (s .count .0) (s .pulse) r
+stirredAs (Delay t) s r = timerStirred (s .count .0) (s .pulse) r
+stirredAs (Counter k) s r = counterStirred k (s .bit) r
 
 unfoldable pub stirred : ℕ → State → Slots → Bool
 stirred kind s r = stirredAs (rowOf kind .class) s (masked (rowOf kind .used) r)

@@ -98,12 +98,12 @@ unfoldable pub taken : (retrigger : Bool) → Slots → (busy : Bool) → Bool
 taken retrigger r busy = trigger r && (retrigger || not busy)
 
 -- "Types 14 and 16 ignore triggers while the count is above 0"
-abbrev pub shotBusy : State → Bool
-shotBusy s = ltb 0 (s .count .0)
+abbrev pub shotBusy : (count : ℕ) → Bool
+shotBusy count = ltb 0 count
 
 -- types 15 and 17 "while the count is above 0", and by document 02 "during the pulse as well, also with duration 0": both before this tick's work
-abbrev pub delayBusy : State → Bool
-delayBusy s = ltb 0 (s .count .0) || s .pulse
+abbrev pub delayBusy : (count : ℕ) (pulse : Bool) → Bool
+delayBusy count pulse = ltb 0 count || pulse
 
 -- a timer's count, of duration d: "reset sets the count to 0. Else a taken trigger ... sets it to d and the clock is ignored. Else a clock edge
 -- lowers a count above 0 by 1." A delay's goes in the "same order"
@@ -127,23 +127,24 @@ abbrev pub counting : State → ℕ → Bool → Bool → Worked
 counting s count pulse out = record { state = record { bit = s .bit; count = pulses count; pulse = pulse }; out = out }
 
 -- a timer's count, and a delay's pulse, after this tick, in which the trigger is taken or not
-abbrev pub countAfter : (taken : Bool) → ℕ → State → Slots → ℕ
-countAfter taken d s r = nextCount (r .z) taken (r .y) d (s .count .0)
+abbrev pub countAfter : (taken : Bool) (d count : ℕ) → Slots → ℕ
+countAfter taken d count r = nextCount (r .z) taken (r .y) d count
 
-abbrev pub pulseAfter : (taken : Bool) → ℕ → State → Slots → Bool
-pulseAfter taken d s r = nextPulse (r .z) taken (r .y) d (s .count .0) (s .pulse)
+abbrev pub pulseAfter : (taken : Bool) (d count : ℕ) (pulse : Bool) → Slots → Bool
+pulseAfter taken d count pulse r = nextPulse (r .z) taken (r .y) d count pulse
 
 -- one-shot: "High while the count is above 0"
 abbrev pub oneShot : Bool → ℕ → State → Slots → Worked
 oneShot retrigger d s r =
-    let count = countAfter (taken retrigger r (shotBusy s)) d s r in
+    let count = countAfter (taken retrigger r (shotBusy (s .count .0))) d (s .count .0) r in
     counting s count (s .pulse) (ltb 0 count)
 
 -- delay: "High during the pulse"
 abbrev pub delay : Bool → ℕ → State → Slots → Worked
 delay retrigger d s r =
-    let t = taken retrigger r (delayBusy s) in
-    counting s (countAfter t d s r) (pulseAfter t d s r) (pulseAfter t d s r)
+    let t = taken retrigger r (delayBusy (s .count .0) (s .pulse)) in
+    let pulse = pulseAfter t d (s .count .0) (s .pulse) r in
+    counting s (countAfter t d (s .count .0) r) pulse pulse
 
 -- counters. 21 and 22: "Reset comes before all else: ... 21 and 22 become inactive, and neither start nor clock is obeyed"; "21 becomes active at
 -- start and inactive at stop; stop wins over start"

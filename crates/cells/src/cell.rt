@@ -1,4 +1,6 @@
 // A cell as the card holds it.
+ghost use mathlib.Core.Path.{_≡_};
+ghost use Rattle.cells.specs.State.{stateOf, withState};
 
 // A configuration: a constant, a lookup's code, a duration. A count is as wide, since a duration sets it.
 pub type Config = u32;
@@ -18,13 +20,39 @@ pub struct State {
     pub pulse: bool,
 }
 
-// One of the card's cells: its settings (type, configuration, the addresses in its slots X Y Z F) and its state.
+// One of the card's cells: its settings (type, configuration, the addresses in its slots X Y Z F) and its state, part by part, in 16 bytes. A tick
+// hands the parts over as they are: a State made there would be packed and unpacked once for each cell.
 #[repr(C)]
 pub struct Cell {
-    pub kind: u8,
     pub config: Config,
+    pub count: Pulses,
     pub slots: [u8; 4],
-    pub state: State,
+    pub kind: u8,
+    pub bit: bool,
+    pub pulse: bool,
+}
+
+// A cell's state as a whole, and the cell with another one.
+pub fn state_of(cell: Cell) -> State
+    ensures { λ s. ⌜ s ≡ stateOf cell ⌝ }
+{
+    let count = cell.count;
+    State {
+        count: count,
+        bit: cell.bit,
+        pulse: cell.pulse,
+    }
+}
+
+pub fn with_state(cell: Cell, s: State) -> Cell
+    ensures { λ r. ⌜ r ≡ withState cell s ⌝ }
+{
+    let count = s.count;
+    let mut next = cell;
+    next.count = count;
+    next.bit = s.bit;
+    next.pulse = s.pulse;
+    next
 }
 
 // What working out a cell gives: the state that it keeps, and its output.

@@ -2,10 +2,11 @@
 ghost use mathlib.Core.Bool.{_||_};
 ghost use mathlib.Core.Path.{_≡_};
 ghost use Rattle.cells.specs.Table.{masked, anySlot};
+ghost use Rattle.cells.specs.State.{state};
 ghost use Rattle.cells.specs.Reading.{readFrom, slotsFrom};
 ghost use Rattle.cells.specs.Wake;
 ghost use Rattle.cells.specs.Wake.{timerClock, timerStirred, flopClock, counterClock, hasStart, counterStirred, stirredAs, hasEdges, moved};
-use crate::cell::State;
+use crate::cell::Pulses;
 use crate::reading::QUARTERS;
 use crate::reading::four;
 use crate::reading::read;
@@ -20,18 +21,17 @@ use crate::table::unpacked;
 use crate::table::used_of;
 
 // A timer's clock while there is something to count or to end.
-pub fn timer_clock(s: State, r: Slots) -> bool
-    ensures { λ q. ⌜ q ≡ timerClock s r ⌝ }
+pub fn timer_clock(count: Pulses, pulse: bool, r: Slots) -> bool
+    ensures { λ q. ⌜ q ≡ timerClock (count .0) pulse r ⌝ }
 {
-    let count = s.count;
-    r.y & ((0 < count.0) | s.pulse)
+    r.y & ((0 < count.0) | pulse)
 }
 
 // A timer's trigger, or that clock.
-fn timer_stirred(s: State, r: Slots) -> bool
-    ensures { λ q. ⌜ q ≡ timerStirred s r ⌝ }
+fn timer_stirred(count: Pulses, pulse: bool, r: Slots) -> bool
+    ensures { λ q. ⌜ q ≡ timerStirred (count .0) pulse r ⌝ }
 {
-    (r.x | r.f) | timer_clock(s, r)
+    (r.x | r.f) | timer_clock(count, pulse, r)
 }
 
 // Whether a flip-flop's clock slot is high.
@@ -46,15 +46,15 @@ pub fn flop_clock(flop: FlopKind, r: Slots) -> bool
     }
 }
 
-// A counter's clock while it is active.
-pub fn counter_clock(counter: CounterKind, s: State, r: Slots) -> bool
-    ensures { λ q. ⌜ q ≡ counterClock counter s r ⌝ }
+// A counter's clock while it is active; `active` is what it kept.
+pub fn counter_clock(counter: CounterKind, active: bool, r: Slots) -> bool
+    ensures { λ q. ⌜ q ≡ counterClock counter active r ⌝ }
 {
     match counter {
         CounterKind::WhileBoth => r.y & (r.x & r.f),
         CounterKind::WhileEither => r.y & (r.x | r.f),
-        CounterKind::FromStart => r.y & s.bit,
-        CounterKind::FromStartAtZero => r.y & s.bit,
+        CounterKind::FromStart => r.y & active,
+        CounterKind::FromStartAtZero => r.y & active,
     }
 }
 
@@ -71,32 +71,38 @@ pub fn has_start(counter: CounterKind) -> bool
 }
 
 // Its start or stop, or that clock.
-fn counter_stirred(counter: CounterKind, s: State, r: Slots) -> bool
-    ensures { λ q. ⌜ q ≡ counterStirred counter s r ⌝ }
+fn counter_stirred(counter: CounterKind, active: bool, r: Slots) -> bool
+    ensures { λ q. ⌜ q ≡ counterStirred counter active r ⌝ }
 {
-    (has_start(counter) & (r.x | r.f)) | counter_clock(counter, s, r)
+    (has_start(counter) & (r.x | r.f)) | counter_clock(counter, active, r)
 }
 
 // Whether an edge that matters to the class is high among the used readings.
-fn stirred_as(class: Class, s: State, r: Slots) -> bool
-    ensures { λ q. ⌜ q ≡ stirredAs class s r ⌝ }
+fn stirred_as(class: Class, count: Pulses, bit: bool, pulse: bool, r: Slots) -> bool
+    ensures { λ q. ⌜ q ≡ stirredAs class (state count bit pulse) r ⌝ }
 {
     match class {
         Class::Nothing => false,
         Class::Constant => false,
         Class::Gate(_) => false,
         Class::Flop(flop) => flop_clock(flop, r),
-        Class::OneShot(_) => timer_stirred(s, r),
-        Class::Delay(_) => timer_stirred(s, r),
-        Class::Counter(counter) => counter_stirred(counter, s, r),
+        Class::OneShot(_) => timer_stirred(count, pulse, r),
+        Class::Delay(_) => timer_stirred(count, pulse, r),
+        Class::Counter(counter) => counter_stirred(counter, bit, r),
     }
 }
 
 // Whether a cell of a type is stirred by what its slots read. Slots that the type does not use do not count.
-pub fn stirred(kind: u8, s: State, r: Slots) -> bool
-    ensures { λ q. ⌜ q ≡ Wake.stirred kind s r ⌝ }
+pub fn stirred(kind: u8, count: Pulses, bit: bool, pulse: bool, r: Slots) -> bool
+    ensures { λ q. ⌜ q ≡ Wake.stirred kind (state count bit pulse) r ⌝ }
 {
-    stirred_as(class_of(kind), s, within(unpacked(used_of(kind)), r))
+    stirred_as(
+        class_of(kind),
+        count,
+        bit,
+        pulse,
+        within(unpacked(used_of(kind)), r),
+    )
 }
 
 // The readings of the slots of a set; a slot outside it reads low.
@@ -163,37 +169,39 @@ fn jk_wakes(x: u8, y: u8, z: u8, q: &[u64; QUARTERS], d: &[u64; QUARTERS]) -> bo
 }
 
 // A timer is stirred, or its reset reads otherwise.
-fn timer_wakes(s: State, r: Slots, z: u8, d: &[u64; QUARTERS]) -> bool
-    ensures { λ q. ⌜ q ≡ (timerStirred s r || readFrom (now (d .entry)) z) ⌝ }
+fn timer_wakes(count: Pulses, pulse: bool, r: Slots, z: u8, d: &[u64; QUARTERS]) -> bool
+    ensures { λ q. ⌜ q ≡ (timerStirred (count .0) pulse r || readFrom (now (d .entry)) z) ⌝ }
 {
-    timer_stirred(s, r) || read(d, z)
+    timer_stirred(count, pulse, r) || read(d, z)
 }
 
 // A counter is stirred, or A, reset or B reads otherwise; one with start and stop: its reset.
 fn gated_wakes(
     counter: CounterKind,
-    s: State,
+    active: bool,
     r: Slots,
     x: u8,
     z: u8,
     f: u8,
     d: &[u64; QUARTERS],
 ) -> bool
-    ensures { λ q. ⌜ q ≡ (counterStirred counter s r || ((readFrom (now (d .entry)) x || readFrom (now (d .entry)) z) || readFrom (now (d .entry)) f)) ⌝ }
+    ensures { λ q. ⌜ q ≡ (counterStirred counter active r || ((readFrom (now (d .entry)) x || readFrom (now (d .entry)) z) || readFrom (now (d .entry)) f)) ⌝ }
 {
-    counter_stirred(counter, s, r) || moved3(d, x, z, f)
+    counter_stirred(counter, active, r) || moved3(d, x, z, f)
 }
 
-fn started_wakes(counter: CounterKind, s: State, r: Slots, z: u8, d: &[u64; QUARTERS]) -> bool
-    ensures { λ q. ⌜ q ≡ (counterStirred counter s r || readFrom (now (d .entry)) z) ⌝ }
+fn started_wakes(counter: CounterKind, active: bool, r: Slots, z: u8, d: &[u64; QUARTERS]) -> bool
+    ensures { λ q. ⌜ q ≡ (counterStirred counter active r || readFrom (now (d .entry)) z) ⌝ }
 {
-    counter_stirred(counter, s, r) || read(d, z)
+    counter_stirred(counter, active, r) || read(d, z)
 }
 
 // Whether a cell that is not edited wakes, whose slots hold the addresses x, y, z and f.
 pub fn wakes(
     kind: u8,
-    s: State,
+    count: Pulses,
+    bit: bool,
+    pulse: bool,
     x: u8,
     y: u8,
     z: u8,
@@ -201,7 +209,7 @@ pub fn wakes(
     q: &[u64; QUARTERS],
     d: &[u64; QUARTERS],
 ) -> bool
-    ensures { λ r. ⌜ r ≡ (Wake.stirred kind s (slotsFrom (now (q .entry)) x y z f) || moved kind (slotsFrom (now (d .entry)) x y z f)) ⌝ }
+    ensures { λ r. ⌜ r ≡ (Wake.stirred kind (state count bit pulse) (slotsFrom (now (q .entry)) x y z f) || moved kind (slotsFrom (now (d .entry)) x y z f)) ⌝ }
 {
     match kind {
         0 => false,
@@ -212,21 +220,29 @@ pub fn wakes(
         5 => moved2(d, x, y),
         6 => moved2(d, x, y),
         7 => moved2(d, x, y),
-        8 => timer_wakes(s, two(q, x, y), z, d),
-        9 => timer_wakes(s, two(q, x, y), z, d),
+        8 => timer_wakes(count, pulse, two(q, x, y), z, d),
+        9 => timer_wakes(count, pulse, two(q, x, y), z, d),
         10 => moved4(d, x, y, z, f),
         11 => moved4(d, x, y, z, f),
         12 => flop_wakes(x, y, z, f, q, d),
         13 => jk_wakes(x, y, z, q, d),
-        14 => timer_wakes(s, two(q, x, y), z, d),
-        15 => timer_wakes(s, two(q, x, y), z, d),
-        16 => timer_wakes(s, four(q, x, y, z, f), z, d),
-        17 => timer_wakes(s, four(q, x, y, z, f), z, d),
+        14 => timer_wakes(count, pulse, two(q, x, y), z, d),
+        15 => timer_wakes(count, pulse, two(q, x, y), z, d),
+        16 => timer_wakes(count, pulse, four(q, x, y, z, f), z, d),
+        17 => timer_wakes(count, pulse, four(q, x, y, z, f), z, d),
         18 => flop_wakes(x, y, z, f, q, d),
-        19 => gated_wakes(CounterKind::WhileBoth, s, four(q, x, y, z, f), x, z, f, d),
-        20 => gated_wakes(CounterKind::WhileEither, s, four(q, x, y, z, f), x, z, f, d),
-        21 => started_wakes(CounterKind::FromStart, s, four(q, x, y, z, f), z, d),
-        22 => started_wakes(CounterKind::FromStartAtZero, s, four(q, x, y, z, f), z, d),
+        19 => gated_wakes(CounterKind::WhileBoth, bit, four(q, x, y, z, f), x, z, f, d),
+        20 => gated_wakes(
+            CounterKind::WhileEither,
+            bit,
+            four(q, x, y, z, f),
+            x,
+            z,
+            f,
+            d,
+        ),
+        21 => started_wakes(CounterKind::FromStart, bit, four(q, x, y, z, f), z, d),
+        22 => started_wakes(CounterKind::FromStartAtZero, bit, four(q, x, y, z, f), z, d),
         _ => false,
     }
 }

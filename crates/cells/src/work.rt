@@ -1,6 +1,9 @@
 // A cell worked out: one function for each family, and the one that picks among them.
+ghost use mathlib.Core.Bool.{Bool};
 ghost use mathlib.Core.Path.{_≡_};
 ghost use Rattle.cells.specs.declared.table.Class.the-variants.{Flop, OneShot, Delay, Counter};
+ghost use Rattle.cells.specs.declared.cell.Pulses.{Pulses};
+ghost use Rattle.cells.specs.State.{state};
 ghost use Rattle.cells.specs.Reading.{slotsFrom};
 ghost use Rattle.cells.specs.Work;
 ghost use Rattle.cells.specs.Work.{lookupOut, looked, dFlop, syncDFlop, clearDFlop, flopNext, shotBusy, delayBusy, nextCount, nextPulse, pulses};
@@ -9,7 +12,6 @@ ghost use Rattle.cells.specs.Effect.{workedBy};
 use crate::cell::Config;
 use crate::cell::Count;
 use crate::cell::Pulses;
-use crate::cell::State;
 use crate::reading::QUARTERS;
 use crate::reading::four;
 use crate::reading::read;
@@ -142,18 +144,16 @@ fn taken(retrigger: bool, r: Slots, busy: bool) -> bool
 }
 
 // A one-shot is busy while it counts, a delay in its pulse as well.
-fn shot_busy(s: State) -> bool
-    ensures { λ q. ⌜ q ≡ shotBusy s ⌝ }
+fn shot_busy(count: Pulses) -> bool
+    ensures { λ q. ⌜ q ≡ shotBusy (count .0) ⌝ }
 {
-    let count = s.count;
     0 < count.0
 }
 
-fn delay_busy(s: State) -> bool
-    ensures { λ q. ⌜ q ≡ delayBusy s ⌝ }
+fn delay_busy(count: Pulses, pulse: bool) -> bool
+    ensures { λ q. ⌜ q ≡ delayBusy (count .0) pulse ⌝ }
 {
-    let count = s.count;
-    (0 < count.0) | s.pulse
+    (0 < count.0) | pulse
 }
 
 // A timer's count. A one-shot's and a delay's go the same way.
@@ -195,16 +195,16 @@ fn next_pulse(reset: bool, taken: bool, clock: bool, d: Pulses, count: Pulses, p
 }
 
 // A timer's count after this tick, in which the trigger is taken or not, and a delay's pulse; `d` is the duration.
-fn count_after(taken: bool, d: Pulses, s: State, r: Slots) -> Pulses
-    ensures { λ n. ⌜ n ≡ pulses (countAfter taken (d .0) s r) ⌝ }
+fn count_after(taken: bool, d: Pulses, count: Pulses, r: Slots) -> Pulses
+    ensures { λ n. ⌜ n ≡ pulses (countAfter taken (d .0) (count .0) r) ⌝ }
 {
-    next_count(r.z, taken, r.y, d, s.count)
+    next_count(r.z, taken, r.y, d, count)
 }
 
-fn pulse_after(taken: bool, d: Pulses, s: State, r: Slots) -> bool
-    ensures { λ q. ⌜ q ≡ pulseAfter taken (d .0) s r ⌝ }
+fn pulse_after(taken: bool, d: Pulses, count: Pulses, pulse: bool, r: Slots) -> bool
+    ensures { λ q. ⌜ q ≡ pulseAfter taken (d .0) (count .0) pulse r ⌝ }
 {
-    next_pulse(r.z, taken, r.y, d, s.count, s.pulse)
+    next_pulse(r.z, taken, r.y, d, count, pulse)
 }
 
 // ---- counters
@@ -271,54 +271,49 @@ fn counted_up(reset: bool, active: bool, clock: bool, count: Pulses) -> Pulses
     }
 }
 
-// What working a cell out gives: the same state and an output, or a new state and an output. A caller writes back only a new one.
+// What working a cell out gives: its output alone, or with what is new in its state. A caller writes back only what is new.
 pub enum Effect {
+    // the state is the same, with an output
     Same(bool),
-    Next(State, bool),
+    // a flip-flop's bit, which is the output
+    Bit(bool),
+    // a one-shot's count: the output is high while it is above 0
+    Count(Pulses),
+    // a delay's count, and its pulse, which is the output
+    Timed(Pulses, bool),
+    // a counter's count, what it keeps of "active", and the output
+    Counted(Pulses, bool, bool),
 }
 
-// A flip-flop's next bit is its output.
-fn flop(flop: FlopKind, s: State, r: Slots) -> Effect
-    ensures { λ e. ⌜ workedBy s e ≡ workAs (Flop flop) 0 s r ⌝ }
+// Each of the families asks only for the parts of the state that matter to it, and says what becomes of any state that has them.
+
+fn flop(flop: FlopKind, bit: bool, r: Slots) -> Effect
+    ensures { λ e. ⌜ ((count : Pulses) (pulse : Bool) → let s = state count bit pulse in workedBy s e ≡ workAs (Flop flop) 0 s r) ⌝ }
 {
-    let bit = flop_next(flop, r, s.bit);
-    let mut next = s;
-    next.bit = bit;
-    Effect::Next(next, bit)
+    Effect::Bit(flop_next(flop, r, bit))
 }
 
-fn one_shot(retrigger: bool, config: Config, s: State, r: Slots) -> Effect
-    ensures { λ e. ⌜ workedBy s e ≡ workAs (OneShot retrigger) config s r ⌝ }
+fn one_shot(retrigger: bool, config: Config, count: Pulses, r: Slots) -> Effect
+    ensures { λ e. ⌜ ((bit pulse : Bool) → let s = state count bit pulse in workedBy s e ≡ workAs (OneShot retrigger) config s r) ⌝ }
 {
-    let took = taken(retrigger, r, shot_busy(s));
-    let count = count_after(took, Pulses(config), s, r);
-    let mut next = s;
-    next.count = count;
-    Effect::Next(next, 0 < count.0)
+    let took = taken(retrigger, r, shot_busy(count));
+    Effect::Count(count_after(took, Pulses(config), count, r))
 }
 
-fn delay(retrigger: bool, config: Config, s: State, r: Slots) -> Effect
-    ensures { λ e. ⌜ workedBy s e ≡ workAs (Delay retrigger) config s r ⌝ }
+fn delay(retrigger: bool, config: Config, count: Pulses, pulse: bool, r: Slots) -> Effect
+    ensures { λ e. ⌜ ((bit : Bool) → let s = state count bit pulse in workedBy s e ≡ workAs (Delay retrigger) config s r) ⌝ }
 {
-    let took = taken(retrigger, r, delay_busy(s));
-    let count = count_after(took, Pulses(config), s, r);
-    let pulse = pulse_after(took, Pulses(config), s, r);
-    let mut next = s;
-    next.count = count;
-    next.pulse = pulse;
-    Effect::Next(next, pulse)
+    let took = taken(retrigger, r, delay_busy(count, pulse));
+    let next = count_after(took, Pulses(config), count, r);
+    Effect::Timed(next, pulse_after(took, Pulses(config), count, pulse, r))
 }
 
-fn counter(counter: CounterKind, s: State, r: Slots) -> Effect
-    ensures { λ e. ⌜ workedBy s e ≡ workAs (Counter counter) 0 s r ⌝ }
+fn counter(counter: CounterKind, count: Pulses, bit: bool, r: Slots) -> Effect
+    ensures { λ e. ⌜ ((pulse : Bool) → let s = state count bit pulse in workedBy s e ≡ workAs (Counter counter) 0 s r) ⌝ }
 {
-    let active = active_after(counter, r, s.count, s.bit);
-    let count = counted_up(r.z, active, r.y, s.count);
-    let bit = kept_active(counter, s.bit, active);
-    let mut next = s;
-    next.count = count;
-    next.bit = bit;
-    Effect::Next(next, active)
+    let active = active_after(counter, r, count, bit);
+    let next = counted_up(r.z, active, r.y, count);
+    Effect::Counted(next, kept_active(counter, bit, active), active)
 }
 
 // A cell worked out, whose slots hold the addresses x, y, z and f. Each arm reads the slots that its type uses. A number past the table is no type:
@@ -326,18 +321,20 @@ fn counter(counter: CounterKind, s: State, r: Slots) -> Effect
 pub fn work(
     kind: u8,
     config: Config,
-    s: State,
+    count: Pulses,
+    bit: bool,
+    pulse: bool,
     x: u8,
     y: u8,
     z: u8,
     f: u8,
     q: &[u64; QUARTERS],
 ) -> Effect
-    ensures { λ e. ⌜ workedBy s e ≡ workOut kind config s (slotsFrom (now (q .entry)) x y z f) ⌝ }
+    ensures { λ e. ⌜ workedBy (state count bit pulse) e ≡ workOut kind config (state count bit pulse) (slotsFrom (now (q .entry)) x y z f) ⌝ }
 {
     match kind {
         0 => Effect::Same(config != 0),
-        1 => flop(FlopKind::DFlop, s, four(q, x, y, z, f)),
+        1 => flop(FlopKind::DFlop, bit, four(q, x, y, z, f)),
         2 => Effect::Same(lookup(config, two(q, x, y))),
         3 => Effect::Same(lookup(config, three(q, x, y, z))),
         4 => Effect::Same(lookup(config, four(q, x, y, z, f))),
@@ -353,8 +350,8 @@ pub fn work(
             let r = two(q, x, y);
             Effect::Same(r.x ^ r.y)
         }
-        8 => one_shot(true, config, s, three(q, x, y, z)),
-        9 => delay(true, config, s, three(q, x, y, z)),
+        8 => one_shot(true, config, count, three(q, x, y, z)),
+        9 => delay(true, config, count, pulse, three(q, x, y, z)),
         10 => {
             let l = look(DECIDES_AND, x, y, z, f, q);
             Effect::Same(l.out)
@@ -363,17 +360,22 @@ pub fn work(
             let l = look(DECIDES_OR, x, y, z, f, q);
             Effect::Same(l.out)
         }
-        12 => flop(FlopKind::SyncDFlop, s, four(q, x, y, z, f)),
-        13 => flop(FlopKind::Jk, s, three(q, x, y, z)),
-        14 => one_shot(false, config, s, three(q, x, y, z)),
-        15 => delay(false, config, s, three(q, x, y, z)),
-        16 => one_shot(false, config, s, four(q, x, y, z, f)),
-        17 => delay(false, config, s, four(q, x, y, z, f)),
-        18 => flop(FlopKind::ClearDFlop, s, four(q, x, y, z, f)),
-        19 => counter(CounterKind::WhileBoth, s, four(q, x, y, z, f)),
-        20 => counter(CounterKind::WhileEither, s, four(q, x, y, z, f)),
-        21 => counter(CounterKind::FromStart, s, four(q, x, y, z, f)),
-        22 => counter(CounterKind::FromStartAtZero, s, four(q, x, y, z, f)),
+        12 => flop(FlopKind::SyncDFlop, bit, four(q, x, y, z, f)),
+        13 => flop(FlopKind::Jk, bit, three(q, x, y, z)),
+        14 => one_shot(false, config, count, three(q, x, y, z)),
+        15 => delay(false, config, count, pulse, three(q, x, y, z)),
+        16 => one_shot(false, config, count, four(q, x, y, z, f)),
+        17 => delay(false, config, count, pulse, four(q, x, y, z, f)),
+        18 => flop(FlopKind::ClearDFlop, bit, four(q, x, y, z, f)),
+        19 => counter(CounterKind::WhileBoth, count, bit, four(q, x, y, z, f)),
+        20 => counter(CounterKind::WhileEither, count, bit, four(q, x, y, z, f)),
+        21 => counter(CounterKind::FromStart, count, bit, four(q, x, y, z, f)),
+        22 => counter(
+            CounterKind::FromStartAtZero,
+            count,
+            bit,
+            four(q, x, y, z, f),
+        ),
         _ => Effect::Same(false),
     }
 }

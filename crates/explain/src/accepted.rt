@@ -172,14 +172,13 @@ fn put_set_config(out: &mut Page, at: usize, x: Context) -> usize {
 // The state of the cell at the pointer.
 fn put_state(out: &mut Page, at: usize, x: Context) -> usize {
     let cell = x.cell;
-    let s = cell.state;
-    let count = s.count;
+    let count = cell.count;
     let a = put_here(out, at, x);
     let class = class_of(cell.kind);
     match class {
         Class::Flop(_) => {
             let b = put(out, a, b": its bit is ");
-            let c = level(out, b, s.bit);
+            let c = level(out, b, cell.bit);
             put(out, c, b".\n")
         }
         _ => around(out, a, b": its count is ", count.0, b".\n"),

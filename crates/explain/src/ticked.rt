@@ -18,7 +18,7 @@ use card::card::Connector;
 use card::limits::CELLS;
 use card::limits::CONNECTORS;
 use cells::cell::Cell;
-use cells::cell::State;
+use cells::cell::Pulses;
 use cells::reasons::Reasons;
 use cells::reasons::any_reason;
 use cells::table::Class;
@@ -91,8 +91,7 @@ fn clock_slot(kind: u8) -> u8 {
 }
 
 // Why a timer's clock counts.
-fn put_busy(out: &mut Page, at: usize, s: State) -> usize {
-    let count = s.count;
+fn put_busy(out: &mut Page, at: usize, count: Pulses) -> usize {
     if 0 < count.0 {
         return around(out, at, b" while the count is ", count.0, b"");
     }
@@ -101,11 +100,10 @@ fn put_busy(out: &mut Page, at: usize, s: State) -> usize {
 
 // Why a clock counts: a flip-flop's always does.
 fn put_while(out: &mut Page, at: usize, cell: Cell) -> usize {
-    let s = cell.state;
     let class = class_of(cell.kind);
     match class {
-        Class::OneShot(_) => put_busy(out, at, s),
-        Class::Delay(_) => put_busy(out, at, s),
+        Class::OneShot(_) => put_busy(out, at, cell.count),
+        Class::Delay(_) => put_busy(out, at, cell.count),
         Class::Counter(_) => put(out, at, b" while it is active"),
         _ => at,
     }
@@ -133,8 +131,7 @@ fn put_reasons(out: &mut Page, at: usize, cell: Cell, q: Reasons) -> usize {
 
 // What a timer or a counter has counted to.
 fn put_count(out: &mut Page, at: usize, cell: Cell) -> usize {
-    let s = cell.state;
-    let count = s.count;
+    let count = cell.count;
     let class = class_of(cell.kind);
     match class {
         Class::OneShot(_) => around(out, at, b", count ", count.0, b""),

@@ -11,6 +11,7 @@ use borrow.Author.Tests.{eq-eqb}
 use Rattle.words.specs.Bits.{bitAt}
 use Rattle.words.proofs.Laws.{bit-zero, bit-ones}
 use Rattle.cells.specs.declared.table.Slots.{Slots}
+use Rattle.cells.specs.State.{stateOf}
 use Rattle.cells.specs.Wake.{wakes}
 use Rattle.card.specs.declared.card.Card.{Card}
 use Rattle.card.specs.Address.{cellCount}
@@ -129,5 +130,5 @@ module _ (n : ℕ) where
       let now = Tick.readIn n false c input i (cell .slots) in
       let read = read-from-fresh calls i (le-of-lt h) in
       let last = recalls n i (c .memory) levels (cell .slots) ∙ ap (λ (r : Readings). r (cell .slots)) read in
-      let said = ap₂ (λ (e : Bool) (r : Slots). wakes (cell .kind) (cell .state) e now r) (edited-from-fresh calls i h) last in
+      let said = ap₂ (λ (e : Bool) (r : Slots). wakes (cell .kind) (stateOf cell) e now r) (edited-from-fresh calls i h) last in
       rw (eq-eqb (input .code) (c .trigger) own) (quick-set n (c .cells) (c .edited) (Tick.wiresOf (c .memory) levels) i h ∙ said)

@@ -12,6 +12,7 @@ use Rattle.text.specs.Decimal.{maxDigits}
 use Rattle.text.proofs.Stores.{sets-all}
 use Rattle.cells.specs.declared.cell.Cell.{Cell}
 use Rattle.cells.specs.declared.table.Slots.{Slots}
+use Rattle.cells.specs.State.{stateOf, cellOf}
 use Rattle.cells.specs.Table.{rowOf, anySlot, largestConfig}
 use Rattle.cells.proofs.Rows.{and-left, and-right}
 use Rattle.card.specs.declared.card.Card.{Card}
@@ -169,7 +170,7 @@ wired-given cell given v =
     let y = slot-given (given .y) (edge .y) (getD v 1 0) (getD (cell .slots) 1 0) in
     let z = slot-given (given .z) (edge .z) (getD v 2 0) (getD (cell .slots) 2 0) in
     let f = slot-given (given .f) (edge .f) (getD v 3 0) (getD (cell .slots) 3 0) in
-    λ i. record { kind = cell .kind; config = cell .config; slots = x i ∷ y i ∷ z i ∷ f i ∷ []; state = cell .state }
+    λ i. cellOf (cell .kind) (cell .config) (x i ∷ y i ∷ z i ∷ f i ∷ []) (stateOf cell)
 
 module _ (n store : ℕ) (apart : firstCell + n ≤ firstConnector) where
   module _ (c : Card) (i : ℕ) (within : i < n) where

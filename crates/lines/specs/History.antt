@@ -9,6 +9,7 @@ use lib.Dec.{eqb}
 use lib.ListN.{length, getD}
 use Rattle.words.specs.Bits.{bitAt}
 use Rattle.cells.specs.declared.table.Slots.{Slots}
+use Rattle.cells.specs.State.{stateOf}
 use Rattle.cells.specs.Wake.{wakes}
 use Rattle.card.specs.declared.card.Card.{Card}
 use Rattle.card.specs.declared.card.Memory.{Memory}
@@ -70,7 +71,7 @@ module _ (n : ℕ) where
       let cell = getD (c .cells) i noCell in
       input .code ≡ c .trigger
       → bitAt (Tick.tick n false c input .answer .woken) i
-      ≡ wakes (cell .kind) (cell .state) (editedSince (freshOf n) calls i false) (readIn n false c input i (cell .slots))
+      ≡ wakes (cell .kind) (stateOf cell) (editedSince (freshOf n) calls i false) (readIn n false c input i (cell .slots))
       (readSince (freshOf n) calls i lowReadings (cell .slots))
 
   -- ---- what the last ticks were

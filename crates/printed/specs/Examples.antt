@@ -10,7 +10,8 @@ use Rattle.cells.specs.declared.cell.Cell.{Cell}
 use Rattle.cells.specs.Table.{rowOf}
 use Rattle.card.specs.declared.card.Card.{Card}
 use Rattle.card.specs.Address.{cellCount}
-use Rattle.card.specs.Fresh.{clearState, started, fresh}
+use Rattle.card.specs.Fresh.{started, fresh}
+use Rattle.card.specs.Presets.{whole}
 use Rattle.card.specs.Valid.{permittedBase, badCellType, badConnectorType, badClock, badAddress, frontDriven, validSlot, validSlots, validCell}
 use Rattle.card.specs.Valid.{validConnector, every, valid, validCard}
 use Rattle.lines.specs.Wiring.{cellCommands, connectorCommands, commandsFrom, wiring, pairsText, commandText}
@@ -18,16 +19,13 @@ use Rattle.printed.specs.Parts.{linesText, commandsText}
 use Rattle.printed.specs.Print.{wiringText, printNumber, printLength, printedTo}
 
 -- cell 1 with these settings, and what is printed of it
-cellOf : (kind config : ℕ) → List ℕ → Cell
-cellOf kind config slots = record { kind = kind; config = config; slots = slots; state = clearState }
-
 printedCell : (kind config : ℕ) → List ℕ → List ℕ
-printedCell kind config slots = commandsText (cellCommands 0 (cellOf kind config slots))
+printedCell kind config slots = commandsText (cellCommands 0 (whole kind config slots))
 
 -- cells of the longest lines on a card whose connectors have the longest sources
 longCard : Card
 longCard =
-    started 0 (replicate 16 (cellOf 17 4294967295 (225 ∷ 225 ∷ 225 ∷ 225 ∷ []))) (replicate 16 (record { kind = 2; source = 225 })) 0
+    started 0 (replicate 16 (whole 17 4294967295 (225 ∷ 225 ∷ 225 ∷ 225 ∷ []))) (replicate 16 (record { kind = 2; source = 225 })) 0
 
 -- given, expected
 abbrev table : List (List ℕ × List ℕ)
@@ -57,9 +55,9 @@ table =
     ∷ []
 
 one-table : map (λ (e : List ℕ × List ℕ). e .0) table ≡ map (λ (e : List ℕ × List ℕ). e .1) table
-unfolding cellOf printedCell longCard bytesOf decimal decimalFrom rowOf fresh cellCommands connectorCommands commandsFrom wiring pairsText commandText linesText commandsText wiringText
+unfolding printedCell longCard bytesOf decimal decimalFrom rowOf fresh cellCommands connectorCommands commandsFrom wiring pairsText commandText linesText commandsText wiringText
 one-table = refl
 
 long-valid : validCard cellCount longCard ≡ true
-unfolding cellOf longCard rowOf permittedBase badCellType badConnectorType badClock badAddress frontDriven validSlot validSlots validCell validConnector every valid validCard
+unfolding longCard rowOf permittedBase badCellType badConnectorType badClock badAddress frontDriven validSlot validSlots validCell validConnector every valid validCard
 long-valid = refl

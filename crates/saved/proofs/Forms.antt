@@ -12,6 +12,7 @@ use lib.Seq.{take-at, take-all, drop-at, drop-drop, drop-append-le, getD-drop, g
 use borrow.Author.Tests.{le-ltb, ltb-true, eqb-true}
 use Rattle.words.proofs.Listed.{length-listed, listed-at, listed-same}
 use Rattle.cells.specs.declared.cell.Cell.{Cell}
+use Rattle.cells.specs.State.{stateOf, cellOf}
 use Rattle.cells.specs.Table.{largestConfig, constantType, largestConstant}
 use Rattle.cells.proofs.Laws.{constant-largest}
 use Rattle.cells.proofs.Rows.{and-right}
@@ -149,7 +150,7 @@ module _ (width i : ℕ) (cell : Cell) (bytes rest : List ℕ) (at : ℕ) (there
   cell-there : length (cell .slots) ≡ 4 → cell .config < 256 ^ width → at ≡ triggerLength + i * cellLength width → cellIn width bytes i ≡ clearedCell cell
   unfolding cellIn
   cell-there n h e =
-      rw (sym e) (λ k. record { kind = kind-there k; config = config-there h k; slots = slots-there n k; state = clearState })
+      rw (sym e) (λ k. cellOf (kind-there k) (config-there h k) (slots-there n k) clearState)
 
 connector-there : (n width k : ℕ) (c : Connector) (bytes rest : List ℕ)
     → drop (triggerLength + n * cellLength width + k * connectorLength) bytes ≡ connectorField k c ++ rest → connectorIn n width bytes k ≡ c
@@ -231,7 +232,7 @@ unfolding normalCell
 normal-small cell small = ap with-config (go (eqb (cell .kind) constantType) refl)
   where
     with-config : ℕ → Cell
-    with-config v = record { kind = cell .kind; config = v; slots = cell .slots; state = cell .state }
+    with-config v = cellOf (cell .kind) v (cell .slots) (stateOf cell)
 
     go : (b : Bool) → eqb (cell .kind) constantType ≡ b → normalConfig (cell .kind) (cell .config) ≡ cell .config
     go true e = rw (e, le-ltb largestConstant (cell .config) (small (eqb-true (cell .kind) constantType e)))

@@ -9,6 +9,7 @@ use lib.ListN.{length, getD, take, drop}
 use lib.Seq.{sets}
 use Rattle.words.specs.Listed.{listed}
 use Rattle.cells.specs.declared.cell.Cell.{Cell}
+use Rattle.cells.specs.State.{stateOf, cellOf}
 use Rattle.cells.specs.Table.{constantType, largestConstant}
 use Rattle.card.specs.declared.card.Card.{Card}
 use Rattle.card.specs.declared.card.Connector.{Connector}
@@ -81,17 +82,13 @@ triggerIn bytes = getD bytes 3 0
 unfoldable pub cellIn : ℕ → List ℕ → ℕ → Cell
 cellIn width bytes i =
     let at = triggerLength + i * cellLength width in
-    record {
-      kind = getD bytes (at + 4) 0;
-      config = bigValue 0 (take width (drop (at + 5) bytes));
-      slots =
-          getD bytes (at + (5 + width)) 0
-          ∷ getD bytes (at + (6 + width)) 0
-          ∷ getD bytes (at + (7 + width)) 0
-          ∷ getD bytes (at + (8 + width)) 0
-          ∷ [];
-      state = clearState;
-    }
+    let slots =
+    getD bytes (at + (5 + width)) 0
+    ∷ getD bytes (at + (6 + width)) 0
+    ∷ getD bytes (at + (7 + width)) 0
+    ∷ getD bytes (at + (8 + width)) 0
+    ∷ [] in
+    cellOf (getD bytes (at + 4) 0) (bigValue 0 (take width (drop (at + 5) bytes))) slots clearState
 
 unfoldable pub connectorIn : ℕ → ℕ → List ℕ → ℕ → Connector
 connectorIn n width bytes k =
@@ -106,7 +103,7 @@ abbrev pub normalConfig : (kind config : ℕ) → ℕ
 normalConfig kind config = cond (eqb kind constantType && ltb largestConstant config) largestConstant config
 
 unfoldable pub normalCell : Cell → Cell
-normalCell cell = record { kind = cell .kind; config = normalConfig (cell .kind) (cell .config); slots = cell .slots; state = cell .state }
+normalCell cell = cellOf (cell .kind) (normalConfig (cell .kind) (cell .config)) (cell .slots) (stateOf cell)
 
 -- the cells that a load gives
 abbrev pub loadCells : ℕ → ℕ → List ℕ → List Cell

@@ -5,6 +5,7 @@ use mathlib.Core.Path.{_≡_, refl}
 use mathlib.Core.List.{List, [], _∷_, _++_, map}
 use lib.ListN.{length, set, take, drop, replicate}
 use Rattle.words.specs.Listed.{listed}
+use Rattle.cells.specs.State.{cellOf}
 use Rattle.cells.specs.Table.{rowOf}
 use Rattle.card.specs.Address.{cellCount}
 use Rattle.card.specs.Fresh.{clearState, fresh}
@@ -130,7 +131,7 @@ table =
     ∷ (with ((11, 0) ∷ (12, 2) ∷ []), 0 ∷ [])
     -- "a card handed in with constant 64 ... shows 64 where its configuration is ... saved"
     ∷ (
-      cellField configWidth 0 (record { kind = 0; config = 64; slots = 0 ∷ 0 ∷ 0 ∷ 0 ∷ []; state = clearState }),
+      cellField configWidth 0 (cellOf 0 64 (0 ∷ 0 ∷ 0 ∷ 0 ∷ []) clearState),
       2 ∷ 0 ∷ 10 ∷ 1 ∷ 0 ∷ 0 ∷ 0 ∷ 0 ∷ 64 ∷ 0 ∷ 0 ∷ 0 ∷ 0 ∷ [],
     )
     -- a lookup's code is loaded as it stands

@@ -25,7 +25,6 @@ use card::valid::valid_settings;
 use cells::cell::Cell;
 use cells::cell::Config;
 use cells::cell::Pulses;
-use cells::cell::State;
 use cells::table::CONSTANT;
 use cells::table::LARGEST_CONSTANT;
 
@@ -226,16 +225,13 @@ fn cell_in(bytes: &[u8], width: usize, i: usize) -> Cell
         bytes[at + (Z_AT + width)],
         bytes[at + (F_AT + width)],
     ];
-    let state = State {
-        bit: false,
-        count: Pulses(0),
-        pulse: false,
-    };
     Cell {
         kind: bytes[at + KIND_AT],
         config: config_in(bytes, at + CONFIG_AT, width),
         slots: slots,
-        state: state,
+        count: Pulses(0),
+        bit: false,
+        pulse: false,
     }
 }
 

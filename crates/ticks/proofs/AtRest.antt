@@ -11,6 +11,7 @@ use borrow.Author.Tests.{eq-eqb, ne-eqb}
 use Rattle.words.specs.Bits.{bitAt, wordOf}
 use Rattle.words.proofs.Laws.{bit-zero}
 use Rattle.cells.specs.declared.table.Slots.{Slots}
+use Rattle.cells.specs.State.{stateOf}
 use Rattle.cells.specs.Wake.{stirred}
 use Rattle.cells.proofs.Laws.{sleeps}
 use Rattle.card.specs.declared.card.Card.{Card}
@@ -95,13 +96,13 @@ module _ (n : ℕ) (c : Card) (input : Input) where
       let w = wiresOf m (lines n c input .levels) in
       let cell = getD (c .cells) i noCell in
       let asleep = sym (quick-set n (c .cells) (c .edited) w i h) ∙ ap (λ (x : ℕ). bitAt x i) none ∙ bit-zero i in
-      let quiet = sleeps (cell .kind) (cell .state) (bitAt (c .edited) i)
+      let quiet = sleeps (cell .kind) (stateOf cell) (bitAt (c .edited) i)
       (readNow n i w (outputsBelow n false (c .cells) (c .edited) w i) (cell .slots)) (readLast n i w (cell .slots)) asleep .1 in
       let now = ap₂ (λ (f g : ℕ → Bool). slotsRead f g (cell .slots))
       ((λ k. view n i (outputs k) (m .outputs) (levels k)) ∙ view-any n i (m .outputs) (m .levels))
       ((λ k. view n i (m .outputs) (still .outputs2 k) (m .levels)) ∙ view-any n i (m .outputs) (m .levels)) in
       let seen = sym (read-whole n false (c .cells) (c .edited) w n i (cell .slots) (le-of-lt h)) ∙ now in
-      ap (λ (r : Slots). not (stirred (cell .kind) (cell .state) r)) (sym seen) ∙ ap not quiet
+      ap (λ (r : Slots). not (stirred (cell .kind) (stateOf cell) r)) (sym seen) ∙ ap not quiet
 
   pub rests-still : input .code ≡ c .trigger → AtRest n c input → Still n c input
   unfolding tick

@@ -13,6 +13,7 @@ use Rattle.words.specs.Bits.{bitAt, bitNumber}
 use Rattle.words.proofs.Listed.{front-at}
 use Rattle.cells.specs.declared.table.Slots.{Slots}
 use Rattle.cells.specs.declared.cell.Cell.{Cell}
+use Rattle.cells.specs.State.{stateOf}
 use Rattle.cells.specs.Work.{largestCount, raised}
 use Rattle.cells.proofs.Counters.{gated-counts, gated-sleeps}
 use Rattle.cells.proofs.Laws.{or-right}
@@ -28,9 +29,9 @@ counted high count = cond high (raised count) count
 
 -- the turn of the cell, worked out or not
 turn-counts : (cell : Cell) (now : Slots) (out b : Bool) → cell .kind ≡ 19 → now .z ≡ false → (b ≡ false → allHigh now ≡ false)
-    → cond b (workedTurn cell now) (sleptTurn cell out) .cell .state .count .0 ≡ counted (allHigh now) (cell .state .count .0)
+    → cond b (workedTurn cell now) (sleptTurn cell out) .cell .count .0 ≡ counted (allHigh now) (cell .count .0)
 unfolding counted
-turn-counts cell now out true k z h = rw k (gated-counts (cell .config) (cell .state) now z)
+turn-counts cell now out true k z h = rw k (gated-counts (cell .config) (stateOf cell) now z)
 turn-counts cell now out false k z h = rw (h refl)
 
 turn-kind : (cell : Cell) (now : Slots) (out b : Bool) → cond b (workedTurn cell now) (sleptTurn cell out) .cell .kind ≡ cell .kind
@@ -54,13 +55,13 @@ module _ (n : ℕ) (c : Card) (t : Bool × Input) (i : ℕ) (inside : i < n) whe
 
   -- and so does its count, unless the tick runs with all three high
   tick-counts : cellAt c i .kind ≡ 19 → (runs c t ≡ true → readsIn n c t i .z ≡ false)
-      → cellAt (afterTick n c t) i .state .count .0 ≡ counted (runs c t && allHigh (readsIn n c t i)) (cellAt c i .state .count .0)
+      → cellAt (afterTick n c t) i .count .0 ≡ counted (runs c t && allHigh (readsIn n c t i)) (cellAt c i .count .0)
   unfolding tick turned turnAt named counted
   tick-counts k low = go (runs c t) low
     where
       go : (b : Bool) → (b ≡ true → readsIn n c t i .z ≡ false)
-          → getD (cond b (ticked n (t .0) c (t .1)) (idle c) .card .cells) i noCell .state .count .0
-          ≡ counted (b && allHigh (readsIn n c t i)) (cellAt c i .state .count .0)
+          → getD (cond b (ticked n (t .0) c (t .1)) (idle c) .card .cells) i noCell .count .0
+          ≡ counted (b && allHigh (readsIn n c t i)) (cellAt c i .count .0)
       go false low = refl
       go true low =
           let cell = cellAt c i in
@@ -68,9 +69,9 @@ module _ (n : ℕ) (c : Card) (t : Bool × Input) (i : ℕ) (inside : i < n) whe
           let below = outputsBelow n (t .0) (c .cells) (c .edited) w i in
           let next = cellAfter n (t .0) (c .cells) (c .edited) w in
           let asleep : (t .0 || named n cell i (c .edited) w below) ≡ false → allHigh (readsIn n c t i) ≡ false = λ h.
-          gated-sleeps (cell .kind) (cell .state) (bitAt (c .edited) i) (readNow n i w below (cell .slots)) (readLast n i w (cell .slots)) k
+          gated-sleeps (cell .kind) (stateOf cell) (bitAt (c .edited) i) (readNow n i w below (cell .slots)) (readLast n i w (cell .slots)) k
           (or-right (t .0) _ h) in
-          ap (λ (x : Cell). x .state .count .0) (front-at next n (c .cells) i noCell inside)
+          ap (λ (x : Cell). x .count .0) (front-at next n (c .cells) i noCell inside)
           ∙ turn-counts cell (readsIn n c t i) (bitAt (w .outputs) i) (t .0 || named n cell i (c .edited) w below) k (low refl) asleep
 
 -- a count that stays within the limit does so, and the limit takes what is added beyond it
@@ -115,14 +116,14 @@ pub counts-on : (n : ℕ) → CountsOn n
 unfolding CountsOn afterTicks highTicks ResetLow
 counts-on n c ts i inside = go ts c
   where
-    go : (ts : Ticks) (c : Card) → cellAt c i .kind ≡ 19 → cellAt c i .state .count .0 ≤ largestCount → ResetLow n c ts i
-        → cellAt (afterTicks n c ts) i .state .count .0 ≡ upToLargest (cellAt c i .state .count .0 + highTicks n c ts i)
-    go [] c k most low = capped-all (cellAt c i .state .count .0) most
+    go : (ts : Ticks) (c : Card) → cellAt c i .kind ≡ 19 → cellAt c i .count .0 ≤ largestCount → ResetLow n c ts i
+        → cellAt (afterTicks n c ts) i .count .0 ≡ upToLargest (cellAt c i .count .0 + highTicks n c ts i)
+    go [] c k most low = capped-all (cellAt c i .count .0) most
     go (t ∷ ts) c k most low =
-        let v = cellAt c i .state .count .0 in
+        let v = cellAt c i .count .0 in
         let high = runs c t && allHigh (readsIn n c t i) in
         let step = tick-counts n c t i inside k (low .0) in
-        let within : cellAt (afterTick n c t) i .state .count .0 ≤ largestCount = rw step (counted-within high v most) in
+        let within : cellAt (afterTick n c t) i .count .0 ≤ largestCount = rw step (counted-within high v most) in
         go ts (afterTick n c t) (kind-stays n c t i inside ∙ k) within (low .1)
         ∙ ap (λ (x : ℕ). upToLargest (x + highTicks n (afterTick n c t) ts i)) step
         ∙ capped-more high v (highTicks n (afterTick n c t) ts i) most

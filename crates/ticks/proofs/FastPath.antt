@@ -17,6 +17,7 @@ use Rattle.words.proofs.Laws.{bit-zero, bit-built, built-same, built-of-bits}
 use Rattle.words.proofs.Listed.{listed-same, listed-take}
 use Rattle.cells.specs.declared.cell.Cell.{Cell}
 use Rattle.cells.specs.declared.table.Slots.{Slots}
+use Rattle.cells.specs.State.{stateOf}
 use Rattle.cells.specs.Wake.{stirred, wakes}
 use Rattle.cells.proofs.Laws.{wakes-splits, disagree-self}
 use Rattle.cells.proofs.Rows.{and-left, and-right}
@@ -77,7 +78,7 @@ rest-seen zero v w cells e = refl
 rest-seen (suc n) v w cells e =
     let cell = getD cells n noCell in
     let seen = sym (slots-built v v (cell .slots)) ∙ ap (λ (x : ℕ). slotsRead (bitAt x) (bitAt x) (cell .slots)) (sym e) in
-    ap₂ _&&_ (rest-seen n v w cells e) (ap (λ (r : Slots). not (stirred (cell .kind) (cell .state) r)) seen)
+    ap₂ _&&_ (rest-seen n v w cells e) (ap (λ (r : Slots). not (stirred (cell .kind) (stateOf cell) r)) seen)
 
 -- every position sees the one view
 mixed-any : (i o j : ℕ) → mixed i o o j ≡ mixed 0 o o j
@@ -88,9 +89,9 @@ unfolding view
 view-any n i o l = λ k b. levelAt n (λ j. mixed-any i o j k) (bitAt l) b
 
 wakes-not : (cell : Cell) (edited : Bool) (now last r : Slots) → edited ≡ false → now ≡ r → last ≡ r
-    → stirred (cell .kind) (cell .state) r ≡ false → wakes (cell .kind) (cell .state) edited now last ≡ false
+    → stirred (cell .kind) (stateOf cell) r ≡ false → wakes (cell .kind) (stateOf cell) edited now last ≡ false
 wakes-not cell edited now last r e en el quiet =
-    wakes-splits (cell .kind) (cell .state) edited now last ∙ rw (e, en, el, quiet) (disagree-self (cell .kind) r)
+    wakes-splits (cell .kind) (stateOf cell) edited now last ∙ rw (e, en, el, quiet) (disagree-self (cell .kind) r)
 
 module _ (n o l : ℕ) (cells : List Cell) (rest : allRest n (view n 0 o o l) cells ≡ true) where
   w : Wires

@@ -18,6 +18,7 @@ use Rattle.words.proofs.Listed.{front-at, listed-same}
 use Rattle.cells.specs.declared.table.Slots.{Slots}
 use Rattle.cells.specs.declared.cell.Cell.{Cell}
 use Rattle.cells.specs.declared.cell.Worked.{Worked}
+use Rattle.cells.specs.State.{stateOf}
 use Rattle.cells.specs.Wake.{stirred, disagree}
 use Rattle.cells.proofs.Laws.{again, constant-works, sleeps, disagree-sym, disagree-trans}
 use Rattle.card.specs.declared.card.Card.{Card}
@@ -30,7 +31,7 @@ use Rattle.card.proofs.EditLaws.{all-edited}
 use Rattle.ticks.specs.declared.tick.Input.{Input}
 use Rattle.ticks.specs.declared.tick.Wires.{Wires}
 use Rattle.ticks.specs.Reading.{levelAt, slotsRead, mixed, view}
-use Rattle.ticks.specs.Tick.{readNow, readLast, withState, workedTurn, sleptTurn, named, turnAt, outputsBelow, cellAfter, wokeAt, turned}
+use Rattle.ticks.specs.Tick.{readNow, readLast, turnTo, workedTurn, sleptTurn, named, turnAt, outputsBelow, cellAfter, wokeAt, turned}
 use Rattle.ticks.specs.Tick.{wiresOf, lines, cardAfter, readIn, ticked, idle, tick}
 use Rattle.ticks.specs.Settled.{remembered, Keeps, Settled, AlikeTicks}
 use Rattle.ticks.specs.Examples.{clock0, unsettled, wrong-stays, wrong-goes}
@@ -121,7 +122,7 @@ started-low n i = λ k s. slotsRead (view-low n i k) (view-low n i k) s
 keeps-worked : (cell : Cell) (now : Slots) → Keeps (workedTurn cell now .cell) (workedTurn cell now .out) now
 unfolding Keeps
 keeps-worked cell now next agree quiet =
-    again (cell .kind) (cell .config) (cell .state) now next (disagree-sym (cell .kind) now next ∙ agree) quiet
+    again (cell .kind) (cell .config) (stateOf cell) now next (disagree-sym (cell .kind) now next ∙ agree) quiet
 
 -- a cell that slept keeps what it has, also under the readings that let it sleep
 keeps-slept : (cell : Cell) (out : Bool) (now last : Slots) → disagree (cell .kind) now last ≡ false → Keeps cell out last → Keeps cell out now
@@ -142,12 +143,12 @@ module _ (n : ℕ) (c : Card) (levels : ℕ) (settled : Settled n c) where
   slept-keeps : (i below : ℕ) → i < n → let cell = getD (c .cells) i noCell in
       named n cell i (c .edited) (wiresOf (c .memory) levels) below ≡ false
       → (disagree (cell .kind) (readNow n i (wiresOf (c .memory) levels) below (cell .slots)) (readLast n i (wiresOf (c .memory) levels) (cell .slots)) ≡ false)
-      × (stirred (cell .kind) (cell .state) (readNow n i (wiresOf (c .memory) levels) below (cell .slots)) ≡ false)
+      × (stirred (cell .kind) (stateOf cell) (readNow n i (wiresOf (c .memory) levels) below (cell .slots)) ≡ false)
       × Keeps cell (bitAt (c .memory .outputs) i) (readLast n i (wiresOf (c .memory) levels) (cell .slots))
   unfolding named Settled
   slept-keeps i below h asleep =
       let cell = getD (c .cells) i noCell in
-      let s = sleeps (cell .kind) (cell .state) (bitAt (c .edited) i) (readNow n i (wiresOf (c .memory) levels) below (cell .slots))
+      let s = sleeps (cell .kind) (stateOf cell) (bitAt (c .edited) i) (readNow n i (wiresOf (c .memory) levels) below (cell .slots))
       (readLast n i (wiresOf (c .memory) levels) (cell .slots)) asleep in
       (s .2, s .1, rw (recalls n i (c .memory) levels (cell .slots)) (settled i h (s .0)))
 
@@ -184,7 +185,7 @@ module _ (n : ℕ) (c : Card) (levels : ℕ) (settled : Settled n c) where
       go false e =
           let k = slept-keeps i below h e in
           let w = k .2 (readNow n i (wiresOf (c .memory) levels) below (getD (c .cells) i noCell .slots)) (k .0) (k .1) in
-          (ap (withState (getD (c .cells) i noCell)) (sym w), ap (λ (r : Worked). r .out) (sym w))
+          (ap (λ (r : Worked). turnTo (getD (c .cells) i noCell) r .cell) (sym w), ap (λ (r : Worked). r .out) (sym w))
 
   -- so quick and full ticks agree in the outputs, cell by cell
   outputs-same : (i : ℕ) → i ≤ n → let w = wiresOf (c .memory) levels in

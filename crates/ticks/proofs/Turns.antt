@@ -18,6 +18,7 @@ use Rattle.words.proofs.Laws.{bit-zero, bit-xor, bit-with-same, bit-with-other,
 use Rattle.words.proofs.Listed.{length-listed}
 use Rattle.cells.specs.declared.cell.Cell.{Cell}
 use Rattle.cells.specs.declared.cell.Worked.{Worked}
+use Rattle.cells.specs.State.{stateOf}
 use Rattle.cells.specs.Wake.{wakes, stirred, disagree}
 use Rattle.cells.specs.Work.{workOut}
 use Rattle.card.specs.Address.{cellCount}
@@ -25,7 +26,7 @@ use Rattle.card.specs.Edits.{withSettings}
 use Rattle.card.specs.declared.card.Card.{Card}
 use Rattle.ticks.specs.declared.tick.Wires.{Wires}
 use Rattle.ticks.specs.Reading.{slotsRead}
-use Rattle.ticks.specs.Tick.{cellAfter, wokeAt, seesNow, sawLast, sawEarlier, readNow, readLast, withState, workedTurn, sleptTurn, named, turnAt}
+use Rattle.ticks.specs.Tick.{cellAfter, wokeAt, seesNow, sawLast, sawEarlier, readNow, readLast, turnTo, workedTurn, sleptTurn, named, turnAt}
 use Rattle.ticks.specs.Words.{ReadsAs, MovesAs, shiftedAt}
 use Rattle.ticks.proofs.Sleep.{view-same}
 use Rattle.ticks.proofs.Ticks.{outAt}
@@ -79,23 +80,23 @@ module _ (n : ℕ) (full : Bool) (cell : Cell) (i edited : ℕ) (w : Wires) (bel
 
   -- the code's test is that of the definition
   pub woke-is : (must r : Bool) → must ≡ (full || bitAt edited i)
-      → r ≡ wakes (cell .kind) (cell .state) must
+      → r ≡ wakes (cell .kind) (stateOf cell) must
       (slotsRead (seesNow n i w below) (sawLast n i w) (cell .slots)) (slotsRead (sawLast n i w) (sawEarlier n i w) (cell .slots)) → r ≡ due
   unfolding named wakes readNow readLast
   woke-is must r m e =
       let now = slotsRead (seesNow n i w below) (sawLast n i w) (cell .slots) in
       let last = slotsRead (sawLast n i w) (sawEarlier n i w) (cell .slots) in
-      e ∙ ap (λ (b : Bool). wakes (cell .kind) (cell .state) b now last) m
-      ∙ sym (or-assoc full (bitAt edited i) (stirred (cell .kind) (cell .state) now || disagree (cell .kind) now last))
+      e ∙ ap (λ (b : Bool). wakes (cell .kind) (stateOf cell) b now last) m
+      ∙ sym (or-assoc full (bitAt edited i) (stirred (cell .kind) (stateOf cell) now || disagree (cell .kind) now last))
 
   -- and so it is where only a cell that is not due is asked
   test : Bool → Bool
   test must =
-      wakes (cell .kind) (cell .state) must
+      wakes (cell .kind) (stateOf cell) must
       (slotsRead (seesNow n i w below) (sawLast n i w) (cell .slots)) (slotsRead (sawLast n i w) (sawEarlier n i w) (cell .slots))
 
   pub woke-asked : (must r asked : Bool) → must ≡ (full || bitAt edited i) → must ≡ false → r ≡ asked
-      → asked ≡ wakes (cell .kind) (cell .state) false
+      → asked ≡ wakes (cell .kind) (stateOf cell) false
       (slotsRead (seesNow n i w below) (sawLast n i w) (cell .slots)) (slotsRead (sawLast n i w) (sawEarlier n i w) (cell .slots)) → r ≡ due
   unfolding test
   woke-asked must r asked m off er e = woke-is must r m (er ∙ e ∙ ap test (sym off))
@@ -104,11 +105,11 @@ module _ (n : ℕ) (full : Bool) (cell : Cell) (i edited : ℕ) (w : Wires) (bel
   unfolding test wakes
   woke-due must r m on e = woke-is must r m (e ∙ on ∙ ap test (sym on))
 
-  pub turn-worked : (v : Worked) → due ≡ true → v ≡ workOut (cell .kind) (cell .config) (cell .state)
+  pub turn-worked : (v : Worked) → due ≡ true → v ≡ workOut (cell .kind) (cell .config) (stateOf cell)
       (slotsRead (seesNow n i w below) (sawLast n i w) (cell .slots))
-      → turnAt n full cell i edited w below ≡ record { cell = withState cell v; out = v .out; woke = true }
+      → turnAt n full cell i edited w below ≡ turnTo cell v
   unfolding turnAt readNow
-  turn-worked v e worked = rw e (λ k. let r = worked in record { cell = withState cell (sym r k); out = sym r k .out; woke = true })
+  turn-worked v e worked = rw e (ap (turnTo cell) (sym worked))
 
   pub turn-slept : due ≡ false → turnAt n full cell i edited w below ≡ record { cell = cell; out = bitAt (w .outputs) i; woke = false }
   unfolding turnAt
@@ -129,7 +130,7 @@ unfolding turnAt named readNow
 turn-same n full cell i edited w below other same =
     ap (λ (sees : ℕ → Bool).
     let now = slotsRead sees (sawLast n i w) (cell .slots) in
-    cond (full || wakes (cell .kind) (cell .state) (bitAt edited i) now (readLast n i w (cell .slots))) (workedTurn cell now)
+    cond (full || wakes (cell .kind) (stateOf cell) (bitAt edited i) now (readLast n i w (cell .slots))) (workedTurn cell now)
     (sleptTurn cell (bitAt (w .outputs) i)))
     (view-same n i below other (w .outputs) (w .levels) same)
 

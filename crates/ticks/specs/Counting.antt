@@ -55,5 +55,5 @@ abbrev pub upToLargest : ℕ → ℕ
 upToLargest v = cond (ltb v largestCount) v largestCount
 
 unfoldable pub CountsOn : ℕ → Type 0
-CountsOn n = (c : Card) (ts : Ticks) (i : ℕ) → i < n → cellAt c i .kind ≡ 19 → cellAt c i .state .count .0 ≤ largestCount → ResetLow n c ts i
-    → cellAt (afterTicks n c ts) i .state .count .0 ≡ upToLargest (cellAt c i .state .count .0 + highTicks n c ts i)
+CountsOn n = (c : Card) (ts : Ticks) (i : ℕ) → i < n → cellAt c i .kind ≡ 19 → cellAt c i .count .0 ≤ largestCount → ResetLow n c ts i
+    → cellAt (afterTicks n c ts) i .count .0 ≡ upToLargest (cellAt c i .count .0 + highTicks n c ts i)

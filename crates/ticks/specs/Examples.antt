@@ -14,7 +14,8 @@ use Rattle.cells.specs.Work.{taken, workAs, workOut}
 use Rattle.cells.specs.Wake.{stirredAs, stirred, disagree, wakes}
 use Rattle.card.specs.declared.card.Card.{Card}
 use Rattle.card.specs.Address.{cellCount, connectorCount}
-use Rattle.card.specs.Fresh.{clearState, fresh}
+use Rattle.card.specs.Fresh.{fresh}
+use Rattle.card.specs.Presets.{whole}
 use Rattle.ticks.specs.declared.tick.Answer.{Answer}
 use Rattle.ticks.specs.declared.tick.Input.{Input}
 use Rattle.ticks.specs.declared.tick.Ticked.{Ticked}
@@ -23,9 +24,6 @@ use Rattle.ticks.specs.Levels.{effectiveSample, linesOf}
 use Rattle.ticks.specs.Tick.{readNow, readLast, named, turnAt, outputsBelow, turned, tick}
 
 -- ---- the cards
-
-abbrev pub cellOf : ℕ → ℕ → List ℕ → Cell
-cellOf kind config slots = record { kind = kind; config = config; slots = slots; state = clearState }
 
 -- a fresh card with these cells, this cell word in every tick so far, and these edits
 abbrev pub card : List Cell → ℕ → ℕ → Card
@@ -44,18 +42,18 @@ twoCells a b = set (set (fresh .cells) 0 a) 1 b
 
 -- cell 1 follows TTL0 (address 41), and cell 2 is an AND2 on the rise of cell 1 (129) and an input that is always high (64)
 edgeCard : Card
-edgeCard = card (twoCells (cellOf 6 0 (41 ∷ 0 ∷ 0 ∷ 0 ∷ [])) (cellOf 5 0 (129 ∷ 64 ∷ 0 ∷ 0 ∷ []))) 0 3
+edgeCard = card (twoCells (whole 6 0 (41 ∷ 0 ∷ 0 ∷ 0 ∷ [])) (whole 5 0 (129 ∷ 64 ∷ 0 ∷ 0 ∷ []))) 0 3
 
 -- cell 2 follows cell 1, which follows TTL0; and the other way round
 upward : Card
-upward = card (twoCells (cellOf 6 0 (41 ∷ 0 ∷ 0 ∷ 0 ∷ [])) (cellOf 6 0 (1 ∷ 0 ∷ 0 ∷ 0 ∷ []))) 0 3
+upward = card (twoCells (whole 6 0 (41 ∷ 0 ∷ 0 ∷ 0 ∷ [])) (whole 6 0 (1 ∷ 0 ∷ 0 ∷ 0 ∷ []))) 0 3
 
 downward : Card
-downward = card (twoCells (cellOf 6 0 (2 ∷ 0 ∷ 0 ∷ 0 ∷ [])) (cellOf 6 0 (41 ∷ 0 ∷ 0 ∷ 0 ∷ []))) 0 3
+downward = card (twoCells (whole 6 0 (2 ∷ 0 ∷ 0 ∷ 0 ∷ [])) (whole 6 0 (41 ∷ 0 ∷ 0 ∷ 0 ∷ []))) 0 3
 
 -- a card that is not settled: nobody edited cell 1, an AND2 of two low inputs, and its output is high
 unfoldable pub unsettled : Card
-unsettled = card (set (fresh .cells) 0 (cellOf 5 0 (0 ∷ 0 ∷ 0 ∷ 0 ∷ []))) 1 0
+unsettled = card (set (fresh .cells) 0 (whole 5 0 (0 ∷ 0 ∷ 0 ∷ 0 ∷ []))) 1 0
 
 -- these cells, and every connector of this type and driven from this address
 wired : List Cell → (kind source : ℕ) → Card
@@ -71,7 +69,7 @@ wired cells kind source =
 
 -- inputs; cell 1 is high in the tick in which TTL0 rises (address 169), cell 2 in the one in which BNC1 falls (225)
 torn : Card
-torn = wired (twoCells (cellOf 5 0 (169 ∷ 64 ∷ 0 ∷ 0 ∷ [])) (cellOf 5 0 (225 ∷ 64 ∷ 0 ∷ 0 ∷ []))) 0 0
+torn = wired (twoCells (whole 5 0 (169 ∷ 64 ∷ 0 ∷ 0 ∷ [])) (whole 5 0 (225 ∷ 64 ∷ 0 ∷ 0 ∷ []))) 0 0
 
 -- ---- lines with nothing attached
 

@@ -6,6 +6,7 @@ use mathlib.Core.List.{List}
 use lib.Dec.{eqb}
 use lib.ListN.{getD}
 use Rattle.cells.specs.declared.cell.Cell.{Cell}
+use Rattle.cells.specs.State.{stateOf}
 use Rattle.cells.specs.Wake.{stirred}
 use Rattle.card.specs.declared.card.Card.{Card}
 use Rattle.card.specs.declared.card.Memory.{Memory}
@@ -41,7 +42,7 @@ steady w =
 
 -- nothing stirs a cell under a view that does not change
 abbrev pub cellRests : (ℕ → Bool) → Cell → Bool
-cellRests view cell = not (stirred (cell .kind) (cell .state) (slotsRead view view (cell .slots)))
+cellRests view cell = not (stirred (cell .kind) (stateOf cell) (slotsRead view view (cell .slots)))
 
 -- nothing stirs any of the first n
 unfoldable pub allRest : ℕ → (ℕ → Bool) → List Cell → Bool

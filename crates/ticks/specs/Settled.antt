@@ -7,6 +7,7 @@ use lib.ListN.{getD}
 use Rattle.words.specs.Bits.{bitAt}
 use Rattle.cells.specs.declared.table.Slots.{Slots}
 use Rattle.cells.specs.declared.cell.Cell.{Cell}
+use Rattle.cells.specs.State.{stateOf}
 use Rattle.cells.specs.Work.{keeping, workOut}
 use Rattle.cells.specs.Wake.{stirred, disagree}
 use Rattle.card.specs.declared.card.Card.{Card}
@@ -22,8 +23,8 @@ remembered n i m s = slotsRead (view n i (m .outputs) (m .outputs2) (m .levels))
 -- a cell with an output keeps both its state and the output when it is worked out with any readings that agree with `last` on the used slots
 -- that are no edge slots, and that stir nothing
 unfoldable pub Keeps : Cell → Bool → Slots → Type 0
-Keeps cell out last = (now : Slots) → disagree (cell .kind) now last ≡ false → stirred (cell .kind) (cell .state) now ≡ false
-    → workOut (cell .kind) (cell .config) (cell .state) now ≡ keeping (cell .state) out
+Keeps cell out last = (now : Slots) → disagree (cell .kind) now last ≡ false → stirred (cell .kind) (stateOf cell) now ≡ false
+    → workOut (cell .kind) (cell .config) (stateOf cell) now ≡ keeping (stateOf cell) out
 
 -- every cell that is not edited does
 unfoldable pub Settled : ℕ → Card → Type 0

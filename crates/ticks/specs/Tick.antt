@@ -10,6 +10,7 @@ use Rattle.words.specs.Listed.{listed}
 use Rattle.cells.specs.declared.table.Slots.{Slots}
 use Rattle.cells.specs.declared.cell.Cell.{Cell}
 use Rattle.cells.specs.declared.cell.Worked.{Worked}
+use Rattle.cells.specs.State.{stateOf, withState}
 use Rattle.cells.specs.Work.{workOut}
 use Rattle.cells.specs.Wake.{wakes}
 use Rattle.card.specs.declared.card.Card.{Card}
@@ -47,23 +48,18 @@ readLast n i w s = slotsRead (sawLast n i w) (sawEarlier n i w) s
 
 -- ---- one cell
 
--- "a cell worked out gets the state and output that "Cells" gives for its state and its slots as read in this tick"
-abbrev pub withState : Cell → Worked → Cell
-withState cell r = record { kind = cell .kind; config = cell .config; slots = cell .slots; state = r .state }
-
 -- what a tick makes of one cell: the cell, its output, and whether it was worked out
 pub record Turn : Type 0 where
   pub cell : Cell
   pub out : Bool
   pub woke : Bool
 
+-- "a cell worked out gets the state and output that "Cells" gives for its state and its slots as read in this tick"
+abbrev pub turnTo : Cell → Worked → Turn
+turnTo cell r = record { cell = withState cell (r .state); out = r .out; woke = true }
+
 abbrev pub workedTurn : Cell → Slots → Turn
-workedTurn cell now =
-    record {
-      cell = withState cell (workOut (cell .kind) (cell .config) (cell .state) now);
-      out = workOut (cell .kind) (cell .config) (cell .state) now .out;
-      woke = true;
-    }
+workedTurn cell now = turnTo cell (workOut (cell .kind) (cell .config) (stateOf cell) now)
 
 -- "others keep state and output"
 abbrev pub sleptTurn : Cell → Bool → Turn
@@ -71,7 +67,7 @@ sleptTurn cell out = record { cell = cell; out = out; woke = false }
 
 -- the rules name the cell
 unfoldable pub named : (n : ℕ) → Cell → (i edited : ℕ) → Wires → ℕ → Bool
-named n cell i edited w below = wakes (cell .kind) (cell .state) (bitAt edited i) (readNow n i w below (cell .slots)) (readLast n i w (cell .slots))
+named n cell i edited w below = wakes (cell .kind) (stateOf cell) (bitAt edited i) (readNow n i w below (cell .slots)) (readLast n i w (cell .slots))
 
 -- a full tick works out every cell, a quick tick those that the rules name
 unfoldable pub turnAt : (n : ℕ) → Bool → Cell → (i edited : ℕ) → Wires → ℕ → Turn

@@ -37,7 +37,13 @@ fn rests(cell: Cell, view: u64) -> bool
     let y = address(s[1]);
     let z = address(s[2]);
     let f = address(s[3]);
-    !cells::wake::stirred(cell.kind, cell.state, four(&q, x, y, z, f))
+    !cells::wake::stirred(
+        cell.kind,
+        cell.count,
+        cell.bit,
+        cell.pulse,
+        four(&q, x, y, z, f),
+    )
 }
 
 pub fn all_rest(cells: [Cell; CELLS], view: u64) -> bool

@@ -4,6 +4,7 @@ ghost use mathlib.Core.Path.{_≡_};
 ghost use Prim.Native.Nat.{ℕ, _<_};
 ghost use lib.Dec.{eqb};
 ghost use Rattle.words.specs.Bits.{bitAt, withBit};
+ghost use Rattle.cells.specs.State.{stateOf};
 ghost use Rattle.cells.specs.Effect.{workedBy};
 ghost use Rattle.cells.specs.Wake.{wakes};
 ghost use Rattle.cells.specs.Work.{workOut};
@@ -84,26 +85,48 @@ pub struct Ticked {
 
 // Whether the rules name a cell that is not edited. q holds what the addresses read, d which of them read otherwise than in the last tick.
 fn is_named(cell: Cell, q: &[u64; QUARTERS], d: &[u64; QUARTERS]) -> bool
-    ensures { λ r. ⌜ ((f g h : ℕ → Bool) → ReadsAs (now (q .entry)) f g → MovesAs (now (d .entry)) f g h → r ≡ wakes (cell .kind) (cell .state) false (slotsRead f g (cell .slots)) (slotsRead g h (cell .slots))) ⌝ }
+    ensures { λ r. ⌜ ((f g h : ℕ → Bool) → ReadsAs (now (q .entry)) f g → MovesAs (now (d .entry)) f g h → r ≡ wakes (cell .kind) (stateOf cell) false (slotsRead f g (cell .slots)) (slotsRead g h (cell .slots))) ⌝ }
 {
     let s = cell.slots;
     let x = address(s[0]);
     let y = address(s[1]);
     let z = address(s[2]);
     let f = address(s[3]);
-    cells::wake::wakes(cell.kind, cell.state, x, y, z, f, q, d)
+    cells::wake::wakes(
+        cell.kind,
+        cell.count,
+        cell.bit,
+        cell.pulse,
+        x,
+        y,
+        z,
+        f,
+        q,
+        d,
+    )
 }
 
 // A cell worked out with what the addresses read.
 fn worked(cell: Cell, q: &[u64; QUARTERS]) -> Effect
-    ensures { λ e. ⌜ ((f g : ℕ → Bool) → ReadsAs (now (q .entry)) f g → workedBy (cell .state) e ≡ workOut (cell .kind) (cell .config) (cell .state) (slotsRead f g (cell .slots))) ⌝ }
+    ensures { λ e. ⌜ ((f g : ℕ → Bool) → ReadsAs (now (q .entry)) f g → workedBy (stateOf cell) e ≡ workOut (cell .kind) (cell .config) (stateOf cell) (slotsRead f g (cell .slots))) ⌝ }
 {
     let s = cell.slots;
     let x = address(s[0]);
     let y = address(s[1]);
     let z = address(s[2]);
     let f = address(s[3]);
-    cells::work::work(cell.kind, cell.config, cell.state, x, y, z, f, q)
+    cells::work::work(
+        cell.kind,
+        cell.config,
+        cell.count,
+        cell.bit,
+        cell.pulse,
+        x,
+        y,
+        z,
+        f,
+        q,
+    )
 }
 
 // The cells that are worked out in any case: all in a full tick, and those that were edited.
@@ -243,9 +266,29 @@ fn turn_each(full: bool, card: Card, l: Lines) -> Ticked
                 Effect::Same(o) => {
                     out = o;
                 }
-                Effect::Next(s, o) => {
+                Effect::Bit(b) => {
                     let mut cell = next.cells[at];
-                    cell.state = s;
+                    cell.bit = b;
+                    next.cells[at] = cell;
+                    out = b;
+                }
+                Effect::Count(n) => {
+                    let mut cell = next.cells[at];
+                    cell.count = n;
+                    next.cells[at] = cell;
+                    out = 0 < n.0;
+                }
+                Effect::Timed(n, p) => {
+                    let mut cell = next.cells[at];
+                    cell.count = n;
+                    cell.pulse = p;
+                    next.cells[at] = cell;
+                    out = p;
+                }
+                Effect::Counted(n, b, o) => {
+                    let mut cell = next.cells[at];
+                    cell.count = n;
+                    cell.bit = b;
                     next.cells[at] = cell;
                     out = o;
                 }

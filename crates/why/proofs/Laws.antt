@@ -14,6 +14,7 @@ use Rattle.words.proofs.Laws.{bit-zero, built-same, built-of-bits}
 use Rattle.words.proofs.Listed.{listed-at, listed-same}
 use Rattle.cells.specs.declared.table.Slots.{Slots}
 use Rattle.cells.specs.declared.reasons.Reasons.{Reasons}
+use Rattle.cells.specs.State.{stateOf}
 use Rattle.cells.specs.Reasons.{reasonsOf, anyReason}
 use Rattle.cells.proofs.Named.{reason-named}
 use Rattle.card.specs.declared.card.Card.{Card}
@@ -40,7 +41,7 @@ unfolding reasonsAt
 whole-word n full c input i h =
     let w = wiresOf (c .memory) (lines n c input .levels) in
     let cell = getD (c .cells) i noCell in
-    ap (λ (r : Slots). reasonsOf (cell .kind) (cell .state) (bitAt (c .edited) i) r (readLast n i w (cell .slots)))
+    ap (λ (r : Slots). reasonsOf (cell .kind) (stateOf cell) (bitAt (c .edited) i) r (readLast n i w (cell .slots)))
     (read-whole n full (c .cells) (c .edited) w n i (cell .slots) (le-of-lt h))
 
 module _ (n : ℕ) (full : Bool) (c : Card) (input : Input) where
@@ -70,7 +71,7 @@ pub named-for-a-reason : (n : ℕ) (full : Bool) (c : Card) (input : Input) (i :
 unfolding reasonsAt named
 named-for-a-reason n full c input i =
     let cell = getD (c .cells) i noCell in
-    reason-named (cell .kind) (cell .state) (bitAt (c .edited) i) _ _
+    reason-named (cell .kind) (stateOf cell) (bitAt (c .edited) i) _ _
 
 -- cell i has a reason among these
 abbrev pub hasReason : List Reasons → ℕ → Bool

@@ -9,6 +9,7 @@ use Rattle.words.specs.Listed.{listed}
 use Rattle.cells.specs.declared.cell.Cell.{Cell}
 use Rattle.cells.specs.declared.reasons.Reasons.{Reasons}
 use Rattle.cells.specs.Table.{no-slot}
+use Rattle.cells.specs.State.{stateOf}
 use Rattle.cells.specs.Reasons.{reasonsOf}
 use Rattle.card.specs.declared.card.Card.{Card}
 use Rattle.card.specs.Fresh.{noCell}
@@ -19,7 +20,7 @@ use Rattle.ticks.specs.Tick.{readNow, readLast, outputsBelow, wiresOf, lines}
 -- cell i's reasons, by what it reads in this tick and read in the last one that ran; `below` is the word of this tick's outputs
 unfoldable pub reasonsAt : (n : ℕ) → Cell → (i edited : ℕ) → Wires → ℕ → Reasons
 reasonsAt n cell i edited w below =
-    reasonsOf (cell .kind) (cell .state) (bitAt edited i) (readNow n i w below (cell .slots)) (readLast n i w (cell .slots))
+    reasonsOf (cell .kind) (stateOf cell) (bitAt edited i) (readNow n i w below (cell .slots)) (readLast n i w (cell .slots))
 
 -- in a tick of either kind that runs
 abbrev pub reasonsIn : (n : ℕ) → Bool → Card → Input → ℕ → Reasons

@@ -12,6 +12,7 @@ use card::limits::CELLS;
 use card::limits::CellWord;
 use card::limits::EditedSet;
 use cells::cell::Cell;
+use cells::cell::state_of;
 use cells::reading::address;
 use cells::reading::four;
 use cells::reasons::Reasons;
@@ -41,7 +42,7 @@ fn reasons_at(cell: Cell, i: u32, edited: EditedSet, w: Wires, below: CellWord) 
     let is_edited = words::bit(edited as u64, i);
     let now = four(&q, x, y, z, f);
     let last = four(&p, x, y, z, f);
-    reasons_of(cell.kind, cell.state, is_edited, now, last)
+    reasons_of(cell.kind, state_of(cell), is_edited, now, last)
 }
 
 // No cell has a reason.

@@ -51,13 +51,17 @@ four-requires c κs = search needs
 four-requires-2 : tie.Need-four-requires-2
 four-requires-2 c κs = search needs
 
+state-of-requires : tie.Need-state-of-requires
+state-of-requires c κs = search needs
+
 reasons-of-requires : tie.Need-reasons-of-requires
 reasons-of-requires c κs = search needs
 
 returns : tie.Need-returns
 unfolding reasonsAt readNow readLast
 returns c =
-    let b = c .before .before .before .before .before in
+    let s = c .before in
+    let b = s .before .before .before .before .before in
     let d = b .before in
     let o = d .before .before .before .before .before in
     let a = o .before .before .args in
@@ -71,11 +75,11 @@ returns c =
       at-z = d .before .address3 .ensures;
       at-f = d .address4 .ensures;
     } in
-    let reads = c .before .before .before .four .ensures ∙ slots-as now last _ (cell .slots) _ _ _ _ (o .before .words-now .ensures) held in
-    let read = c .before .four2 .ensures
+    let reads = s .before .before .before .four .ensures ∙ slots-as now last _ (cell .slots) _ _ _ _ (o .before .words-now .ensures) held in
+    let read = s .before .four2 .ensures
     ∙ slots-as last (sawEarlier cellCount (a .i) (a .w)) _ (cell .slots) _ _ _ _ (o .words-last .ensures) held in
     c .reasons-of .ensures
-    ∙ (λ k. reasonsOf (cell .kind) (cell .state) (b .bit .ensures k) (reads k) (read k))
+    ∙ (λ k. reasonsOf (cell .kind) (s .state-of .ensures k) (b .bit .ensures k) (reads k) (read k))
 
 pub reasons-at-spec : {M : Type 1} → statement M
 reasons-at-spec =
@@ -94,5 +98,6 @@ reasons-at-spec =
     bit-requires
     four-requires
     four-requires-2
+    state-of-requires
     reasons-of-requires
     returns)

@@ -18,7 +18,7 @@ returns : tie.Need-returns
 unfolding configShown
 returns c =
     let b = c .before .before in
-    let k = b .before .before .before .args .cell .kind in
+    let k = b .before .before .args .cell .kind in
     let counted : isCounted (rowOf k .kept) ≡ true = cc in
     rw counted
 
@@ -26,7 +26,7 @@ returns-2 : tie.Need-returns-2
 unfolding configShown
 returns-2 c =
     let b = c .before .before in
-    let k = b .before .before .before .args .cell .kind in
+    let k = b .before .before .args .cell .kind in
     let other : isCounted (rowOf k .kept) ≡ false = cc in
     rw other
 

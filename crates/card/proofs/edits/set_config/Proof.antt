@@ -10,8 +10,14 @@ current-cell-requires c κs = search needs
 row-of-requires : tie.Need-row-of-requires
 row-of-requires c κs = search needs
 
+state-of-requires : tie.Need-state-of-requires
+state-of-requires c κs = search needs
+
 configured-state-requires : tie.Need-configured-state-requires
 configured-state-requires c κs = search needs
+
+with-state-requires : tie.Need-with-state-requires
+with-state-requires c κs = search needs
 
 put-cell-requires : tie.Need-put-cell-requires
 put-cell-requires c κs = search needs
@@ -19,7 +25,15 @@ put-cell-requires c κs = search needs
 returns : tie.Need-returns
 unfolding configured setConfig
 returns c =
-    rw (c .put-cell .ensures, c .before .configured-state .ensures, c .before .before .row-of .ensures, c .before .before .before .current-cell .ensures)
+    let state = c .before .before .before in
+    rw (
+      c .put-cell .ensures,
+      c .before .with-state .ensures,
+      c .before .before .configured-state .ensures,
+      state .state-of .ensures,
+      state .before .row-of .ensures,
+      state .before .before .current-cell .ensures,
+    )
 
 pub set-config-spec : {M : Type 1} → statement M
 set-config-spec =
@@ -27,6 +41,8 @@ set-config-spec =
     (tie.spec
     current-cell-requires
     row-of-requires
+    state-of-requires
     configured-state-requires
+    with-state-requires
     put-cell-requires
     returns)

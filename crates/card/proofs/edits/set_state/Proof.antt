@@ -10,17 +10,39 @@ current-cell-requires c κs = search needs
 row-of-requires : tie.Need-row-of-requires
 row-of-requires c κs = search needs
 
+state-of-requires : tie.Need-state-of-requires
+state-of-requires c κs = search needs
+
 stated-as-requires : tie.Need-stated-as-requires
 stated-as-requires c κs = search needs
+
+with-state-requires : tie.Need-with-state-requires
+with-state-requires c κs = search needs
 
 put-cell-requires : tie.Need-put-cell-requires
 put-cell-requires c κs = search needs
 
 returns : tie.Need-returns
 unfolding stated setState
-returns c = rw (c .put-cell .ensures, c .before .stated-as .ensures, c .before .before .row-of .ensures, c .before .before .before .current-cell .ensures)
+returns c =
+    let state = c .before .before .before in
+    rw (
+      c .put-cell .ensures,
+      c .before .with-state .ensures,
+      c .before .before .stated-as .ensures,
+      state .state-of .ensures,
+      state .before .row-of .ensures,
+      state .before .before .current-cell .ensures,
+    )
 
 pub set-state-spec : {M : Type 1} → statement M
 set-state-spec =
     tie.close
-    (tie.spec current-cell-requires row-of-requires stated-as-requires put-cell-requires returns)
+    (tie.spec
+    current-cell-requires
+    row-of-requires
+    state-of-requires
+    stated-as-requires
+    with-state-requires
+    put-cell-requires
+    returns)

@@ -22,10 +22,10 @@ returns-2 : tie.Need-returns-2
 returns-2 c = rw (c .before .before .enum-told2 .given .1)
 
 returns-3 : tie.Need-returns-3
-returns-3 c = rw (c .before .before .enum-told3 .given .1)
+returns-3 c = rw (c .before .enum-told3 .given .1)
 
 returns-4 : tie.Need-returns-4
-returns-4 c = rw (c .before .before .enum-told4 .given .1)
+returns-4 c = rw (c .before .enum-told4 .given .1)
 
 pub counter-clock-spec : {M : Type 1} → statement M
 counter-clock-spec =

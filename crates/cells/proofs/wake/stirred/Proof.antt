@@ -3,6 +3,7 @@ use mathlib.Core.Path.{ap, ap₂, _∙_}
 use Rattle.cells.specs.declared.table.Slots.{Slots}
 use Rattle.cells.specs.declared.table.Class.{Class}
 use Rattle.cells.specs.Table.{rowOf, masked}
+use Rattle.cells.specs.State.{state}
 use Rattle.cells.specs.Wake
 use Rattle.cells.specs.Wake.{stirredAs}
 use Rattle.cells.proofs.Packed.{set-of}
@@ -33,7 +34,7 @@ returns c =
     let used = c .before .before .before .used-of in
     let set = c .before .before .unpacked .ensures ∙ set-of (rowOf (a .kind) .used) (used .result) (used .ensures .0) in
     c .stirred-as .ensures
-    ∙ ap₂ (λ (k : Class) (r : Slots). stirredAs k (a .s) r) (p .class-of .ensures)
+    ∙ ap₂ (λ (k : Class) (r : Slots). stirredAs k (state (a .count) (a .bit) (a .pulse)) r) (p .class-of .ensures)
     (c .before .within .ensures ∙ ap (λ (u : Slots). masked u (a .r)) set)
 
 pub stirred-spec : {M : Type 1} → statement M

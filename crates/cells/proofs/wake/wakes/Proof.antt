@@ -6,6 +6,7 @@ use Rattle.cells.specs.declared.table.Row.{Row}
 use Rattle.cells.specs.declared.table.Slots.{Slots}
 use Rattle.cells.specs.declared.cell.State.{State}
 use Rattle.cells.specs.Table.{rowOf, masked, levelSlots, anySlot, slots, no-row}
+use Rattle.cells.specs.State.{state}
 use Rattle.cells.specs.Reading.{readFrom, slotsFrom}
 use Rattle.cells.specs.Wake
 use Rattle.cells.specs.declared.table.CounterKind.the-variants.{WhileBoth, WhileEither, FromStart, FromStartAtZero}
@@ -154,21 +155,21 @@ returns-2 : tie.Need-returns-2
 unfolding rowOf Wake.stirred stirredAs moved
 returns-2 c =
     let a = c .before .before .args in
-    at (a .kind) 1 (a .s) _ _ _ (c .before .match .keys2)
+    at (a .kind) 1 _ _ _ _ (c .before .match .keys2)
     (c .flop-wakes .ensures ∙ flop-on (readFrom (a .q .now) (a .y)) (readFrom (a .d .now) (a .x)) (readFrom (a .d .now) (a .z)) (readFrom (a .d .now) (a .f)))
 
 returns-3 : tie.Need-returns-3
 unfolding rowOf Wake.stirred stirredAs moved
 returns-3 c =
     let a = c .before .before .args in
-    at (a .kind) 2 (a .s) _ _ _ (c .before .match .keys3)
+    at (a .kind) 2 _ _ _ _ (c .before .match .keys3)
     (c .moved2 .ensures ∙ two-on (readFrom (a .d .now) (a .x)) (readFrom (a .d .now) (a .y)))
 
 returns-4 : tie.Need-returns-4
 unfolding rowOf Wake.stirred stirredAs moved
 returns-4 c =
     let a = c .before .before .args in
-    at (a .kind) 3 (a .s) _ _ _ (c .before .match .keys4)
+    at (a .kind) 3 _ _ _ _ (c .before .match .keys4)
     (c .moved3 .ensures ∙ three-on (readFrom (a .d .now) (a .x)) (readFrom (a .d .now) (a .y)) (readFrom (a .d .now) (a .z)))
 
 returns-5 : tie.Need-returns-5
@@ -179,36 +180,36 @@ returns-6 : tie.Need-returns-6
 unfolding rowOf Wake.stirred stirredAs moved
 returns-6 c =
     let a = c .before .before .args in
-    at (a .kind) 5 (a .s) _ _ _ (c .before .match .keys6)
+    at (a .kind) 5 _ _ _ _ (c .before .match .keys6)
     (c .moved22 .ensures ∙ two-on (readFrom (a .d .now) (a .x)) (readFrom (a .d .now) (a .y)))
 
 returns-7 : tie.Need-returns-7
 unfolding rowOf Wake.stirred stirredAs moved
 returns-7 c =
     let a = c .before .before .args in
-    at (a .kind) 6 (a .s) _ _ _ (c .before .match .keys7)
+    at (a .kind) 6 _ _ _ _ (c .before .match .keys7)
     (c .moved23 .ensures ∙ two-on (readFrom (a .d .now) (a .x)) (readFrom (a .d .now) (a .y)))
 
 returns-8 : tie.Need-returns-8
 unfolding rowOf Wake.stirred stirredAs moved
 returns-8 c =
     let a = c .before .before .args in
-    at (a .kind) 7 (a .s) _ _ _ (c .before .match .keys8)
+    at (a .kind) 7 _ _ _ _ (c .before .match .keys8)
     (c .moved24 .ensures ∙ two-on (readFrom (a .d .now) (a .x)) (readFrom (a .d .now) (a .y)))
 
 returns-9 : tie.Need-returns-9
 unfolding rowOf Wake.stirred stirredAs moved
 returns-9 c =
     let a = c .before .before .before .args in
-    at (a .kind) 8 (a .s) _ _ _ (c .before .before .match .keys9)
-    (c .timer-wakes .ensures ∙ stirred-on (timerStirred (a .s)) (c .before .two .result) _ (readFrom (a .d .now) (a .z)) (c .before .two .ensures))
+    at (a .kind) 8 _ _ _ _ (c .before .before .match .keys9)
+    (c .timer-wakes .ensures ∙ stirred-on (timerStirred (a .count .0) (a .pulse)) (c .before .two .result) _ (readFrom (a .d .now) (a .z)) (c .before .two .ensures))
 
 returns-10 : tie.Need-returns-10
 unfolding rowOf Wake.stirred stirredAs moved
 returns-10 c =
     let a = c .before .before .before .args in
-    at (a .kind) 9 (a .s) _ _ _ (c .before .before .match .keys10)
-    (c .timer-wakes2 .ensures ∙ stirred-on (timerStirred (a .s)) (c .before .two2 .result) _ (readFrom (a .d .now) (a .z)) (c .before .two2 .ensures))
+    at (a .kind) 9 _ _ _ _ (c .before .before .match .keys10)
+    (c .timer-wakes2 .ensures ∙ stirred-on (timerStirred (a .count .0) (a .pulse)) (c .before .two2 .result) _ (readFrom (a .d .now) (a .z)) (c .before .two2 .ensures))
 
 returns-11 : tie.Need-returns-11
 unfolding rowOf Wake.stirred stirredAs moved
@@ -222,91 +223,91 @@ returns-13 : tie.Need-returns-13
 unfolding rowOf Wake.stirred stirredAs moved
 returns-13 c =
     let a = c .before .before .args in
-    at (a .kind) 12 (a .s) _ _ _ (c .before .match .keys13)
+    at (a .kind) 12 _ _ _ _ (c .before .match .keys13)
     (c .flop-wakes2 .ensures ∙ flop-on (readFrom (a .q .now) (a .y)) (readFrom (a .d .now) (a .x)) (readFrom (a .d .now) (a .z)) (readFrom (a .d .now) (a .f)))
 
 returns-14 : tie.Need-returns-14
 unfolding rowOf Wake.stirred stirredAs moved
 returns-14 c =
     let a = c .before .before .args in
-    at (a .kind) 13 (a .s) _ _ _ (c .before .match .keys14)
+    at (a .kind) 13 _ _ _ _ (c .before .match .keys14)
     (c .jk-wakes .ensures ∙ jk-on (readFrom (a .q .now) (a .z)) (readFrom (a .d .now) (a .x)) (readFrom (a .d .now) (a .y)))
 
 returns-15 : tie.Need-returns-15
 unfolding rowOf Wake.stirred stirredAs moved
 returns-15 c =
     let a = c .before .before .before .args in
-    at (a .kind) 14 (a .s) _ _ _ (c .before .before .match .keys15)
-    (c .timer-wakes3 .ensures ∙ stirred-on (timerStirred (a .s)) (c .before .two3 .result) _ (readFrom (a .d .now) (a .z)) (c .before .two3 .ensures))
+    at (a .kind) 14 _ _ _ _ (c .before .before .match .keys15)
+    (c .timer-wakes3 .ensures ∙ stirred-on (timerStirred (a .count .0) (a .pulse)) (c .before .two3 .result) _ (readFrom (a .d .now) (a .z)) (c .before .two3 .ensures))
 
 returns-16 : tie.Need-returns-16
 unfolding rowOf Wake.stirred stirredAs moved
 returns-16 c =
     let a = c .before .before .before .args in
-    at (a .kind) 15 (a .s) _ _ _ (c .before .before .match .keys16)
-    (c .timer-wakes4 .ensures ∙ stirred-on (timerStirred (a .s)) (c .before .two4 .result) _ (readFrom (a .d .now) (a .z)) (c .before .two4 .ensures))
+    at (a .kind) 15 _ _ _ _ (c .before .before .match .keys16)
+    (c .timer-wakes4 .ensures ∙ stirred-on (timerStirred (a .count .0) (a .pulse)) (c .before .two4 .result) _ (readFrom (a .d .now) (a .z)) (c .before .two4 .ensures))
 
 returns-17 : tie.Need-returns-17
 unfolding rowOf Wake.stirred stirredAs moved
 returns-17 c =
     let a = c .before .before .before .args in
-    at (a .kind) 16 (a .s) _ _ _ (c .before .before .match .keys17)
-    (c .timer-wakes5 .ensures ∙ stirred-on (timerStirred (a .s)) (c .before .four .result) _ (readFrom (a .d .now) (a .z)) (c .before .four .ensures))
+    at (a .kind) 16 _ _ _ _ (c .before .before .match .keys17)
+    (c .timer-wakes5 .ensures ∙ stirred-on (timerStirred (a .count .0) (a .pulse)) (c .before .four .result) _ (readFrom (a .d .now) (a .z)) (c .before .four .ensures))
 
 returns-18 : tie.Need-returns-18
 unfolding rowOf Wake.stirred stirredAs moved
 returns-18 c =
     let a = c .before .before .before .args in
-    at (a .kind) 17 (a .s) _ _ _ (c .before .before .match .keys18)
-    (c .timer-wakes6 .ensures ∙ stirred-on (timerStirred (a .s)) (c .before .four2 .result) _ (readFrom (a .d .now) (a .z)) (c .before .four2 .ensures))
+    at (a .kind) 17 _ _ _ _ (c .before .before .match .keys18)
+    (c .timer-wakes6 .ensures ∙ stirred-on (timerStirred (a .count .0) (a .pulse)) (c .before .four2 .result) _ (readFrom (a .d .now) (a .z)) (c .before .four2 .ensures))
 
 returns-19 : tie.Need-returns-19
 unfolding rowOf Wake.stirred stirredAs moved
 returns-19 c =
     let a = c .before .before .args in
-    at (a .kind) 18 (a .s) _ _ _ (c .before .match .keys19)
+    at (a .kind) 18 _ _ _ _ (c .before .match .keys19)
     (c .flop-wakes3 .ensures ∙ flop-on (readFrom (a .q .now) (a .y)) (readFrom (a .d .now) (a .x)) (readFrom (a .d .now) (a .z)) (readFrom (a .d .now) (a .f)))
 
 returns-20 : tie.Need-returns-20
 unfolding rowOf Wake.stirred stirredAs moved
 returns-20 c =
     let a = c .before .before .before .args in
-    at (a .kind) 19 (a .s) _ _ _ (c .before .before .match .keys20)
+    at (a .kind) 19 _ _ _ _ (c .before .before .match .keys20)
     (c .gated-wakes .ensures
-    ∙ gated-on (counterStirred WhileBoth (a .s)) (c .before .four3 .result) _
+    ∙ gated-on (counterStirred WhileBoth (a .bit)) (c .before .four3 .result) _
     (readFrom (a .d .now) (a .x)) (readFrom (a .d .now) (a .z)) (readFrom (a .d .now) (a .f)) (c .before .four3 .ensures))
 
 returns-21 : tie.Need-returns-21
 unfolding rowOf Wake.stirred stirredAs moved
 returns-21 c =
     let a = c .before .before .before .args in
-    at (a .kind) 20 (a .s) _ _ _ (c .before .before .match .keys21)
+    at (a .kind) 20 _ _ _ _ (c .before .before .match .keys21)
     (c .gated-wakes2 .ensures
-    ∙ gated-on (counterStirred WhileEither (a .s)) (c .before .four4 .result) _
+    ∙ gated-on (counterStirred WhileEither (a .bit)) (c .before .four4 .result) _
     (readFrom (a .d .now) (a .x)) (readFrom (a .d .now) (a .z)) (readFrom (a .d .now) (a .f)) (c .before .four4 .ensures))
 
 returns-22 : tie.Need-returns-22
 unfolding rowOf Wake.stirred stirredAs moved
 returns-22 c =
     let a = c .before .before .before .args in
-    at (a .kind) 21 (a .s) _ _ _ (c .before .before .match .keys22)
+    at (a .kind) 21 _ _ _ _ (c .before .before .match .keys22)
     (c .started-wakes .ensures
-    ∙ stirred-on (counterStirred FromStart (a .s)) (c .before .four5 .result) _ (readFrom (a .d .now) (a .z)) (c .before .four5 .ensures))
+    ∙ stirred-on (counterStirred FromStart (a .bit)) (c .before .four5 .result) _ (readFrom (a .d .now) (a .z)) (c .before .four5 .ensures))
 
 returns-23 : tie.Need-returns-23
 unfolding rowOf Wake.stirred stirredAs moved
 returns-23 c =
     let a = c .before .before .before .args in
-    at (a .kind) 22 (a .s) _ _ _ (c .before .before .match .keys23)
+    at (a .kind) 22 _ _ _ _ (c .before .before .match .keys23)
     (c .started-wakes2 .ensures
-    ∙ stirred-on (counterStirred FromStartAtZero (a .s)) (c .before .four6 .result) _ (readFrom (a .d .now) (a .z)) (c .before .four6 .ensures))
+    ∙ stirred-on (counterStirred FromStartAtZero (a .bit)) (c .before .four6 .result) _ (readFrom (a .d .now) (a .z)) (c .before .four6 .ensures))
 
 returns-24 : tie.Need-returns-24
 returns-24 c =
     let a = c .before .args in
     let now = slotsFrom (a .q .now) (a .x) (a .y) (a .z) (a .f) in
     let other = slotsFrom (a .d .now) (a .x) (a .y) (a .z) (a .f) in
-    at-past (a .kind) (a .s) now other (past-types (a .kind) (c .match .rest))
+    at-past (a .kind) (state (a .count) (a .bit) (a .pulse)) now other (past-types (a .kind) (c .match .rest))
 
 pub wakes-spec : {M : Type 1} → statement M
 wakes-spec =

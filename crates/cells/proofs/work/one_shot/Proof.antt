@@ -15,9 +15,9 @@ count-after-requires c κs = search needs
 
 returns : tie.Need-returns
 unfolding workAs
-returns c =
-    let took = c .before .before in
-    rw (c .before .count-after .ensures, took .taken .ensures, took .before .shot-busy .ensures)
+returns c bit pulse =
+    let took = c .before in
+    rw (c .count-after .ensures, took .taken .ensures, took .before .shot-busy .ensures)
 
 pub one-shot-spec : {M : Type 1} → statement M
 one-shot-spec = tie.close (tie.spec shot-busy-requires taken-requires count-after-requires returns)

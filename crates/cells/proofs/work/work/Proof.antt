@@ -6,6 +6,7 @@ use Rattle.cells.specs.declared.cell.State.{State}
 use Rattle.cells.specs.declared.cell.Worked.{Worked}
 use Rattle.cells.specs.declared.table.Row.{Row}
 use Rattle.cells.specs.Table.{rowOf, masked}
+use Rattle.cells.specs.State.{state}
 use Rattle.cells.specs.Reading.{slotsFrom}
 use Rattle.cells.specs.Work.{keeping, workAs, workOut}
 use Rattle.cells.specs.declared.work.Looked.{Looked}
@@ -141,7 +142,9 @@ returns c = at _ 0 _ _ _ _ (c .match .keys1) cc
 
 returns-2 : tie.Need-returns-2
 unfolding rowOf workOut workAs
-returns-2 c = at _ 1 _ _ _ _ (c .before .before .match .keys2) cc
+returns-2 c =
+    let a = c .before .before .before .args in
+    at _ 1 _ _ _ _ (c .before .before .match .keys2) (rw (c .flop .ensures (a .count) (a .pulse), c .before .four .ensures))
 
 returns-3 : tie.Need-returns-3
 unfolding rowOf workOut workAs
@@ -169,78 +172,107 @@ returns-8 c = at _ 7 _ _ _ _ (c .before .before .match .keys8) (rw (c .before .t
 
 returns-9 : tie.Need-returns-9
 unfolding rowOf workOut workAs
-returns-9 c = at _ 8 _ _ _ _ (c .before .before .match .keys9) (rw (c .one-shot .ensures, c .before .three2 .ensures))
+returns-9 c =
+    let a = c .before .before .before .args in
+    at _ 8 _ _ _ _ (c .before .before .match .keys9) (rw (c .one-shot .ensures (a .bit) (a .pulse), c .before .three2 .ensures))
 
 returns-10 : tie.Need-returns-10
 unfolding rowOf workOut workAs
-returns-10 c = at _ 9 _ _ _ _ (c .before .before .match .keys10) (rw (c .delay .ensures, c .before .three3 .ensures))
+returns-10 c =
+    let a = c .before .before .before .args in
+    at _ 9 _ _ _ _ (c .before .before .match .keys10) (rw (c .delay .ensures (a .bit), c .before .three3 .ensures))
 
 returns-11 : tie.Need-returns-11
 unfolding rowOf workOut workAs
 returns-11 c =
     let a = c .before .before .args in
+    let s = state (a .count) (a .bit) (a .pulse) in
     let r = slotsFrom (a .q .now) (a .x) (a .y) (a .z) (a .f) in
-    at (a .kind) 10 (a .config) (a .s) r _ (c .before .match .keys11)
-    (ap (λ (l : Looked). keeping (a .s) (l .out)) (c .look .ensures) ∙ ap (keeping (a .s)) (looked-and (a .config) r))
+    at (a .kind) 10 (a .config) s r _ (c .before .match .keys11)
+    (ap (λ (l : Looked). keeping s (l .out)) (c .look .ensures) ∙ ap (keeping s) (looked-and (a .config) r))
 
 returns-12 : tie.Need-returns-12
 unfolding rowOf workOut workAs
 returns-12 c =
     let a = c .before .before .args in
+    let s = state (a .count) (a .bit) (a .pulse) in
     let r = slotsFrom (a .q .now) (a .x) (a .y) (a .z) (a .f) in
-    at (a .kind) 11 (a .config) (a .s) r _ (c .before .match .keys12)
-    (ap (λ (l : Looked). keeping (a .s) (l .out)) (c .look2 .ensures) ∙ ap (keeping (a .s)) (looked-or (a .config) r))
+    at (a .kind) 11 (a .config) s r _ (c .before .match .keys12)
+    (ap (λ (l : Looked). keeping s (l .out)) (c .look2 .ensures) ∙ ap (keeping s) (looked-or (a .config) r))
 
 returns-13 : tie.Need-returns-13
 unfolding rowOf workOut workAs
-returns-13 c = at _ 12 _ _ _ _ (c .before .before .match .keys13) cc
+returns-13 c =
+    let a = c .before .before .before .args in
+    at _ 12 _ _ _ _ (c .before .before .match .keys13) (rw (c .flop2 .ensures (a .count) (a .pulse), c .before .four3 .ensures))
 
 returns-14 : tie.Need-returns-14
 unfolding rowOf workOut workAs
-returns-14 c = at _ 13 _ _ _ _ (c .before .before .match .keys14) (rw (c .flop3 .ensures, c .before .three4 .ensures))
+returns-14 c =
+    let a = c .before .before .before .args in
+    at _ 13 _ _ _ _ (c .before .before .match .keys14) (rw (c .flop3 .ensures (a .count) (a .pulse), c .before .three4 .ensures))
 
 returns-15 : tie.Need-returns-15
 unfolding rowOf workOut workAs
-returns-15 c = at _ 14 _ _ _ _ (c .before .before .match .keys15) (rw (c .one-shot2 .ensures, c .before .three5 .ensures))
+returns-15 c =
+    let a = c .before .before .before .args in
+    at _ 14 _ _ _ _ (c .before .before .match .keys15) (rw (c .one-shot2 .ensures (a .bit) (a .pulse), c .before .three5 .ensures))
 
 returns-16 : tie.Need-returns-16
 unfolding rowOf workOut workAs
-returns-16 c = at _ 15 _ _ _ _ (c .before .before .match .keys16) (rw (c .delay2 .ensures, c .before .three6 .ensures))
+returns-16 c =
+    let a = c .before .before .before .args in
+    at _ 15 _ _ _ _ (c .before .before .match .keys16) (rw (c .delay2 .ensures (a .bit), c .before .three6 .ensures))
 
 returns-17 : tie.Need-returns-17
 unfolding rowOf workOut workAs
-returns-17 c = at _ 16 _ _ _ _ (c .before .before .match .keys17) cc
+returns-17 c =
+    let a = c .before .before .before .args in
+    at _ 16 _ _ _ _ (c .before .before .match .keys17) (rw (c .one-shot3 .ensures (a .bit) (a .pulse), c .before .four4 .ensures))
 
 returns-18 : tie.Need-returns-18
 unfolding rowOf workOut workAs
-returns-18 c = at _ 17 _ _ _ _ (c .before .before .match .keys18) cc
+returns-18 c =
+    let a = c .before .before .before .args in
+    at _ 17 _ _ _ _ (c .before .before .match .keys18) (rw (c .delay3 .ensures (a .bit), c .before .four5 .ensures))
 
 returns-19 : tie.Need-returns-19
 unfolding rowOf workOut workAs
-returns-19 c = at _ 18 _ _ _ _ (c .before .before .match .keys19) cc
+returns-19 c =
+    let a = c .before .before .before .args in
+    at _ 18 _ _ _ _ (c .before .before .match .keys19) (rw (c .flop4 .ensures (a .count) (a .pulse), c .before .four6 .ensures))
 
 returns-20 : tie.Need-returns-20
 unfolding rowOf workOut workAs
-returns-20 c = at _ 19 _ _ _ _ (c .before .before .match .keys20) cc
+returns-20 c =
+    let a = c .before .before .before .args in
+    at _ 19 _ _ _ _ (c .before .before .match .keys20) (rw (c .counter .ensures (a .pulse), c .before .four7 .ensures))
 
 returns-21 : tie.Need-returns-21
 unfolding rowOf workOut workAs
-returns-21 c = at _ 20 _ _ _ _ (c .before .before .match .keys21) cc
+returns-21 c =
+    let a = c .before .before .before .args in
+    at _ 20 _ _ _ _ (c .before .before .match .keys21) (rw (c .counter2 .ensures (a .pulse), c .before .four8 .ensures))
 
 returns-22 : tie.Need-returns-22
 unfolding rowOf workOut workAs
-returns-22 c = at _ 21 _ _ _ _ (c .before .before .match .keys22) cc
+returns-22 c =
+    let a = c .before .before .before .args in
+    at _ 21 _ _ _ _ (c .before .before .match .keys22) (rw (c .counter3 .ensures (a .pulse), c .before .four9 .ensures))
 
 returns-23 : tie.Need-returns-23
 unfolding rowOf workOut workAs
-returns-23 c = at _ 22 _ _ _ _ (c .before .before .match .keys23) cc
+returns-23 c =
+    let a = c .before .before .before .args in
+    at _ 22 _ _ _ _ (c .before .before .match .keys23) (rw (c .counter4 .ensures (a .pulse), c .before .four10 .ensures))
 
 returns-24 : tie.Need-returns-24
 unfolding workOut workAs
 returns-24 c =
     let a = c .before .args in
+    let s = state (a .count) (a .bit) (a .pulse) in
     let r = slotsFrom (a .q .now) (a .x) (a .y) (a .z) (a .f) in
-    sym (ap (λ (w : Row). workAs (w .class) (a .config) (a .s) (masked (w .used) r)) (past-types (a .kind) (c .match .rest)))
+    sym (ap (λ (w : Row). workAs (w .class) (a .config) s (masked (w .used) r)) (past-types (a .kind) (c .match .rest)))
 
 pub work-spec : {M : Type 1} → statement M
 work-spec =

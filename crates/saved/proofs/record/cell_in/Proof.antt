@@ -22,47 +22,47 @@ mul-at c = omega (arith, inside (c .before))
 add-at-2 : tie.Need-add-at-2
 add-at-2 c = omega (arith, inside (c .before))
 
+add-t6 : tie.Need-add-t6
+add-t6 c = search needs
+
 add-t7 : tie.Need-add-t7
-add-t7 c = search needs
+add-t7 c = omega (arith, inside (c .before))
 
-add-t8 : tie.Need-add-t8
-add-t8 c = omega (arith, inside (c .before))
+shared-slice-read-t9 : tie.Need-shared-slice-read-t9
+shared-slice-read-t9 c = omega (arith, inside (c .before .before))
 
-shared-slice-read-t10 : tie.Need-shared-slice-read-t10
-shared-slice-read-t10 c = omega (arith, inside (c .before .before))
+add-t10 : tie.Need-add-t10
+add-t10 c = search needs
 
 add-t11 : tie.Need-add-t11
-add-t11 c = search needs
+add-t11 c = omega (arith, inside (c .before .before))
 
-add-t12 : tie.Need-add-t12
-add-t12 c = omega (arith, inside (c .before .before))
+shared-slice-read-t13 : tie.Need-shared-slice-read-t13
+shared-slice-read-t13 c = omega (arith, inside (c .before .before .before))
 
-shared-slice-read-t14 : tie.Need-shared-slice-read-t14
-shared-slice-read-t14 c = omega (arith, inside (c .before .before .before))
+add-t14 : tie.Need-add-t14
+add-t14 c = search needs
 
 add-t15 : tie.Need-add-t15
-add-t15 c = search needs
+add-t15 c = omega (arith, inside (c .before .before .before))
 
-add-t16 : tie.Need-add-t16
-add-t16 c = omega (arith, inside (c .before .before .before))
+shared-slice-read-t17 : tie.Need-shared-slice-read-t17
+shared-slice-read-t17 c = omega (arith, inside (c .before .before .before .before))
 
-shared-slice-read-t18 : tie.Need-shared-slice-read-t18
-shared-slice-read-t18 c = omega (arith, inside (c .before .before .before .before))
+add-t18 : tie.Need-add-t18
+add-t18 c = search needs
 
 add-t19 : tie.Need-add-t19
-add-t19 c = search needs
+add-t19 c = omega (arith, inside (c .before .before .before .before))
 
-add-t20 : tie.Need-add-t20
-add-t20 c = omega (arith, inside (c .before .before .before .before))
+shared-slice-read-t21 : tie.Need-shared-slice-read-t21
+shared-slice-read-t21 c = omega (arith, inside (c .before .before .before .before .before))
 
-shared-slice-read-t22 : tie.Need-shared-slice-read-t22
-shared-slice-read-t22 c = omega (arith, inside (c .before .before .before .before .before))
+add-t6-2 : tie.Need-add-t6-2
+add-t6-2 c = omega (arith, inside (c .before .before .before .before .before))
 
-add-t7-2 : tie.Need-add-t7-2
-add-t7-2 c = omega (arith, inside (c .before .before .before .before .before))
-
-shared-slice-read-t10-2 : tie.Need-shared-slice-read-t10-2
-shared-slice-read-t10-2 c = omega (arith, inside (c .before .before .before .before .before .before))
+shared-slice-read-t21-2 : tie.Need-shared-slice-read-t21-2
+shared-slice-read-t21-2 c = omega (arith, inside (c .before .before .before .before .before .before))
 
 add-config-in : tie.Need-add-config-in
 add-config-in c = omega (arith, inside (c .before .before .before .before .before .before))
@@ -81,20 +81,20 @@ cell-in-spec =
     add-at
     mul-at
     add-at-2
+    add-t6
     add-t7
-    add-t8
-    shared-slice-read-t10
+    shared-slice-read-t9
+    add-t10
     add-t11
-    add-t12
-    shared-slice-read-t14
+    shared-slice-read-t13
+    add-t14
     add-t15
-    add-t16
-    shared-slice-read-t18
+    shared-slice-read-t17
+    add-t18
     add-t19
-    add-t20
-    shared-slice-read-t22
-    add-t7-2
-    shared-slice-read-t10-2
+    shared-slice-read-t21
+    add-t6-2
+    shared-slice-read-t21-2
     add-config-in
     config-in-requires
     returns)

@@ -3,6 +3,7 @@ use mathlib.Core.Path.{sym, ap, _∙_}
 use mathlib.Core.Bool.{not}
 use borrow.Author.Tests.{not-true}
 use Rattle.words.specs.Bits.{bitAt}
+use Rattle.cells.specs.State.{stateOf}
 use Rattle.cells.specs.Wake.{stirred}
 use Rattle.cells.proofs.Laws.{edgeless-still}
 use Rattle.ticks.proofs.Words.{Holds, slots-as}
@@ -64,7 +65,7 @@ returns-2 c =
       at-f = p .before .address4 .ensures;
     } in
     let now = slots-as (bitAt (a .view)) (bitAt (a .view)) _ (a .cell .slots) _ _ _ _ (made .quarters .ensures) held in
-    ap not (c .stirred .ensures ∙ ap (stirred (a .cell .kind) (a .cell .state)) (c .before .four .ensures ∙ now))
+    ap not (c .stirred .ensures ∙ ap (stirred (a .cell .kind) (stateOf (a .cell))) (c .before .four .ensures ∙ now))
 
 pub rests-spec : {M : Type 1} → statement M
 rests-spec =

@@ -2,6 +2,7 @@
 use mathlib.Core.Path.{ap, ap₂, _∙_}
 use mathlib.Core.Bool.{Bool, _||_}
 use Rattle.cells.specs.declared.table.Slots.{Slots}
+use Rattle.cells.specs.State.{stateOf}
 use Rattle.cells.specs.Wake.{stirred, moved, wakes}
 use Rattle.cells.proofs.Laws.{moved-disagree}
 use Rattle.ticks.specs.Reading.{slotsRead}
@@ -50,9 +51,9 @@ returns c f g h r m =
     } in
     let now = slots-as f g (a .q .now) (a .cell .slots) _ _ _ _ r held in
     let other = slots-moved f g h (a .d .now) (a .cell .slots) _ _ _ _ m held in
-    let stir = stirred (a .cell .kind) (a .cell .state) (slotsRead f g (a .cell .slots)) in
+    let stir = stirred (a .cell .kind) (stateOf (a .cell)) (slotsRead f g (a .cell .slots)) in
     c .wakes .ensures
-    ∙ ap₂ (λ (s t : Slots). stirred (a .cell .kind) (a .cell .state) s || moved (a .cell .kind) t) now other
+    ∙ ap₂ (λ (s t : Slots). stirred (a .cell .kind) (stateOf (a .cell)) s || moved (a .cell .kind) t) now other
     ∙ ap (λ (x : Bool). stir || x) (moved-disagree (a .cell .kind) (slotsRead f g (a .cell .slots)) (slotsRead g h (a .cell .slots)))
 
 pub is-named-spec : {M : Type 1} → statement M

@@ -7,6 +7,7 @@ use mathlib.Core.List.{List}
 use mathlib.Core.Logic.{⊎-elim}
 use native.Mathlib.Nat.{le-refl}
 use native.Mathlib.Omega.{arith}
+use lib.ListN
 use lib.ListN.{getD, length}
 use borrow.Author.Needs.{needs, below-length}
 use borrow.Author.Tests.{not-true, not-false}
@@ -15,13 +16,14 @@ use Rattle.words.specs.Listed.{listed}
 use Rattle.words.proofs.Listed.{listed-next}
 use Rattle.cells.specs.declared.cell.Cell.{Cell}
 use Rattle.cells.specs.declared.work.Effect.{Effect}
+use Rattle.cells.specs.State.{stateOf}
 use Rattle.cells.specs.Effect.{workedBy}
 use Rattle.card.specs.Address.{cellCount}
 use Rattle.card.specs.Fresh.{noCell}
 use Rattle.card.specs.declared.card.Card.{Card}
 use Rattle.ticks.specs.declared.tick.Wires.{Wires}
 use Rattle.ticks.specs.FastPath.{turnedTo}
-use Rattle.ticks.specs.Tick.{withState, Turn, outputsBelow, turnAt, turnOf, turned, ranWith, seesNow, sawLast, sawEarlier}
+use Rattle.ticks.specs.Tick.{Turn, turnTo, outputsBelow, turnAt, turnOf, turned, ranWith, seesNow, sawLast, sawEarlier}
 use Rattle.ticks.specs.Words.{ReadsAs, MovesAs, shiftedAt}
 use Rattle.ticks.proofs.Ticks.{outputs-built}
 use Rattle.ticks.proofs.Turns.{afterOf, outsOf, wokesOf, seated, upTo, as-long}
@@ -114,8 +116,8 @@ worked-requires c κs = search needs
 enum-known-o : tie.Need-enum-known-o Inv-loop μ-loop
 enum-known-o c = search needs
 
-enum-known-s : tie.Need-enum-known-s Inv-loop μ-loop
-enum-known-s c = search needs
+enum-known-b : tie.Need-enum-known-b Inv-loop μ-loop
+enum-known-b c = search needs
 
 mul-cell : tie.Need-mul-cell Inv-loop μ-loop
 mul-cell c = search needs
@@ -128,6 +130,51 @@ mul-cell-2 c = search needs
 
 element-set-from-cell : tie.Need-element-set-from-cell Inv-loop μ-loop
 element-set-from-cell c = search needs
+
+enum-known-n : tie.Need-enum-known-n Inv-loop μ-loop
+enum-known-n c = search needs
+
+mul-cell-3 : tie.Need-mul-cell-3 Inv-loop μ-loop
+mul-cell-3 c = search needs
+
+element-copy-out-cell-2 : tie.Need-element-copy-out-cell-2 Inv-loop μ-loop
+element-copy-out-cell-2 c = search needs
+
+mul-cell-4 : tie.Need-mul-cell-4 Inv-loop μ-loop
+mul-cell-4 c = search needs
+
+element-set-from-cell-2 : tie.Need-element-set-from-cell-2 Inv-loop μ-loop
+element-set-from-cell-2 c = search needs
+
+enum-known-n-2 : tie.Need-enum-known-n-2 Inv-loop μ-loop
+enum-known-n-2 c = search needs
+
+mul-cell-5 : tie.Need-mul-cell-5 Inv-loop μ-loop
+mul-cell-5 c = search needs
+
+element-copy-out-cell-3 : tie.Need-element-copy-out-cell-3 Inv-loop μ-loop
+element-copy-out-cell-3 c = search needs
+
+mul-cell-6 : tie.Need-mul-cell-6 Inv-loop μ-loop
+mul-cell-6 c = search needs
+
+element-set-from-cell-3 : tie.Need-element-set-from-cell-3 Inv-loop μ-loop
+element-set-from-cell-3 c = search needs
+
+enum-known-n-3 : tie.Need-enum-known-n-3 Inv-loop μ-loop
+enum-known-n-3 c = search needs
+
+mul-cell-7 : tie.Need-mul-cell-7 Inv-loop μ-loop
+mul-cell-7 c = search needs
+
+element-copy-out-cell-4 : tie.Need-element-copy-out-cell-4 Inv-loop μ-loop
+element-copy-out-cell-4 c = search needs
+
+mul-cell-8 : tie.Need-mul-cell-8 Inv-loop μ-loop
+mul-cell-8 c = search needs
+
+element-set-from-cell-4 : tie.Need-element-set-from-cell-4 Inv-loop μ-loop
+element-set-from-cell-4 c = search needs
 
 cast-bit-3 : tie.Need-cast-bit-3 Inv-loop μ-loop
 cast-bit-3 c = search needs
@@ -278,20 +325,29 @@ met m =
     let same = behind-at after (l .i) (a .card .cells) (l .next .cells) noCell (cells-so at) here in
     let woke = sym (asked j .0) ∙ then .if3 .taken in
     let done = m .before .worked in
-    let worked = turn-worked cellCount (a .full) old (l .i) (a .card .edited) wires (l .outputs) (workedBy (old .state) (done .result)) woke
+    let worked = turn-worked cellCount (a .full) old (l .i) (a .card .edited) wires (l .outputs) (workedBy (stateOf old) (done .result)) woke
     (done .ensures _ _ (l .inv .4)) in
-    let made : (e : Effect) → Turn = λ e. let v = workedBy (old .state) e in record { cell = withState old v; out = v .out; woke = true } in
+    let made : (e : Effect) → Turn = λ e. turnTo old (workedBy (stateOf old) e) in
+    let turn : (e : Effect) → done .result ≡ e → turnOf cellCount (a .full) (a .card .cells) (a .card .edited) wires (l .i) ≡ made e = λ e is.
+    turn-here at inside ∙ worked ∙ ap made is in
+    let out : (e : Effect) → done .result ≡ e → made e .out ≡ outsOf (a .full) (a .card) wires (l .i) = λ e is.
+    sym (ap (λ (t : Turn). t .out) (turn e is)) in
+    let put : (e : Effect) → done .result ≡ e
+    → seated (l .next) (ListN.set (l .next .cells) (l .i) (made e .cell)) ≡ seated (a .card) (upTo (a .full) (a .card) wires (l .i + 1)) = λ e is.
+    put-card at
+    (listed-next after (l .i) (a .card .cells) (l .next .cells) (made e .cell) noCell (cells-so at) (sym (ap (λ (t : Turn). t .cell) (turn e is))) here) in
     ⊎-elim
-    (λ w.
-    let t = turn-here at inside ∙ worked ∙ ap made (w .1 .given .1) in (
-      w .3 ∙ kept-card at (listed-kept after (l .i) (a .card .cells) (l .next .cells) noCell (cells-so at) (sym (ap (λ (t : Turn). t .cell) t ∙ same)) here),
-      w .4 ∙ sym (ap (λ (t : Turn). t .out) t),
+    (λ w. (
+      w .3
+          ∙ kept-card at
+          (listed-kept after (l .i) (a .card .cells) (l .next .cells) noCell (cells-so at)
+          (sym (ap (λ (t : Turn). t .cell) (turn _ (w .1 .given .1)) ∙ same)) here),
+      w .4 ∙ out _ (w .1 .given .1),
     ))
-    (λ w.
-    let t = turn-here at inside ∙ worked ∙ ap made (w .1 .given .1) in (
-      w .4 ∙ put-card at (listed-next after (l .i) (a .card .cells) (l .next .cells) _ noCell (cells-so at) (sym (ap (λ (t : Turn). t .cell) t)) here),
-      w .5 ∙ sym (ap (λ (t : Turn). t .out) t),
-    ))
+    (⊎-elim (λ w. (w .4 ∙ put _ (w .1 .given .1), w .5 ∙ out _ (w .1 .given .1)))
+    (⊎-elim (λ w. (w .5 ∙ put _ (w .1 .given .1), w .6 ∙ out _ (w .1 .given .1)))
+    (⊎-elim (λ w. (w .4 ∙ put _ (w .1 .given .1), w .5 ∙ out _ (w .1 .given .1)))
+    (λ w. (w .4 ∙ put _ (w .1 .given .1), w .5 ∙ out _ (w .1 .given .1))))))
     (m .match .came)
 
 -- what the turn of cell i made: the cells and the outputs are those of the definition, and readers above see of it what readers up to it do
@@ -455,11 +511,26 @@ turn-each-spec =
     element-copy-out-worked
     worked-requires
     enum-known-o
-    enum-known-s
+    enum-known-b
     mul-cell
     element-copy-out-cell
     mul-cell-2
     element-set-from-cell
+    enum-known-n
+    mul-cell-3
+    element-copy-out-cell-2
+    mul-cell-4
+    element-set-from-cell-2
+    enum-known-n-2
+    mul-cell-5
+    element-copy-out-cell-3
+    mul-cell-6
+    element-set-from-cell-3
+    enum-known-n-3
+    mul-cell-7
+    element-copy-out-cell-4
+    mul-cell-8
+    element-set-from-cell-4
     cast-bit-3
     bit-requires-3
     flipped-requires

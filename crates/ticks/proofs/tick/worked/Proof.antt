@@ -1,6 +1,7 @@
 -- `ticks::tick::worked` meets its contract: the slots read from the words what they read by the views.
 use mathlib.Core.Path.{ap, _∙_}
 use Rattle.cells.specs.declared.table.Slots.{Slots}
+use Rattle.cells.specs.State.{stateOf}
 use Rattle.cells.specs.Work.{workOut}
 use Rattle.ticks.proofs.Words.{Holds, slots-as}
 use borrow.Author.Needs.{needs}
@@ -45,7 +46,7 @@ returns c f g r =
       at-f = c .before .address4 .ensures;
     } in
     c .work .ensures
-    ∙ ap (λ (s : Slots). workOut (a .cell .kind) (a .cell .config) (a .cell .state) s) (slots-as f g (a .q .now) (a .cell .slots) _ _ _ _ r held)
+    ∙ ap (λ (s : Slots). workOut (a .cell .kind) (a .cell .config) (stateOf (a .cell)) s) (slots-as f g (a .q .now) (a .cell .slots) _ _ _ _ r held)
 
 pub worked-spec : {M : Type 1} → statement M
 worked-spec =
