@@ -2,9 +2,10 @@
 //
 //     card CARD KIND N [show]
 //
-// CARD is fresh, counter, busy, still or wakeN (N cells wake in each tick); KIND is full, quick, idle (full, at a clock code that is not the card's)
-// or none (the loop without ticks). It prints a checksum of the driven and the cell words, and how many cells all ticks woke. With `show` it prints
-// what plrun is to be given for the same wiring and ticks, and on standard error what plrun must answer to the ticks.
+// CARD is fresh, counter, busy, still or wakeN (N cells wake in each tick), of sixteen cells, or with -32 behind it of thirty-two; KIND is full, quick,
+// idle (full, at a clock code that is not the card's) or none (the loop without ticks). It prints a checksum of the driven and the cell words, and how
+// many cells all ticks woke. With `show` it prints what plrun is to be given for the same wiring and ticks, and on standard error what plrun must answer
+// to the ticks.
 use std::hint::black_box;
 
 use trigger::{Answer, Card, Input};
@@ -32,19 +33,19 @@ impl Random {
 }
 
 // The address in a slot of cell i: another cell or a backplane line, as it is or inverse.
-fn source(random: &mut Random, i: u32) -> u32 {
+fn source(random: &mut Random, i: u32, cells: u32) -> u32 {
     let base = if random.below(2) == 0 {
-        1 + (i + random.below(15)) % 16
+        1 + (i + random.below(cells - 1)) % cells
     } else {
         41 + random.below(8)
     };
     base + 64 * random.below(2)
 }
 
-// Sixteen cells of the types that use four slots.
-fn busy(random: &mut Random) -> Vec<String> {
+// All cells of the types that use four slots.
+fn busy(random: &mut Random, cells: u32) -> Vec<String> {
     let mut lines = Vec::new();
-    for i in 1..=16 {
+    for i in 1..=cells {
         let kind = [1, 4, 10, 11, 12, 16, 17, 18][random.below(8) as usize];
         lines.push(format!("M E={i}"));
         lines.push(format!("36CCA Y={kind}"));
@@ -53,13 +54,13 @@ fn busy(random: &mut Random) -> Vec<String> {
             16 | 17 => lines.push(format!("36CCA Z={}", 1 + random.below(9))),
             _ => {}
         }
-        let [x, y, z, f] = [(); 4].map(|()| source(random, i));
+        let [x, y, z, f] = [(); 4].map(|()| source(random, i, cells));
         lines.push(format!("36CCB X={x} Y={y} Z={z} F={f}"));
     }
     lines
 }
 
-fn still() -> Vec<String> {
+fn still(cells: u32) -> Vec<String> {
     let cell = |i| {
         [
             format!("M E={i}"),
@@ -67,11 +68,11 @@ fn still() -> Vec<String> {
             "36CCB X=41 Y=42 Z=43 F=44".into(),
         ]
     };
-    (1..=16).flat_map(cell).collect()
+    (1..=cells).flat_map(cell).collect()
 }
 
 // As `still`, but the first n cells toggle in every tick.
-fn waking(n: usize) -> Vec<String> {
+fn waking(n: u32, cells: u32) -> Vec<String> {
     let cell = |i| {
         let (kind, slots) = if i <= n {
             (13, "36CCB X=64 Y=64 Z=192")
@@ -80,7 +81,7 @@ fn waking(n: usize) -> Vec<String> {
         };
         [format!("M E={i}"), format!("36CCA Y={kind}"), slots.into()]
     };
-    (1..=16).flat_map(cell).collect()
+    (1..=cells).flat_map(cell).collect()
 }
 
 fn show(answer: &Answer, input: Input, kind: &str) {
@@ -119,21 +120,22 @@ fn main() {
         "none" => Turn::None,
         _ => panic!("full, quick, idle or none"),
     };
+    let (name, cells) = name.strip_suffix("-32").map_or((name, 16), |name| (name, 32));
     let mut random = Random(1);
     let lines = match name {
         "fresh" => Vec::new(),
         "counter" => vec!["36CCA X=4".into(), "36CCA X=19".into()],
-        "busy" => busy(&mut random),
-        "still" => still(),
+        "busy" => busy(&mut random, cells),
+        "still" => still(cells),
         _ => match name.strip_prefix("wake").and_then(|n| n.parse().ok()) {
-            Some(n) => waking(n),
+            Some(n) => waking(n, cells),
             None => panic!("fresh, counter, busy, still or wakeN"),
         },
     };
     if shown {
         lines.iter().for_each(|text| println!("{text}"));
     }
-    let mut card = Card::fresh();
+    let mut card = if cells == 32 { Card::fresh_large() } else { Card::fresh() };
     lines.iter().for_each(|text| line(&mut card, text));
     let moving = name == "busy";
     let code = if kind == "idle" { 9 } else { 0 };
@@ -153,8 +155,7 @@ fn main() {
                 continue;
             }
         };
-        checksum =
-            checksum.rotate_left(1) ^ u32::from(answer.driven) << 16 ^ u32::from(answer.cells);
+        checksum = checksum.rotate_left(1) ^ u32::from(answer.driven) << 16 ^ answer.cells;
         woken += u64::from(answer.count);
         if shown {
             show(&answer, input, kind);

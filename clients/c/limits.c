@@ -102,6 +102,31 @@ static void there_and_back(trigger_card card)
     free(back);
 }
 
+/* A card of thirty-two cells: its places, its record, and that record in the old form. */
+static void large(void)
+{
+    trigger_card card = trigger_fresh_large();
+    must(card.size == TRIGGER_LARGE && trigger_fresh().size == TRIGGER_SMALL, "the numbers of cells");
+    must(line(&card, "36SS Z", TRIGGER_REPLY, TRIGGER_LARGE_RECORD) == 0, "a store of a large record's length");
+    must(line(&card, "36SS Z", TRIGGER_REPLY, TRIGGER_LARGE_RECORD - 1) == 1, "a store too short for a large record");
+    must(load(&card, TRIGGER_RECORD) == 14 && load(&card, TRIGGER_LARGE_RECORD) == 14, "no record of thirty-two cells");
+
+    uint8_t *reply = sevens(TRIGGER_REPLY), *store = sevens(TRIGGER_LARGE_RECORD), *old = sevens(TRIGGER_OLD_RECORD);
+    trigger_line(card, (const uint8_t *)"36SS Z", 6, reply, TRIGGER_REPLY, store, TRIGGER_LARGE_RECORD);
+    trigger_converted small = trigger_convert(store, TRIGGER_LARGE_RECORD, old, TRIGGER_OLD_RECORD);
+    must(small.k == 0 && small.len == TRIGGER_OLD_RECORD, "a large record in the old form");
+    must(trigger_convert(store, TRIGGER_LARGE_RECORD, old, TRIGGER_OLD_RECORD - 1).k == 1, "a short buffer for it");
+    must(trigger_load(card, store, TRIGGER_LARGE_RECORD).k == 0, "a large record loads on a large card");
+    must(trigger_load(trigger_fresh(), store, TRIGGER_LARGE_RECORD).k == 14, "and not on a small one");
+    must(line(&card, "M E=32", TRIGGER_REPLY, 0) == 0 && line(&card, "36CCA Z=1", TRIGGER_REPLY, 0) == 0, "cell 32");
+    must(card.cells[31].config == 1, "its configuration");
+    trigger_line(card, (const uint8_t *)"36SS Z", 6, reply, TRIGGER_REPLY, store, TRIGGER_LARGE_RECORD);
+    must(trigger_convert(store, TRIGGER_LARGE_RECORD, old, TRIGGER_OLD_RECORD).k == 18, "a cell that sixteen have not");
+    free(reply);
+    free(store);
+    free(old);
+}
+
 int main(void)
 {
     trigger_card card = trigger_fresh();
@@ -125,5 +150,6 @@ int main(void)
     must(convert(TRIGGER_RECORD, TRIGGER_OLD_RECORD) == 14 && convert(0, TRIGGER_RECORD) == 14, "sevens are no record to convert");
     must(convert(TRIGGER_RECORD, TRIGGER_OLD_RECORD - 1) == 1 && convert(TRIGGER_OLD_RECORD, 0) == 1, "a buffer with no room for the result");
     there_and_back(trigger_fresh());
+    large();
     return faults == 0 ? 0 : 1;
 }

@@ -17,20 +17,24 @@
 #include <stddef.h>
 #include <stdint.h>
 
-#define TRIGGER_CELLS 16
+/* A card has sixteen cells or thirty-two, and always room for thirty-two. */
+#define TRIGGER_SMALL 16
+#define TRIGGER_LARGE 32
+#define TRIGGER_CELLS TRIGGER_LARGE
 #define TRIGGER_CONNECTORS 16
 
 /* The fewest bytes that a reply buffer may have; no reply is longer. */
 #define TRIGGER_REPLY 16
 
-/* The length of a record, which `36SS Z` writes and a load takes. */
+/* The length of a record, which `36SS Z` writes and a load takes: of a card of sixteen cells, and of one of thirty-two. */
 #define TRIGGER_RECORD 308
+#define TRIGGER_LARGE_RECORD 516
 
-/* The length of an old record, which a load takes as well. */
+/* The length of an old record, which a card of sixteen cells loads as well. */
 #define TRIGGER_OLD_RECORD 276
 
 /* A buffer of this length has room for the wiring of any card. */
-#define TRIGGER_TEXT 2771
+#define TRIGGER_TEXT 4611
 
 /*
  * A cell: its configuration, the addresses in its slots X Y Z F and its type; and what it keeps between ticks: a flip-flop's bit, a timer's count and
@@ -54,16 +58,17 @@ typedef struct {
 /* The words of the last tick that ran, of the one before it (2), and of the one before that (3). */
 typedef struct {
     uint16_t driven;
-    uint16_t outputs;
-    uint16_t outputs2;
-    uint16_t outputs3;
+    uint32_t outputs;
+    uint32_t outputs2;
+    uint32_t outputs3;
     uint16_t levels;
     uint16_t levels2;
 } trigger_memory;
 
 /*
- * The card: cells 1 to 16, connectors BNC1 to BNC8 and TTL0 to TTL7, the set of edited cells, what is remembered of ticks, the place that lines are
- * for (1 to 16 or 33 to 48), and the code of the clock that it ticks by. Read it as you like; to change it, use lines.
+ * The card: its cells from 1 on, connectors BNC1 to BNC8 and TTL0 to TTL7, the set of edited cells, what is remembered of ticks, the place that lines are
+ * for (a cell's number or 33 to 48), the code of the clock that it ticks by, and its number of cells: TRIGGER_LARGE, and any other number stands for
+ * TRIGGER_SMALL. No call changes that number. Read the card as you like; to change it, use lines.
  */
 typedef struct {
     trigger_cell cells[TRIGGER_CELLS];
@@ -72,6 +77,7 @@ typedef struct {
     trigger_memory memory;
     uint8_t pointer;
     uint8_t trigger;
+    uint8_t size;
 } trigger_card;
 
 /* What comes in with a tick: the code of its clock, the levels at the connectors (bits 0-7 BNC1-8, 8-15 TTL0-7), and which have something attached. */
@@ -88,8 +94,8 @@ typedef struct {
 typedef struct {
     bool ran;
     uint16_t driven;
-    uint16_t cells;
-    uint16_t woken;
+    uint32_t cells;
+    uint32_t woken;
     uint32_t count;
 } trigger_answer;
 
@@ -128,8 +134,11 @@ typedef struct {
 extern "C" {
 #endif
 
-/* A card as it first powers up. */
+/* A card of sixteen cells as it first powers up. */
 trigger_card trigger_fresh(void);
+
+/* A card of thirty-two cells as it first powers up. */
+trigger_card trigger_fresh_large(void);
 
 /* A tick in which every cell is worked out. */
 trigger_ticked trigger_full_tick(trigger_card card, trigger_input input);
@@ -146,14 +155,14 @@ bool trigger_at_rest(trigger_card card, trigger_input input);
 /*
  * One line, without an ending. The reply is written to the front of its buffer, with CR LF: `:A`, `:A n` or `:N-k`. A reply buffer of fewer than
  * TRIGGER_REPLY bytes is refused with 1, and nothing is written. `36SS Z` writes the record to the front of the store and is refused with 1 where the
- * store has fewer than TRIGGER_RECORD bytes; other lines leave the store alone.
+ * store has no room for it (TRIGGER_RECORD bytes, TRIGGER_LARGE_RECORD of thirty-two cells); other lines leave the store alone.
  */
 trigger_answered trigger_line(trigger_card card, const uint8_t *text, size_t text_len, uint8_t *reply, size_t reply_len, uint8_t *store,
                               size_t store_len);
 
 /*
- * The card powers up with the settings in a record. Any bytes may be given: 14 where they are not a record of TRIGGER_RECORD or TRIGGER_OLD_RECORD
- * bytes, 15 where its settings are none that lines can set.
+ * The card powers up with the settings in a record and keeps its number of cells. Any bytes may be given: 14 where they are not a record of
+ * TRIGGER_RECORD or TRIGGER_OLD_RECORD bytes, or of TRIGGER_LARGE_RECORD for thirty-two cells; 15 where its settings are none that lines can set.
  */
 trigger_loaded trigger_load(trigger_card card, const uint8_t *bytes, size_t bytes_len);
 
@@ -164,9 +173,10 @@ trigger_loaded trigger_load(trigger_card card, const uint8_t *bytes, size_t byte
 trigger_printed trigger_print(trigger_card card, uint8_t *buffer, size_t buffer_len);
 
 /*
- * A record in its other form, to the front of the buffer: the old one of a present one, and back. 14 where the length is that of neither, else 1 where
- * the buffer has no room for the result, else what a load of the record gives, else 17 where the old form has no room for a duration. Where it is
- * refused, the buffer stays as it was.
+ * A record in its other form, to the front of the buffer: the old one of a present one, also of thirty-two cells where sixteen can hold it; and of an old
+ * one the present one of sixteen. 14 where the length is that of none of them, else 1 where the buffer has no room for the result, else what a load of the
+ * record gives, else 17 where the old form has no room for a duration, else 18 where a cell above 16 is set or read. Where it is refused, the buffer
+ * stays as it was.
  */
 trigger_converted trigger_convert(const uint8_t *bytes, size_t bytes_len, uint8_t *buffer, size_t buffer_len);
 
@@ -198,46 +208,47 @@ TRIGGER_SIZE(trigger_connector, 2);
 TRIGGER_AT(trigger_connector, kind, 0);
 TRIGGER_AT(trigger_connector, source, 1);
 
-TRIGGER_SIZE(trigger_memory, 12);
+TRIGGER_SIZE(trigger_memory, 20);
 TRIGGER_AT(trigger_memory, driven, 0);
-TRIGGER_AT(trigger_memory, outputs, 2);
-TRIGGER_AT(trigger_memory, outputs2, 4);
-TRIGGER_AT(trigger_memory, outputs3, 6);
-TRIGGER_AT(trigger_memory, levels, 8);
-TRIGGER_AT(trigger_memory, levels2, 10);
+TRIGGER_AT(trigger_memory, outputs, 4);
+TRIGGER_AT(trigger_memory, outputs2, 8);
+TRIGGER_AT(trigger_memory, outputs3, 12);
+TRIGGER_AT(trigger_memory, levels, 16);
+TRIGGER_AT(trigger_memory, levels2, 18);
 
-TRIGGER_SIZE(trigger_card, 312);
+TRIGGER_SIZE(trigger_card, 576);
 TRIGGER_AT(trigger_card, cells, 0);
-TRIGGER_AT(trigger_card, connectors, 256);
-TRIGGER_AT(trigger_card, edited, 288);
-TRIGGER_AT(trigger_card, memory, 296);
-TRIGGER_AT(trigger_card, pointer, 308);
-TRIGGER_AT(trigger_card, trigger, 309);
+TRIGGER_AT(trigger_card, connectors, 512);
+TRIGGER_AT(trigger_card, edited, 544);
+TRIGGER_AT(trigger_card, memory, 552);
+TRIGGER_AT(trigger_card, pointer, 572);
+TRIGGER_AT(trigger_card, trigger, 573);
+TRIGGER_AT(trigger_card, size, 574);
 
 TRIGGER_SIZE(trigger_input, 6);
 TRIGGER_AT(trigger_input, code, 0);
 TRIGGER_AT(trigger_input, sample, 2);
 TRIGGER_AT(trigger_input, attached, 4);
 
-TRIGGER_SIZE(trigger_answer, 12);
+TRIGGER_SIZE(trigger_answer, 16);
 TRIGGER_AT(trigger_answer, ran, 0);
 TRIGGER_AT(trigger_answer, driven, 2);
 TRIGGER_AT(trigger_answer, cells, 4);
-TRIGGER_AT(trigger_answer, woken, 6);
-TRIGGER_AT(trigger_answer, count, 8);
+TRIGGER_AT(trigger_answer, woken, 8);
+TRIGGER_AT(trigger_answer, count, 12);
 
-TRIGGER_SIZE(trigger_ticked, 328);
+TRIGGER_SIZE(trigger_ticked, 592);
 TRIGGER_AT(trigger_ticked, card, 0);
-TRIGGER_AT(trigger_ticked, answer, 312);
+TRIGGER_AT(trigger_ticked, answer, 576);
 
-TRIGGER_SIZE(trigger_answered, 328);
+TRIGGER_SIZE(trigger_answered, 592);
 TRIGGER_AT(trigger_answered, card, 0);
-TRIGGER_AT(trigger_answered, k, 312);
-TRIGGER_AT(trigger_answered, len, 320);
+TRIGGER_AT(trigger_answered, k, 576);
+TRIGGER_AT(trigger_answered, len, 584);
 
-TRIGGER_SIZE(trigger_loaded, 320);
+TRIGGER_SIZE(trigger_loaded, 584);
 TRIGGER_AT(trigger_loaded, card, 0);
-TRIGGER_AT(trigger_loaded, k, 312);
+TRIGGER_AT(trigger_loaded, k, 576);
 
 TRIGGER_SIZE(trigger_printed, 16);
 TRIGGER_AT(trigger_printed, k, 0);

@@ -1,6 +1,6 @@
-//! The sixteen-cell trigger card, as a value.
+//! The trigger card of sixteen or thirty-two cells, as a value.
 //!
-//! A [`Card`] starts [`fresh`](Card::fresh), is wired by [lines](Card::line), and ticks [full](Card::full_tick) or [quick](Card::quick_tick). It saves its
+//! A [`Card`] starts [`fresh`](Card::fresh) with sixteen cells, or [with thirty-two](Card::fresh_large), is wired by [lines](Card::line), and ticks [full](Card::full_tick) or [quick](Card::quick_tick). It saves its
 //! wiring as a record (the line `36SS Z`), [loads](Card::load) one, and [prints](Card::print) its wiring as lines. The calls are those of the static
 //! library of crates/trigger, which is proved; they allocate nothing and keep nothing between calls.
 //!
@@ -25,14 +25,17 @@ use core::str;
 
 pub use raw::{Answer, Cell, Connector, Input, CELLS, CONNECTORS};
 
-/// The length of a record: a store needs as many bytes for `36SS Z`.
+/// The length of a record of sixteen cells: a store needs as many bytes for `36SS Z`.
 pub const RECORD: usize = 308;
 
-/// The length of an old record, which a load takes as well.
+/// The length of a record of thirty-two cells.
+pub const LARGE_RECORD: usize = 516;
+
+/// The length of an old record, which a card of sixteen cells loads as well.
 pub const OLD_RECORD: usize = 276;
 
 /// A buffer of this length has room for the wiring of any card.
-pub const TEXT: usize = 2771;
+pub const TEXT: usize = 4611;
 
 // The longest reply, which is also the fewest bytes that the library takes for a reply buffer.
 const REPLY: usize = 16;
@@ -95,7 +98,8 @@ impl fmt::Display for Reply {
     }
 }
 
-/// As plrun prints it: driven word, cells and woken set in hex and how many woke, or `T -` where the tick did not run.
+/// As plrun prints it: driven word, cells and woken set in hex and how many woke, or `T -` where the tick did not run. With `{:#}` cells and woken set have
+/// eight digits, for a card of thirty-two cells.
 impl fmt::Display for Answer {
     fn fmt(&self, f: &mut fmt::Formatter) -> fmt::Result {
         let Answer {
@@ -106,7 +110,8 @@ impl fmt::Display for Answer {
             count,
         } = self;
         if *ran {
-            write!(f, "T {driven:04x} {cells:04x} {woken:04x} {count}")
+            let width = if f.alternate() { 8 } else { 4 };
+            write!(f, "T {driven:04x} {cells:0width$x} {woken:0width$x} {count}")
         } else {
             f.write_str("T -")
         }
@@ -125,10 +130,16 @@ impl Default for Card {
 
 // In each unsafe block below the slices are valid as references are, and those that are written overlap nothing, since they are borrowed mutably.
 impl Card {
-    /// A card as it first powers up.
+    /// A card of sixteen cells as it first powers up.
     #[inline]
     pub fn fresh() -> Card {
         Card(unsafe { raw::trigger_fresh() })
+    }
+
+    /// A card of thirty-two cells as it first powers up.
+    #[inline]
+    pub fn fresh_large() -> Card {
+        Card(unsafe { raw::trigger_fresh_large() })
     }
 
     /// A tick in which every cell is worked out.
@@ -155,7 +166,8 @@ impl Card {
     }
 
     /// One line, without an ending. A refused line leaves card and store as they were. `36SS Z` writes the record to the front of the store, and is
-    /// refused with 1 where that has fewer than [`RECORD`] bytes; other lines do not look at the store, which may be empty for them.
+    /// refused with 1 where that has fewer than [`RECORD`] bytes, [`LARGE_RECORD`] of thirty-two cells; other lines do not look at the store, which may be
+    /// empty for them.
     #[inline]
     pub fn line(&mut self, text: &[u8], store: &mut [u8]) -> Reply {
         let mut buffer = [0; REPLY];
@@ -178,8 +190,8 @@ impl Card {
         }
     }
 
-    /// The card powers up with the settings in a record. Any bytes may be given: 14 where they are not a record of [`RECORD`] or [`OLD_RECORD`] bytes,
-    /// 15 where its settings are none that lines can set; the card is then as it was.
+    /// The card powers up with the settings in a record and keeps its number of cells. Any bytes may be given: 14 where they are not a record of [`RECORD`] or
+    /// [`OLD_RECORD`] bytes, or of [`LARGE_RECORD`] for thirty-two cells, 15 where its settings are none that lines can set; the card is then as it was.
     #[inline]
     pub fn load(&mut self, record: &[u8]) -> Result<(), Refusal> {
         let loaded = unsafe { raw::trigger_load(self.0, record.as_ptr(), record.len()) };
@@ -196,9 +208,10 @@ impl Card {
         Ok(str::from_utf8(&buffer[..printed.len]).expect("a wiring is ASCII"))
     }
 
-    /// Cells 1 to 16.
-    pub fn cells(&self) -> &[Cell; CELLS] {
-        &self.0.cells
+    /// The cells, from cell 1 on: sixteen or thirty-two.
+    pub fn cells(&self) -> &[Cell] {
+        let n = if self.0.size as usize == CELLS { CELLS } else { 16 };
+        &self.0.cells[..n]
     }
 
     /// The connectors: BNC1 to BNC8, then TTL0 to TTL7.
@@ -206,7 +219,7 @@ impl Card {
         &self.0.connectors
     }
 
-    /// The place that lines are for: a cell, 1 to 16, or a connector, 33 to 48.
+    /// The place that lines are for: a cell's number, or a connector, 33 to 48.
     pub fn pointer(&self) -> u8 {
         self.0.pointer
     }
@@ -222,7 +235,7 @@ impl Card {
     }
 
     /// The outputs of the cells in the last tick that ran, bit 0 of cell 1.
-    pub fn outputs(&self) -> u16 {
+    pub fn outputs(&self) -> u32 {
         self.0.memory.outputs
     }
 
@@ -232,9 +245,10 @@ impl Card {
     }
 }
 
-/// A record in its other form, written to the front of the buffer: the old one of a present one, and back. 14 where the length is that of neither, else
-/// 1 where the buffer has no room for the result, else what a [load](Card::load) of the record gives, else 17 where the old form has no room for a
-/// duration. Where it is refused, the buffer stays as it was.
+/// A record in its other form, written to the front of the buffer: the old one of a present one, also of thirty-two cells where sixteen can hold it; and of
+/// an old one the present one of sixteen. 14 where the length is that of none of them, else 1 where the buffer has no room for the result, else what a
+/// [load](Card::load) of the record gives, else 17 where the old form has no room for a duration, else 18 where a cell above 16 is set or read. Where it is
+/// refused, the buffer stays as it was.
 #[inline]
 pub fn convert<'a>(record: &[u8], buffer: &'a mut [u8]) -> Result<&'a [u8], Refusal> {
     // The slices are valid as references are, and the borrowed buffer overlaps nothing.

@@ -2,8 +2,8 @@
 //! comment names; a field added there is added here and in clients/c/trigger.h, at the same place.
 use core::mem::{offset_of, size_of};
 
-/// How many cells a card has.
-pub const CELLS: usize = 16;
+/// How many cells a card has room for; it has sixteen or thirty-two.
+pub const CELLS: usize = 32;
 
 /// How many connectors a card has.
 pub const CONNECTORS: usize = 16;
@@ -43,9 +43,9 @@ pub struct Connector {
 #[derive(Clone, Copy, Debug, PartialEq, Eq)]
 pub struct Memory {
     pub driven: u16,
-    pub outputs: u16,
-    pub outputs2: u16,
-    pub outputs3: u16,
+    pub outputs: u32,
+    pub outputs2: u32,
+    pub outputs3: u32,
     pub levels: u16,
     pub levels2: u16,
 }
@@ -60,6 +60,7 @@ pub struct Card {
     pub memory: Memory,
     pub pointer: u8,
     pub trigger: u8,
+    pub size: u8,
 }
 
 /// What comes in with a tick.
@@ -85,9 +86,9 @@ pub struct Answer {
     /// What the card drives at the connectors, in the order of the sample.
     pub driven: u16,
     /// The outputs of the cells, bit 0 of cell 1.
-    pub cells: u16,
+    pub cells: u32,
     /// The cells that were worked out.
-    pub woken: u16,
+    pub woken: u32,
     /// How many these are.
     pub count: u32,
 }
@@ -133,6 +134,7 @@ pub struct Converted {
 #[link(name = "trigger", kind = "static")]
 extern "C" {
     pub fn trigger_fresh() -> Card;
+    pub fn trigger_fresh_large() -> Card;
     pub fn trigger_full_tick(card: Card, input: Input) -> Ticked;
     pub fn trigger_quick_tick(card: Card, input: Input) -> Ticked;
     pub fn trigger_at_rest(card: Card, input: Input) -> bool;
@@ -165,12 +167,12 @@ macro_rules! layout {
 
 layout!(Cell: 16, config 0, count 4, slots 8, kind 12, bit 13, pulse 14);
 layout!(Connector: 2, kind 0, source 1);
-layout!(Memory: 12, driven 0, outputs 2, outputs2 4, outputs3 6, levels 8, levels2 10);
-layout!(Card: 312, cells 0, connectors 256, edited 288, memory 296, pointer 308, trigger 309);
+layout!(Memory: 20, driven 0, outputs 4, outputs2 8, outputs3 12, levels 16, levels2 18);
+layout!(Card: 576, cells 0, connectors 512, edited 544, memory 552, pointer 572, trigger 573, size 574);
 layout!(Input: 6, code 0, sample 2, attached 4);
-layout!(Answer: 12, ran 0, driven 2, cells 4, woken 6, count 8);
-layout!(Ticked: 328, card 0, answer 312);
-layout!(Answered: 328, card 0, k 312, len 320);
-layout!(Loaded: 320, card 0, k 312);
+layout!(Answer: 16, ran 0, driven 2, cells 4, woken 8, count 12);
+layout!(Ticked: 592, card 0, answer 576);
+layout!(Answered: 592, card 0, k 576, len 584);
+layout!(Loaded: 584, card 0, k 576);
 layout!(Printed: 16, k 0, len 8);
 layout!(Converted: 16, k 0, len 8);

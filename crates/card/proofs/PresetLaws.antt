@@ -11,12 +11,13 @@ use Rattle.words.specs.Bits.{bitAt}
 use Rattle.words.proofs.Laws.{built-same, built-of-bits}
 use Rattle.words.proofs.Listed.{listed-same, listed-take}
 use Rattle.cells.specs.declared.cell.Cell.{Cell}
+use Rattle.cells.proofs.Laws.{or-left, or-right}
 use Rattle.card.specs.declared.card.Card.{Card}
 use Rattle.card.specs.Address.{connectorCount}
 use Rattle.card.specs.Connectors.{noConnector}
 use Rattle.card.specs.Edits.{withSettings}
 use Rattle.card.specs.Fresh.{noCell}
-use Rattle.card.specs.Presets.{Setting, has, settingOf, offered, presetCell, presetSource, cellWithPreset, connectorWithPreset, editedWithPreset, preset}
+use Rattle.card.specs.Presets.{Setting, isLarge, has, settingOf, offered, presetCell, presetSource, cellWithPreset, connectorWithPreset, editedWithPreset, preset}
 
 -- a preset leaves the memory, the pointer and the trigger source
 pub preset-keeps : (n : ℕ) (c : Card) (v : ℕ) → let d = preset n c v in
@@ -30,13 +31,14 @@ no-setting (some s) e = absurd (true≢false e)
 
 -- a number that is not offered changes nothing
 pub preset-unoffered : (n : ℕ) (c : Card) (v : ℕ) → n ≤ length (c .cells) → length (c .connectors) ≡ connectorCount → c .edited < 2 ^ n
-    → offered v ≡ false → preset n c v ≡ c
+    → offered n v ≡ false → preset n c v ≡ c
 unfolding offered presetCell presetSource preset
 preset-unoffered n c v hc hk he e =
-    let none-set = no-setting (settingOf v) e in
+    let none-set = no-setting (settingOf v) (or-right (isLarge n v) _ e) in
+    let small = or-left (isLarge n v) _ e in
     let first = listed-same (cellWithPreset c v) (λ i. getD (c .cells) i noCell) n (λ i h. rw none-set) ∙ listed-take (c .cells) noCell n hc in
     let cells = ap (λ (front : List Cell). front ++ drop n (c .cells)) first ∙ take-append-drop n (c .cells) in
-    let connectors = listed-same (connectorWithPreset c v) (λ k. getD (c .connectors) k noConnector) connectorCount (λ k h. rw none-set)
+    let connectors = listed-same (connectorWithPreset n c v) (λ k. getD (c .connectors) k noConnector) connectorCount (λ k h. rw (small, none-set))
     ∙ listed-take (c .connectors) noConnector connectorCount (omega arith)
     ∙ take-all connectorCount (c .connectors) (omega arith) in
     let edited = built-same (editedWithPreset c v) (bitAt (c .edited)) n (λ i h. rw (none-set, or-false)) ∙ built-of-bits (c .edited) n he in

@@ -1,7 +1,7 @@
 -- The constant tables of presets against document 01's: a test over a whole table gives each row, and past the table nothing is set.
 use Prim.Native.Nat.{ℕ, _+_, _≤_, _<_, zero-le}
 use mathlib.Core.Path.{_≡_, refl, sym, ap, _∙_}
-use mathlib.Core.Bool.{Bool, true, false, _||_, cond, false≢true, and-false}
+use mathlib.Core.Bool.{Bool, true, false, _&&_, _||_, cond, false≢true, and-false}
 use mathlib.Core.List.{List, [], _∷_}
 use mathlib.Core.Option.{none, some}
 use native.Mathlib.Decide.{ℕ-discrete}
@@ -13,8 +13,8 @@ use Rattle.words.specs.Bits.{bitAt}
 use Rattle.words.specs.Listed.{listed}
 use Rattle.words.proofs.Listed.{listed-at}
 use Rattle.cells.proofs.Rows.{and-left, and-right}
-use Rattle.card.specs.Address.{firstCell}
-use Rattle.card.specs.Presets.{Entry, presetTable, find, has, cellsOf, settingOf, offered, presetCell, presetSource}
+use Rattle.card.specs.Address.{cellCount, cellRoom, cellsFor, firstCell}
+use Rattle.card.specs.Presets.{Entry, presetTable, isLarge, largePreset, find, has, cellsOf, settingOf, offered, presetCell, presetSource}
 use Rattle.card.specs.PresetRows.{sourceRows, cellRows, rowByte, sourceUnder, covers, cellUnder}
 use Rattle.card.specs.Valid.{every}
 
@@ -51,13 +51,34 @@ pub past-table : (v : ℕ) → sourceRows ≤ v → settingOf v ≡ none
 unfolding settingOf
 past-table v h = none-at presetTable all-numbered v h
 
-pub past-source : (v k : ℕ) → sourceRows ≤ v → presetSource v k ≡ none
+pub past-source : (v k : ℕ) → sourceRows ≤ v → presetSource cellCount v k ≡ none
 unfolding presetSource
 past-source v k h = rw (past-table v h)
 
-pub past-offered : (v : ℕ) → sourceRows ≤ v → offered v ≡ false
+pub past-offered : (v : ℕ) → sourceRows ≤ v → offered cellCount v ≡ false
 unfolding offered
 past-offered v h = rw (past-table v h)
+
+-- a number that is not the preset of a large card alone is offered, and sources, as on a small one
+pub small-offered : (n v : ℕ) → isLarge n v ≡ false → offered n v ≡ offered cellCount v
+unfolding offered
+small-offered n v e = rw e
+
+pub small-source : (n v k : ℕ) → isLarge n v ≡ false → presetSource n v k ≡ presetSource cellCount v k
+unfolding presetSource
+small-source n v k e = rw e
+
+pub large-source : (n v k : ℕ) → isLarge n v ≡ true → presetSource n v k ≡ presetSource cellRoom largePreset k
+unfolding presetSource
+large-source n v k e = rw e
+
+pub large-told : (size v : ℕ) → isLarge (cellsFor size) v ≡ (eqb size cellRoom && eqb v largePreset)
+unfolding cellsFor
+large-told size v = go (eqb size cellRoom)
+  where
+    go : (b : Bool) → isLarge (cond b cellRoom cellCount) v ≡ (b && eqb v largePreset)
+    go true = refl
+    go false = refl
 
 -- a later preset sets no cell
 isEmpty : {A : Type 0} → List A → Bool

@@ -1,6 +1,6 @@
 -- An accepted preset keeps a card valid: what it sets is valid, by one test over the whole table, and stays so where there are more cells.
 use Prim.Native.Nat.{ℕ, _+_, _≤_}
-use mathlib.Core.Path.{_≡_, refl}
+use mathlib.Core.Path.{_≡_, refl, ap}
 use mathlib.Core.Bool.{Bool, true, false, not, _&&_, _||_, cond, or-true}
 use mathlib.Core.List.{List, [], _∷_, _++_}
 use mathlib.Core.Option.{Option, none, some, Option·getD}
@@ -8,7 +8,7 @@ use native.Mathlib.Omega.{arith}
 use lib.Dec.{leb, ltb, eqb}
 use lib.ListN.{length, getD, drop}
 use lib.Seq.{length-take-le}
-use borrow.Author.Tests.{not-true, not-false, le-leb, eq-eqb}
+use borrow.Author.Tests.{not-true, not-false, le-leb, leb-true, eq-eqb}
 use Rattle.words.specs.Listed.{listed}
 use Rattle.words.proofs.Listed.{length-listed, listed-at, front-at, front-length}
 use Rattle.cells.specs.declared.cell.Cell.{Cell}
@@ -17,13 +17,15 @@ use Rattle.cells.proofs.Laws.{or-left, or-right}
 use Rattle.cells.proofs.Rows.{and-left, and-right}
 use Rattle.card.specs.declared.card.Card.{Card}
 use Rattle.card.specs.declared.card.Connector.{Connector}
-use Rattle.card.specs.Address.{cellCount, connectorCount, firstCell, firstConnector, among, baseOf, edgeAddress}
+use Rattle.card.specs.Address.{cellCount, cellRoom, connectorCount, firstCell, firstConnector, among, baseOf, edgeAddress}
 use Rattle.card.specs.Connectors.{noConnector}
 use Rattle.card.specs.Fresh.{noCell}
 use Rattle.card.specs.Valid.{largestAddress, frontTrigger, permittedBase, badCellType, badConnectorType, badAddress, frontDriven}
 use Rattle.card.specs.Valid.{validSlot, validSlots, validCell, validConnector, every, validCard}
-use Rattle.card.specs.Presets.{Setting, Entry, presetTable, find, has, cellsOf, sourcesOf, settingOf, presetCell, presetSource, setsFront, sourced}
+use Rattle.card.specs.Presets.{Setting, Entry, presetTable, isLarge, largePreset, largeSources, find, has, cellsOf, sourcesOf, settingOf, presetCell, presetSource, setsFront, sourced}
 use Rattle.card.specs.Presets.{cellWithPreset, connectorWithPreset, preset}
+use Rattle.card.proofs.PresetRows
+use Rattle.card.proofs.PresetRows.{large-source}
 use Rattle.card.proofs.Places.{among-in, among-bounds}
 use Rattle.card.proofs.Settings.{every-listed, first-pass, taken-room, cell-slots, config-most, join}
 use Rattle.card.proofs.ValidLaws.{kind-known, sound, cell-at, connector-at}
@@ -71,10 +73,20 @@ unfolding presetCell settingOf
 preset-cell v i =
     found-passes (validCell cellCount) (cellsOf (settingOf v)) (good-cells (settingOf v) (found-passes goodSetting presetTable all-good v)) (firstCell + i)
 
-preset-source : (v k : ℕ) → passes goodSource (presetSource v k) ≡ true
+small-source : (v k : ℕ) → passes goodSource (presetSource cellCount v k) ≡ true
 unfolding presetSource settingOf
-preset-source v k =
+small-source v k =
     found-passes goodSource (sourcesOf (settingOf v)) (good-sources (settingOf v) (found-passes goodSetting presetTable all-good v)) (1 + k)
+
+-- what the preset of a large card sources is permitted there
+large-passes : (k : ℕ) → passes (λ (a : ℕ). not (badAddress cellRoom a)) (presetSource cellRoom largePreset k) ≡ true
+unfolding presetSource every listed badAddress permittedBase
+large-passes k = found-passes (λ (a : ℕ). not (badAddress cellRoom a)) largeSources refl (1 + k)
+
+passes-more : {A : Type 0} (f g : A → Bool) → ((a : A) → f a ≡ true → g a ≡ true) → (o : Option A) → passes f o ≡ true → passes g o ≡ true
+unfolding passes
+passes-more f g more none t = refl
+passes-more f g more (some a) t = more a t
 
 -- ---- among more cells
 
@@ -83,28 +95,40 @@ or-more true a b k more e = refl
 or-more false true b k more e = rw (more refl)
 or-more false false b k more e = rw (e, or-true b)
 
--- what is permitted among the card's cells is permitted among n, which are no fewer
-module _ (n : ℕ) (more : cellCount ≤ n) where
-  base-more : (b : ℕ) → permittedBase cellCount b ≡ true → permittedBase n b ≡ true
+-- what is permitted among m cells is permitted among n, which are no fewer
+module _ (m n : ℕ) (more : m ≤ n) where
+  base-more : (b : ℕ) → permittedBase m b ≡ true → permittedBase n b ≡ true
   unfolding permittedBase
   base-more b e = or-more (eqb b 0) _ (among firstCell n b) (among firstConnector connectorCount b) wider e
     where
-      wider : among firstCell cellCount b ≡ true → among firstCell n b ≡ true
+      wider : among firstCell m b ≡ true → among firstCell n b ≡ true
       wider e =
-          let h = among-bounds firstCell cellCount b e in
+          let h = among-bounds firstCell m b e in
           among-in firstCell n b (h .0) (omega arith)
 
-  address-more : (a : ℕ) → badAddress cellCount a ≡ false → badAddress n a ≡ false
+  address-more : (a : ℕ) → badAddress m a ≡ false → badAddress n a ≡ false
   unfolding badAddress
   address-more a e =
-      let base = not-false _ (or-right (ltb largestAddress a) (not (permittedBase cellCount (baseOf a))) e) in
-      rw (or-left (ltb largestAddress a) (not (permittedBase cellCount (baseOf a))) e, base-more (baseOf a) base)
+      let base = not-false _ (or-right (ltb largestAddress a) (not (permittedBase m (baseOf a))) e) in
+      rw (or-left (ltb largestAddress a) (not (permittedBase m (baseOf a))) e, base-more (baseOf a) base)
+
+  source-more : (o : Option ℕ) → passes (λ (a : ℕ). not (badAddress m a)) o ≡ true → passes (λ (a : ℕ). not (badAddress n a)) o ≡ true
+  source-more o t =
+      passes-more (λ (a : ℕ). not (badAddress m a)) (λ (a : ℕ). not (badAddress n a)) (λ a g. ap not (address-more a (not-true _ g))) o t
+
+module _ (n : ℕ) (more : cellCount ≤ n) where
+  preset-source : (v k : ℕ) → passes (λ (a : ℕ). not (badAddress n a)) (presetSource n v k) ≡ true
+  preset-source v k = go (isLarge n v) refl
+    where
+      go : (b : Bool) → isLarge n v ≡ b → passes (λ (a : ℕ). not (badAddress n a)) (presetSource n v k) ≡ true
+      go true e = rw (large-source n v k e) (source-more cellRoom n (leb-true cellRoom n (and-left (leb cellRoom n) _ e)) _ (large-passes k))
+      go false e = rw (PresetRows.small-source n v k e) (source-more cellCount n more _ (small-source v k))
 
   slot-more : (used edge : Bool) (a : ℕ) → validSlot cellCount used edge a ≡ true → validSlot n used edge a ≡ true
   unfolding validSlot
   slot-more true edge a e =
       let good = not-true _ (and-left (not (badAddress cellCount a)) (not edge || leb edgeAddress a) e) in
-      rw (address-more a good) (and-right (not (badAddress cellCount a)) (not edge || leb edgeAddress a) e)
+      rw (address-more cellCount n more a good) (and-right (not (badAddress cellCount a)) (not edge || leb edgeAddress a) e)
   slot-more false edge a e = e
 
   cell-more : (cell : Cell) → validCell cellCount cell ≡ true → validCell n cell ≡ true
@@ -130,10 +154,10 @@ module _ (n : ℕ) (more : cellCount ≤ n) where
   either-cell none old p q = q
   either-cell (some cell) old p q = cell-more cell p
 
-  either-connector : (o : Option ℕ) (old : Connector) → passes goodSource o ≡ true → validConnector n old ≡ true → validConnector n (sourced o old) ≡ true
+  either-connector : (o : Option ℕ) (old : Connector) → passes (λ (a : ℕ). not (badAddress n a)) o ≡ true → validConnector n old ≡ true → validConnector n (sourced o old) ≡ true
   unfolding passes validConnector badConnectorType
   either-connector none old p q = q
-  either-connector (some a) old p q = rw (address-more a (not-true _ p))
+  either-connector (some a) old p q = rw (not-true (badAddress n a) p)
 
   either-front : (trigger : ℕ) (o : Option ℕ) (old : Connector) → (has o && eqb trigger frontTrigger) ≡ false → frontDriven trigger (old .kind) ≡ false
       → frontDriven trigger (sourced o old .kind) ≡ false
@@ -141,27 +165,27 @@ module _ (n : ℕ) (more : cellCount ≤ n) where
   either-front trigger none old p q = q
   either-front trigger (some a) old p q = rw p
 
-  pub valid-preset : (c : Card) → validCard n c ≡ true → (v : ℕ) → (setsFront v && eqb (c .trigger) frontTrigger) ≡ false
+  pub valid-preset : (c : Card) → validCard n c ≡ true → (v : ℕ) → (setsFront n v && eqb (c .trigger) frontTrigger) ≡ false
       → validCard n (preset n c v) ≡ true
   unfolding preset validCard setsFront
   valid-preset c ok v free =
       let cells = listed (cellWithPreset c v) n ++ drop n (c .cells) in
-      let connectors = listed (connectorWithPreset c v) connectorCount in
-      let first = listed-at (connectorWithPreset c v) connectorCount 0 noConnector (omega arith) in
+      let connectors = listed (connectorWithPreset n c v) connectorCount in
+      let first = listed-at (connectorWithPreset n c v) connectorCount 0 noConnector (omega arith) in
       let s = sound n c ok in
       let had = taken-room n (c .cells) (s .cell-count) in
       let long : n ≤ length cells = omega (arith, had, front-length (cellWithPreset c v) n (c .cells) had) in
       join n (c .trigger) cells connectors
       (record {
         clock = s .clock;
-        front = rw first (either-front (c .trigger) (presetSource v 0) (getD (c .connectors) 0 noConnector) free (s .front));
+        front = rw first (either-front (c .trigger) (presetSource n v 0) (getD (c .connectors) 0 noConnector) free (s .front));
         cell-count = length-take-le n cells long;
-        connector-count = length-listed (connectorWithPreset c v) connectorCount;
+        connector-count = length-listed (connectorWithPreset n c v) connectorCount;
         cells-pass =
             first-pass (validCell n) n cells noCell long
             (λ i h. rw (front-at (cellWithPreset c v) n (c .cells) i noCell h)
             (either-cell (presetCell v i) (getD (c .cells) i noCell) (preset-cell v i) (cell-at n c ok i h)));
         connectors-pass =
-            every-listed (validConnector n) (connectorWithPreset c v) connectorCount
-            (λ k h. either-connector (presetSource v k) (getD (c .connectors) k noConnector) (preset-source v k) (connector-at n c ok k h));
+            every-listed (validConnector n) (connectorWithPreset n c v) connectorCount
+            (λ k h. either-connector (presetSource n v k) (getD (c .connectors) k noConnector) (preset-source v k) (connector-at n c ok k h));
       })

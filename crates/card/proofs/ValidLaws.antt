@@ -2,7 +2,7 @@
 use Prim.Native.Nat.{ℕ, _+_, _-_, _%_, _≤_, _<_, zero-le}
 use mathlib.Core.Path.{_≡_, refl, sym, _∙_}
 use mathlib.Core.Bool.{Bool, true, false, not, _&&_, _||_, cond, true≢false, and-false}
-use mathlib.Core.List.{List, [], _∷_, map}
+use mathlib.Core.List.{List, [], _∷_, _++_, map}
 use native.Mathlib.Decide.{ℕ-discrete}
 use native.Mathlib.Omega.{arith}
 use lib.Dec.{leb, ltb, eqb}
@@ -17,7 +17,7 @@ use Rattle.cells.proofs.Laws.{or-left, or-right}
 use Rattle.cells.proofs.Rows.{and-left, and-right, every-row}
 use Rattle.card.specs.declared.card.Card.{Card}
 use Rattle.card.specs.declared.card.Connector.{Connector}
-use Rattle.card.specs.Address.{connectorCount, firstCell, firstConnector}
+use Rattle.card.specs.Address.{cellRoom, connectorCount, firstCell, firstConnector}
 use Rattle.card.specs.Connectors.{noConnector}
 use Rattle.card.specs.Fresh.{noCell, freshCell, freshConnectors, freshOf}
 use Rattle.card.specs.Valid.{frontTrigger, permittedBase, badClock, badCellType, badConnectorType, badConfig, unusedSlot, badAddress, frontDriven}
@@ -339,8 +339,9 @@ module _ (n : ℕ) (c : Card) (ok : validCard n c ≡ true) where
 pub fresh-valid : (n : ℕ) → validCard n (freshOf n) ≡ true
 unfolding validCard badClock frontDriven every validConnector badConnectorType badAddress permittedBase
 fresh-valid n =
-    let all : take n (replicate n freshCell) ≡ replicate n freshCell = take-all n (replicate n freshCell) (omega (arith, length-replicate n freshCell)) in
-    join n 0 (replicate n freshCell) freshConnectors
+    let room = replicate (cellRoom - n) freshCell in
+    let all : take n (replicate n freshCell ++ room) ≡ replicate n freshCell = take-at (replicate n freshCell) room n (length-replicate n freshCell) in
+    join n 0 (replicate n freshCell ++ room) freshConnectors
     (record {
       clock = refl;
       front = refl;

@@ -1,12 +1,20 @@
 -- Document 01, "Addresses": which bases are cells' and connectors', and what an address is made of: its base, whether it is inverted, whether it is an
 -- edge. What it reads stands in ticks/specs/Reading.
 use Prim.Native.Nat.{ℕ, _+_, _%_}
-use mathlib.Core.Bool.{Bool, _&&_, _||_}
+use mathlib.Core.Bool.{Bool, _&&_, _||_, cond}
 use lib.Dec.{leb, ltb, eqb}
 
 -- the number of cells, and of connectors, of the card
 abbrev pub cellCount : ℕ
 cellCount = 16
+
+-- the room for cells: the number of a large card
+abbrev pub cellRoom : ℕ
+cellRoom = 32
+
+-- a card's number of cells by its size: 32, and 16 for any other number
+unfoldable pub cellsFor : ℕ → ℕ
+cellsFor size = cond (eqb size cellRoom) cellRoom cellCount
 
 abbrev pub connectorCount : ℕ
 connectorCount = 16

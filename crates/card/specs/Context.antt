@@ -28,6 +28,7 @@ contextOf n c =
       connector = currentConnector c;
       levels = c .memory .levels;
       outputs = c .memory .outputs;
+      size = c .size;
     }
 
 -- ---- what reads give
@@ -64,10 +65,17 @@ frontRead x = x .levels % 256
 abbrev pub backRead : Context → ℕ
 backRead x = x .levels / 256
 
+-- "`Z?` cells": the lower sixteen; document 02, "Thirty-two cells": "`36RDADC F?` reads cells 17 to 32"
+abbrev pub lowerRead : Context → ℕ
+lowerRead x = x .outputs % 65536
+
+abbrev pub upperRead : Context → ℕ
+upperRead x = x .outputs / 65536
+
 -- ---- 13: "a line makes BNC1 an output while trigger is 4"
 
 abbrev pub drivesFront : Context → ℕ → Bool
 drivesFront x v = eqb (x .pointer) firstConnector && frontDriven (x .trigger) v
 
-abbrev pub presetDrives : Context → ℕ → Bool
-presetDrives x v = setsFront v && eqb (x .trigger) frontTrigger
+abbrev pub presetDrives : ℕ → Context → ℕ → Bool
+presetDrives n x v = setsFront n v && eqb (x .trigger) frontTrigger

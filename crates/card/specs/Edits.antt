@@ -34,6 +34,7 @@ withParts c pointer trigger cells connectors edited =
       connectors = connectors;
       edited = edited;
       memory = c .memory;
+      size = c .size;
     }
 
 abbrev pub withPointer : Card → ℕ → Card

@@ -1,5 +1,5 @@
 -- Document 01, "Lines", its last sentence: the card as it powers up, with everything low and no cell edited.
-use Prim.Native.Nat.{ℕ}
+use Prim.Native.Nat.{ℕ, _-_}
 use mathlib.Core.Bool.{false}
 use mathlib.Core.List.{List, [], _++_}
 use lib.ListN.{replicate}
@@ -10,7 +10,7 @@ use Rattle.cells.specs.Work.{pulses}
 use Rattle.card.specs.declared.card.Connector.{Connector}
 use Rattle.card.specs.declared.card.Card.{Card}
 use Rattle.card.specs.declared.card.Memory.{Memory}
-use Rattle.card.specs.Address.{cellCount}
+use Rattle.card.specs.Address.{cellCount, cellRoom}
 
 -- all that a cell keeps between ticks, cleared
 abbrev pub clearState : State
@@ -33,8 +33,8 @@ abbrev pub noMemory : Memory
 noMemory = record { driven = 0; outputs = 0; outputs2 = 0; outputs3 = 0; levels = 0; levels2 = 0 }
 
 -- a card as it powers up with some settings: pointer 1, and nothing remembered
-abbrev pub started : ℕ → List Cell → List Connector → ℕ → Card
-started trigger cells connectors edited =
+abbrev pub started : ℕ → ℕ → List Cell → List Connector → ℕ → Card
+started size trigger cells connectors edited =
     record {
       pointer = 1;
       trigger = trigger;
@@ -42,11 +42,13 @@ started trigger cells connectors edited =
       connectors = connectors;
       edited = edited;
       memory = noMemory;
+      size = size;
     }
 
--- "pointer 1, cells constant 0, BNCs push-pull from 0, backplane inputs from 0, trigger 0"; "a fresh card has none edited": a card of n cells
+-- "pointer 1, cells constant 0, BNCs push-pull from 0, backplane inputs from 0, trigger 0"; "a fresh card has none edited": a card of n cells, with
+-- room behind them
 abbrev pub freshOf : ℕ → Card
-freshOf n = started 0 (replicate n freshCell) freshConnectors 0
+freshOf n = started n 0 (replicate n freshCell ++ replicate (cellRoom - n) freshCell) freshConnectors 0
 
 unfoldable pub fresh : Card
 fresh = freshOf cellCount

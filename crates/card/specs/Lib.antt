@@ -9,6 +9,7 @@ pub mod Change
 pub mod Presets
 pub mod Valid
 pub mod Examples
+pub mod Sizes
 -- Another view of a rule above, or what only proofs use: laws say that they agree.
 pub mod PresetRows
 pub mod Untouched

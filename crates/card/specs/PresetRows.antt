@@ -9,8 +9,8 @@ use lib.ListN.{getD}
 use Rattle.words.specs.Bits.{bitAt}
 use Rattle.words.specs.Listed.{listed}
 use Rattle.cells.specs.declared.cell.Cell.{Cell}
-use Rattle.card.specs.Address.{cellCount, connectorCount, firstCell, among}
-use Rattle.card.specs.Presets.{whole, presetCell, presetSource}
+use Rattle.card.specs.Address.{cellCount, cellRoom, connectorCount, firstCell, among}
+use Rattle.card.specs.Presets.{whole, largePreset, presetCell, presetSource}
 
 -- the rows of the two tables: no preset has a number past the first, and none past the second sets a cell
 abbrev pub sourceRows : ℕ
@@ -47,9 +47,13 @@ cellUnder a b i = cond (covers a i) (some (wiredCell (bitAt b 48) i (cond (eqb (
 -- every row of a table says what document 01 says of its preset
 unfoldable pub SourceRows : List ℕ → Type 0
 SourceRows rows =
-    listed (λ v. listed (sourceUnder (getD rows v 0)) connectorCount) sourceRows ≡ listed (λ v. listed (presetSource v) connectorCount) sourceRows
+    listed (λ v. listed (sourceUnder (getD rows v 0)) connectorCount) sourceRows ≡ listed (λ v. listed (presetSource cellCount v) connectorCount) sourceRows
+
+-- and the row of preset 51, which only a large card has
+unfoldable pub LargeRow : ℕ → Type 0
+LargeRow row = listed (sourceUnder row) connectorCount ≡ listed (presetSource cellRoom largePreset) connectorCount
 
 unfoldable pub CellRows : List ℕ → Type 0
 CellRows rows =
-    listed (λ v. listed (cellUnder (getD rows (2 * v) 0) (getD rows (2 * v + 1) 0)) cellCount) cellRows
-    ≡ listed (λ v. listed (presetCell v) cellCount) cellRows
+    listed (λ v. listed (cellUnder (getD rows (2 * v) 0) (getD rows (2 * v + 1) 0)) cellRoom) cellRows
+    ≡ listed (λ v. listed (presetCell v) cellRoom) cellRows

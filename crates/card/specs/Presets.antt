@@ -1,9 +1,9 @@
 -- Document 01, "Presets": what each preset sets, and the card after it.
 use Prim.Native.Nat.{ℕ, _+_}
-use mathlib.Core.Bool.{Bool, true, false, _||_, cond}
+use mathlib.Core.Bool.{Bool, true, false, _&&_, _||_, cond}
 use mathlib.Core.List.{List, [], _∷_, _++_, map}
 use mathlib.Core.Option.{Option, none, some, Option·getD}
-use lib.Dec.{eqb}
+use lib.Dec.{eqb, leb}
 use lib.ListN.{getD, drop}
 use Rattle.words.specs.Bits.{bitAt, wordOf}
 use Rattle.words.specs.Listed.{listed}
@@ -11,7 +11,7 @@ use Rattle.cells.specs.declared.cell.Cell.{Cell}
 use Rattle.cells.specs.State.{cellOf}
 use Rattle.card.specs.declared.card.Card.{Card}
 use Rattle.card.specs.declared.card.Connector.{Connector}
-use Rattle.card.specs.Address.{cellCount, connectorCount, firstCell}
+use Rattle.card.specs.Address.{cellCount, cellRoom, connectorCount, firstCell}
 use Rattle.card.specs.Connectors.{pushPull, noConnector}
 use Rattle.card.specs.Edits.{withSettings}
 use Rattle.card.specs.Fresh.{clearState, noCell}
@@ -167,10 +167,21 @@ sevenLasers =
     ∷ (59, 2 ∷ 6 ∷ [])
     ∷ []
 
--- all presets that are offered
+-- all presets that every card offers
 unfoldable pub presetTable : List Entry
 presetTable =
     cellPresets ++ (mixedPresets ++ (sourcePresets ++ (lasers (numbers 5 4) fourLasers ++ lasers (numbers 1 7) sevenLasers)))
+
+-- document 02, "Thirty-two cells": "preset 51 is offered", BNC1-8 from cells 17-24; it sets no cell
+abbrev pub largePreset : ℕ
+largePreset = 51
+
+abbrev pub largeSources : List (ℕ × ℕ)
+largeSources = along 1 8 17
+
+-- the number is that preset's, on a card that has those cells
+abbrev pub isLarge : (n v : ℕ) → Bool
+isLarge n v = leb cellRoom n && eqb v largePreset
 
 -- ---- what the table says of a preset
 
@@ -188,9 +199,9 @@ has (some a) = true
 unfoldable pub settingOf : ℕ → Option Setting
 settingOf v = find v presetTable
 
--- "Offered": the table has the number
-unfoldable pub offered : ℕ → Bool
-offered v = has (settingOf v)
+-- "Offered": the table has the number, or the card is large and it is 51
+unfoldable pub offered : (n v : ℕ) → Bool
+offered n v = isLarge n v || has (settingOf v)
 
 -- what it sets; a number that the table has not sets nothing
 abbrev pub cellsOf : Option Setting → List (ℕ × Cell)
@@ -205,12 +216,12 @@ sourcesOf (some s) = s .sources
 unfoldable pub presetCell : ℕ → ℕ → Option Cell
 presetCell v i = find (firstCell + i) (cellsOf (settingOf v))
 
-unfoldable pub presetSource : ℕ → ℕ → Option ℕ
-presetSource v k = find (1 + k) (sourcesOf (settingOf v))
+unfoldable pub presetSource : (n v k : ℕ) → Option ℕ
+presetSource n v k = find (1 + k) (cond (isLarge n v) largeSources (sourcesOf (settingOf v)))
 
 -- it makes BNC1 an output
-unfoldable pub setsFront : ℕ → Bool
-setsFront v = has (presetSource v 0)
+unfoldable pub setsFront : (n v : ℕ) → Bool
+setsFront n v = has (presetSource n v 0)
 
 -- ---- the card after a preset
 
@@ -223,8 +234,8 @@ sourced (some a) old = record { kind = pushPull; source = a }
 abbrev pub cellWithPreset : Card → ℕ → ℕ → Cell
 cellWithPreset c v i = Option·getD (presetCell v i) (getD (c .cells) i noCell)
 
-abbrev pub connectorWithPreset : Card → ℕ → ℕ → Connector
-connectorWithPreset c v k = sourced (presetSource v k) (getD (c .connectors) k noConnector)
+abbrev pub connectorWithPreset : ℕ → Card → ℕ → ℕ → Connector
+connectorWithPreset n c v k = sourced (presetSource n v k) (getD (c .connectors) k noConnector)
 
 -- a cell is edited by "a preset that sets it"
 abbrev pub editedWithPreset : Card → ℕ → ℕ → Bool
@@ -233,5 +244,5 @@ editedWithPreset c v i = bitAt (c .edited) i || has (presetCell v i)
 -- what the preset does not set stays; so does all else of the card
 unfoldable pub preset : ℕ → Card → ℕ → Card
 preset n c v =
-    withSettings c (c .trigger) (listed (cellWithPreset c v) n ++ drop n (c .cells)) (listed (connectorWithPreset c v) connectorCount)
+    withSettings c (c .trigger) (listed (cellWithPreset c v) n ++ drop n (c .cells)) (listed (connectorWithPreset n c v) connectorCount)
     (wordOf (editedWithPreset c v) n)

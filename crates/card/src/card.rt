@@ -1,5 +1,6 @@
 // What the card holds, by value.
 ghost use mathlib.Core.Path.{_≡_};
+ghost use Rattle.card.specs.Address.{cellsFor};
 ghost use Rattle.card.specs.Fresh;
 use crate::limits::CELLS;
 use crate::limits::CONNECTORS;
@@ -8,6 +9,8 @@ use crate::limits::EditedSet;
 use crate::limits::FIRST_CELL;
 use crate::limits::INPUT;
 use crate::limits::PUSH_PULL;
+use crate::limits::SMALL;
+use crate::place::cells_for;
 use cells::cell::Cell;
 use cells::cell::Pulses;
 
@@ -39,16 +42,18 @@ pub struct Card {
     pub memory: Memory,
     pub pointer: u8,
     pub trigger: u8,
+    pub size: u8,
 }
 
 // A card that powers up with settings: all else is fresh.
 pub fn started(
+    size: u8,
     trigger: u8,
     cells: [Cell; CELLS],
     connectors: [Connector; CONNECTORS],
     edited: EditedSet,
 ) -> Card
-    ensures { λ c. ⌜ c ≡ Fresh.started trigger cells connectors edited ⌝ }
+    ensures { λ c. ⌜ c ≡ Fresh.started size trigger cells connectors edited ⌝ }
 {
     let memory = Memory {
         driven: 0,
@@ -65,12 +70,13 @@ pub fn started(
         memory: memory,
         pointer: FIRST_CELL,
         trigger: trigger,
+        size: size,
     }
 }
 
-// A card as it first powers up.
-pub fn fresh() -> Card
-    ensures { λ c. ⌜ c ≡ Fresh.fresh ⌝ }
+// A card of a size as it first powers up.
+pub fn fresh_of(size: u8) -> Card
+    ensures { λ c. ⌜ c ≡ Fresh.freshOf (cellsFor size) ⌝ }
 {
     let cell = Cell {
         kind: 0,
@@ -106,5 +112,13 @@ pub fn fresh() -> Card
         back,
         back,
     ];
-    started(0, [cell; CELLS], connectors, 0)
+    let n = cells_for(size);
+    started(n, 0, [cell; CELLS], connectors, 0)
+}
+
+// A small card as it first powers up.
+pub fn fresh() -> Card
+    ensures { λ c. ⌜ c ≡ Fresh.fresh ⌝ }
+{
+    fresh_of(SMALL)
 }

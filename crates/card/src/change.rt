@@ -1,6 +1,6 @@
 // What an accepted line changes in the card, as a value: a command is judged by a small part of the card, and the card is changed in one place.
 ghost use mathlib.Core.Path.{_≡_};
-ghost use Rattle.card.specs.Address.{cellCount};
+ghost use Rattle.card.specs.Address.{cellsFor};
 ghost use Rattle.card.specs.Change.{changed};
 use crate::card::Card;
 use crate::edits;
@@ -36,7 +36,7 @@ pub enum Change {
 
 // The card with a change made.
 pub fn apply(card: Card, change: Change) -> Card
-    ensures { λ r. ⌜ r ≡ changed cellCount card change ⌝ }
+    ensures { λ r. ⌜ r ≡ changed (cellsFor (card .size)) card change ⌝ }
 {
     match change {
         Change::Nothing => card,

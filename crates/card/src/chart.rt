@@ -1,7 +1,11 @@
 // The chart of the addresses: what it says of each, as a constant table.
 ghost use mathlib.Core.Path.{_≡_};
-ghost use Rattle.card.specs.Address.{cellCount};
+ghost use mathlib.Core.Bool.{_&&_};
+ghost use lib.Dec.{eqb, ltb, leb};
+ghost use Rattle.card.specs.Address.{cellCount, cellRoom, cellsFor};
 ghost use Rattle.card.specs.Chart.{entryOf, entryIn, Charted};
+use crate::limits::LARGE;
+use crate::limits::SMALL;
 
 // What the chart says of an address.
 pub struct Entry {
@@ -296,10 +300,20 @@ fn entry_in(word: u32) -> Entry
     }
 }
 
-// The entry of an address.
-pub fn entry_of(chart: &Chart, a: u8) -> Entry
-    requires { ⌜ Charted (now chart) ⌝ }
-    ensures { λ e. ⌜ e ≡ entryOf cellCount a ⌝ }
+// Whether a base is one of the cells that only a large card has.
+fn is_upper(base: u8, size: u8) -> bool
+    ensures { λ q. ⌜ q ≡ (eqb size cellRoom && (ltb cellCount base && leb base cellRoom)) ⌝ }
 {
-    entry_in(chart[a as usize])
+    (size == LARGE) & ((SMALL < base) & (base <= LARGE))
+}
+
+// The entry of an address on a card of this size. The table is the small card's; on a large one the bases of its other cells are permitted too.
+pub fn entry_of(chart: &Chart, a: u8, size: u8) -> Entry
+    requires { ⌜ Charted (now chart) ⌝ }
+    ensures { λ e. ⌜ e ≡ entryOf (cellsFor size) a ⌝ }
+{
+    let mut e = entry_in(chart[a as usize]);
+    let more = is_upper(e.base, size);
+    e.permitted = e.permitted | more;
+    e
 }

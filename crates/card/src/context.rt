@@ -1,7 +1,7 @@
 // What a line goes by, and what its reads give: where the pointer stands and what is there, the trigger source, the words of the last tick.
 ghost use mathlib.Core.Path.{_≡_};
-ghost use Rattle.card.specs.Address.{cellCount};
-ghost use Rattle.card.specs.Context.{contextOf, typeRead, configShown, configRead, stateAs, stateRead, slotRead, frontRead, backRead};
+ghost use Rattle.card.specs.Address.{cellsFor};
+ghost use Rattle.card.specs.Context.{contextOf, typeRead, configShown, configRead, stateAs, stateRead, slotRead, frontRead, backRead, lowerRead, upperRead};
 ghost use Rattle.card.specs.Context.{drivesFront, presetDrives};
 use crate::card::Card;
 use crate::card::Connector;
@@ -34,10 +34,11 @@ pub struct Context {
     pub connector: Connector,
     pub levels: u16,
     pub outputs: CellWord,
+    pub size: u8,
 }
 
 pub fn context_of(card: Card) -> Context
-    ensures { λ r. ⌜ r ≡ contextOf cellCount card ⌝ }
+    ensures { λ r. ⌜ r ≡ contextOf (cellsFor (card .size)) card ⌝ }
 {
     let cell = current_cell(card);
     let connector = current_connector(card);
@@ -50,6 +51,7 @@ pub fn context_of(card: Card) -> Context
         connector: connector,
         levels: m.levels,
         outputs: m.outputs,
+        size: card.size,
     }
 }
 
@@ -137,6 +139,19 @@ pub fn read_back(x: Context) -> Value
     (x.levels / 256) as Value
 }
 
+// The cells 1 to 16, and 17 to 32.
+pub fn read_lower(x: Context) -> Value
+    ensures { λ v. ⌜ v ≡ lowerRead x ⌝ }
+{
+    x.outputs % 65536
+}
+
+pub fn read_upper(x: Context) -> Value
+    ensures { λ v. ⌜ v ≡ upperRead x ⌝ }
+{
+    x.outputs / 65536
+}
+
 // 13: the pointer stands at BNC1, and this type would make it an output while it brings the trigger.
 pub fn drives_front(x: Context, v: Number) -> bool
     ensures { λ q. ⌜ q ≡ drivesFront x v ⌝ }
@@ -146,7 +161,7 @@ pub fn drives_front(x: Context, v: Number) -> bool
 
 // 13: the preset makes BNC1 an output while it brings the trigger.
 pub fn preset_drives(x: Context, v: Number) -> bool
-    ensures { λ q. ⌜ q ≡ presetDrives x v ⌝ }
+    ensures { λ q. ⌜ q ≡ presetDrives (cellsFor (x .size)) x v ⌝ }
 {
-    sets_front(v) & (x.trigger == FRONT_TRIGGER)
+    sets_front(v, x.size) & (x.trigger == FRONT_TRIGGER)
 }

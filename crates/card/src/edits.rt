@@ -1,20 +1,21 @@
 // What an accepted line does to the card: one function for each effect.
 ghost use mathlib.Core.Path.{_≡_};
-ghost use Prim.Native.Nat.{_<_, _≤_};
-ghost use Rattle.card.specs.Address.{cellCount};
+ghost use Prim.Native.Nat.{_-_, _^_, _<_, _≤_};
+ghost use Rattle.card.specs.Address.{cellRoom, cellsFor};
 ghost use Rattle.card.specs.Edits;
 ghost use Rattle.card.specs.Edits.{atCell, currentCell, currentConnector, putCell, putConnector, setTrigger, configuredState, statedAs, wiredSlot, bitState, countState, recountedState, clearedCells};
 ghost use Rattle.card.specs.Edits.{setType, setConfig, setState, wiredSlots, setSlots, setConnectorType, setSource, blankSlot};
 use crate::card::Card;
 use crate::card::Connector;
-use crate::limits::ALL_EDITED;
 use crate::limits::CELLS;
 use crate::limits::EDGES;
+use crate::limits::EditedSet;
 use crate::limits::FIRST_CELL;
 use crate::limits::FIRST_CONNECTOR;
 use crate::limits::FRONT_TRIGGER;
 use crate::limits::INPUT;
 use crate::limits::Number;
+use crate::place::cells_for;
 use crate::place::is_cell;
 use crate::place::is_connector;
 use cells::cell::Cell;
@@ -36,17 +37,17 @@ const CLEAR: State = State {
 
 // Whether the pointer stands at a cell.
 pub fn at_cell(card: Card) -> bool
-    ensures { λ q. ⌜ q ≡ atCell cellCount card ⌝ }
+    ensures { λ q. ⌜ q ≡ atCell (cellsFor (card .size)) card ⌝ }
 {
-    is_cell(card.pointer as Number)
+    is_cell(card.pointer as Number, card.size)
 }
 
 // The cell at the pointer.
 pub fn current_cell(card: Card) -> Cell
-    ensures { λ r. ⌜ r ≡ currentCell cellCount card ⌝ }
+    ensures { λ r. ⌜ r ≡ currentCell (cellsFor (card .size)) card ⌝ }
 {
     let p = card.pointer;
-    if is_cell(p as Number) {
+    if is_cell(p as Number, card.size) {
         let at = (p - FIRST_CELL) as usize;
         card.cells[at]
     } else {
@@ -79,10 +80,10 @@ pub fn current_connector(card: Card) -> Connector
 
 // The cell at the pointer replaced, and edited.
 fn put_cell(card: Card, cell: Cell) -> Card
-    ensures { λ r. ⌜ r ≡ putCell cellCount card cell ⌝ }
+    ensures { λ r. ⌜ r ≡ putCell (cellsFor (card .size)) card cell ⌝ }
 {
     let p = card.pointer;
-    if is_cell(p as Number) {
+    if is_cell(p as Number, card.size) {
         let i = (p - FIRST_CELL) as u32;
         let at = i as usize;
         let mut next = card;
@@ -135,7 +136,7 @@ pub fn set_trigger(card: Card, t: u8) -> Card
 
 // The first n cells with their states cleared. A loop over all cells would be unrolled into every caller, and the card there copied field by field.
 fn cleared(cells: [Cell; CELLS], n: usize) -> [Cell; CELLS]
-    requires { ⌜ n ≤ cellCount ⌝ }
+    requires { ⌜ n ≤ cellRoom ⌝ }
     ensures { λ r. ⌜ r ≡ clearedCells n cells ⌝ }
 {
     if n == 0 {
@@ -152,14 +153,24 @@ fn cleared(cells: [Cell; CELLS], n: usize) -> [Cell; CELLS]
     next
 }
 
+// The set of the first n cells.
+pub fn all_edited(n: u8) -> EditedSet
+    requires { ⌜ n ≤ cellRoom ⌝ }
+    ensures { λ r. ⌜ r ≡ 2 ^ n - 1 ⌝ }
+{
+    let one: EditedSet = 1;
+    (one << (n as u32)) - 1
+}
+
 pub fn home(card: Card) -> Card
-    ensures { λ r. ⌜ r ≡ Edits.home cellCount card ⌝ }
+    ensures { λ r. ⌜ r ≡ Edits.home (cellsFor (card .size)) card ⌝ }
 {
     let cells = card.cells;
-    let after = cleared(cells, CELLS);
+    let n = cells_for(card.size);
+    let after = cleared(cells, n as usize);
     let mut next = card;
     next.cells = after;
-    next.edited = ALL_EDITED;
+    next.edited = all_edited(n);
     next
 }
 
@@ -192,7 +203,7 @@ fn typed(kind: u8) -> Cell
 }
 
 pub fn set_type(card: Card, kind: u8) -> Card
-    ensures { λ r. ⌜ r ≡ setType cellCount card kind ⌝ }
+    ensures { λ r. ⌜ r ≡ setType (cellsFor (card .size)) card kind ⌝ }
 {
     put_cell(card, typed(kind))
 }
@@ -210,7 +221,7 @@ fn configured_state(kept: Kept, s: State) -> State
 }
 
 pub fn set_config(card: Card, config: Config) -> Card
-    ensures { λ r. ⌜ r ≡ setConfig cellCount card config ⌝ }
+    ensures { λ r. ⌜ r ≡ setConfig (cellsFor (card .size)) card config ⌝ }
 {
     let cell = current_cell(card);
     let row = row_of(cell.kind);
@@ -262,7 +273,7 @@ fn stated_as(kept: Kept, s: State, v: Count) -> State
 }
 
 pub fn set_state(card: Card, v: Count) -> Card
-    ensures { λ r. ⌜ r ≡ setState cellCount card v ⌝ }
+    ensures { λ r. ⌜ r ≡ setState (cellsFor (card .size)) card v ⌝ }
 {
     let cell = current_cell(card);
     let row = row_of(cell.kind);
@@ -295,7 +306,7 @@ fn wired_slots(old: [u8; 4], given: Slots, edge: Slots, v: [u8; 4]) -> [u8; 4]
 }
 
 pub fn set_slots(card: Card, given: Slots, v: [u8; 4]) -> Card
-    ensures { λ r. ⌜ r ≡ setSlots cellCount card given v ⌝ }
+    ensures { λ r. ⌜ r ≡ setSlots (cellsFor (card .size)) card given v ⌝ }
 {
     let cell = current_cell(card);
     let row = row_of(cell.kind);

@@ -1,13 +1,15 @@
 // The limits of the card by name, in code as in definitions. They serve as array lengths too.
 
 // How many cells and connectors there are, the first place of each, and the place behind the last.
-pub const CELLS: usize = 16;
+pub const CELLS: usize = 32;
+
+pub const SMALL: u8 = 16;
+
+pub const LARGE: u8 = 32;
 
 pub const CONNECTORS: usize = 16;
 
 pub const FIRST_CELL: u8 = 1;
-
-pub const CELLS_END: u8 = FIRST_CELL + CELLS as u8;
 
 pub const FIRST_CONNECTOR: u8 = 33;
 
@@ -25,12 +27,10 @@ pub type Number = u64;
 pub const LARGEST_ADDRESS: Number = 255;
 
 // A word with a bit for each cell.
-pub type CellWord = u16;
+pub type CellWord = u32;
 
 // A set of edited cells, a bit for each, and the one with all of them. It has 64 bits, so that a card is aligned to 8 bytes and copied by whole words.
 pub type EditedSet = u64;
-
-pub const ALL_EDITED: EditedSet = 65535;
 
 // The types of a connector.
 pub const INPUT: u8 = 0;

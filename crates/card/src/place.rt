@@ -1,17 +1,28 @@
 // The places at which cells and connectors stand.
 ghost use mathlib.Core.Path.{_≡_};
-ghost use Rattle.card.specs.Address.{cellCount, connectorCount, firstCell, firstConnector, among};
-use crate::limits::CELLS_END;
+ghost use Prim.Native.Nat.{_≤_};
+ghost use Rattle.card.specs.Address.{cellRoom, cellsFor, connectorCount, firstCell, firstConnector, among};
 use crate::limits::CONNECTORS_END;
 use crate::limits::FIRST_CELL;
 use crate::limits::FIRST_CONNECTOR;
+use crate::limits::LARGE;
 use crate::limits::Number;
+use crate::limits::SMALL;
+
+// The number of cells of a card of this size.
+pub fn cells_for(size: u8) -> u8
+    ensures { λ n. ⌜ n ≡ cellsFor size ⌝ }
+    ensures { λ n. ⌜ n ≤ cellRoom ⌝ }
+{
+    if size == LARGE { LARGE } else { SMALL }
+}
 
 // The place of a cell.
-pub fn is_cell(p: Number) -> bool
-    ensures { λ q. ⌜ q ≡ among firstCell cellCount p ⌝ }
+pub fn is_cell(p: Number, size: u8) -> bool
+    ensures { λ q. ⌜ q ≡ among firstCell (cellsFor size) p ⌝ }
 {
-    (FIRST_CELL as Number <= p) & (p < CELLS_END as Number)
+    let n = cells_for(size);
+    (FIRST_CELL as Number <= p) & (p < FIRST_CELL as Number + n as Number)
 }
 
 // The place of a connector.

@@ -7,11 +7,11 @@ ghost use Prim.Native.Nat.{ℕ, _<_, _≤_};
 ghost use lib.ListN.{getD, drop};
 ghost use Rattle.words.specs.Bits.{bitAt, wordOf};
 ghost use Rattle.words.specs.Listed.{listed};
-ghost use Rattle.card.specs.Address.{cellCount, connectorCount};
+ghost use Rattle.card.specs.Address.{cellCount, cellRoom, cellsFor, connectorCount};
 ghost use Rattle.card.specs.Connectors.{noConnector};
 ghost use Rattle.card.specs.PresetRows;
-ghost use Rattle.card.specs.PresetRows.{rowByte, sourceUnder, wiredCell, cellUnder, SourceRows, CellRows};
-ghost use Rattle.card.specs.Presets.{offered, presetCell, presetSource, setsFront, sourced, preset};
+ghost use Rattle.card.specs.PresetRows.{rowByte, sourceUnder, wiredCell, cellUnder, SourceRows, LargeRow, CellRows};
+ghost use Rattle.card.specs.Presets.{offered, isLarge, presetCell, presetSource, setsFront, sourced, preset};
 ghost use Rattle.card.specs.Fresh.{noCell};
 use crate::card::Card;
 use crate::card::Connector;
@@ -19,8 +19,10 @@ use crate::limits::CELLS;
 use crate::limits::CONNECTORS;
 use crate::limits::EditedSet;
 use crate::limits::FIRST_CELL;
+use crate::limits::LARGE;
 use crate::limits::Number;
 use crate::limits::PUSH_PULL;
+use crate::place::cells_for;
 use cells::cell::Cell;
 use cells::cell::Config;
 use cells::cell::Pulses;
@@ -175,15 +177,23 @@ const SET_CELLS: [u64; 2 * CELL_ROWS] = [
     0x00_00_00_00_00_00_00_00,
 ];
 
-// A bit for each preset number that is offered.
+// The preset that only a large card has, and its row: the BNCs from cells 17 to 24.
+const LARGE_PRESET: Number = 51;
+
+const LARGE_SOURCES: u64 = 0xff_ff_11_00_01;
+
+// A bit for each preset number that every card offers.
 const OFFERED: u64 = 0x0ff7fff8fffebffd;
 
 // The two rows of a preset.
 pub struct CellRow(pub u64, pub u64);
 
-pub fn bad_preset(v: Number) -> bool
-    ensures { λ r. ⌜ r ≡ not (offered v) ⌝ }
+pub fn bad_preset(v: Number, size: u8) -> bool
+    ensures { λ r. ⌜ r ≡ not (offered (cellsFor size) v) ⌝ }
 {
+    if is_large(v, size) {
+        return false;
+    }
     if v < 64 {
         !words::bit(OFFERED, v as u32)
     } else {
@@ -191,10 +201,23 @@ pub fn bad_preset(v: Number) -> bool
     }
 }
 
+// Whether this is the preset of a large card, and this one.
+fn is_large(v: Number, size: u8) -> bool
+    ensures { λ r. ⌜ r ≡ isLarge (cellsFor size) v ⌝ }
+{
+    (size == LARGE) & (v == LARGE_PRESET)
+}
+
 fn source_rows() -> [u64; SOURCE_ROWS]
     ensures { λ r. ⌜ SourceRows r ⌝ }
 {
     SOURCES
+}
+
+fn large_row() -> u64
+    ensures { λ r. ⌜ LargeRow r ⌝ }
+{
+    LARGE_SOURCES
 }
 
 fn cell_rows() -> [u64; 2 * CELL_ROWS]
@@ -204,8 +227,17 @@ fn cell_rows() -> [u64; 2 * CELL_ROWS]
 }
 
 // A number past the table sources nothing.
-fn source_row(v: Number) -> u64
-    ensures { λ r. ⌜ ((k : ℕ) → k < connectorCount → sourceUnder r k ≡ presetSource v k) ⌝ }
+fn source_row(v: Number, size: u8) -> u64
+    ensures { λ r. ⌜ ((k : ℕ) → k < connectorCount → sourceUnder r k ≡ presetSource (cellsFor size) v k) ⌝ }
+{
+    if is_large(v, size) {
+        return large_row();
+    }
+    small_row(v)
+}
+
+fn small_row(v: Number) -> u64
+    ensures { λ r. ⌜ ((k : ℕ) → k < connectorCount → sourceUnder r k ≡ presetSource cellCount v k) ⌝ }
 {
     let rows = source_rows();
     let n = v as usize;
@@ -214,7 +246,7 @@ fn source_row(v: Number) -> u64
 
 // A number past the table sets no cell.
 fn cell_row(v: Number) -> CellRow
-    ensures { λ r. ⌜ ((i : ℕ) → i < cellCount → cellUnder (r .0) (r .1) i ≡ presetCell v i) ⌝ }
+    ensures { λ r. ⌜ ((i : ℕ) → i < cellRoom → cellUnder (r .0) (r .1) i ≡ presetCell v i) ⌝ }
 {
     let rows = cell_rows();
     let n = v as usize;
@@ -226,10 +258,10 @@ fn cell_row(v: Number) -> CellRow
 }
 
 // Whether BNC1 becomes an output, which it may not be while it brings the trigger.
-pub fn sets_front(v: Number) -> bool
-    ensures { λ r. ⌜ r ≡ setsFront v ⌝ }
+pub fn sets_front(v: Number, size: u8) -> bool
+    ensures { λ r. ⌜ r ≡ setsFront (cellsFor size) v ⌝ }
 {
-    words::bit(source_row(v), 32)
+    words::bit(source_row(v, size), 32)
 }
 
 fn byte(w: u64, i: u32) -> u8
@@ -300,7 +332,7 @@ fn wired_cell(step: bool, place: u8, w: u64) -> Cell
 
 // Whether a row sets the cell at index i.
 fn covers(row: u64, i: u32) -> bool
-    requires { ⌜ i < cellCount ⌝ }
+    requires { ⌜ i < cellRoom ⌝ }
     ensures { λ r. ⌜ r ≡ PresetRows.covers row i ⌝ }
 {
     let from = byte(row, 7) as u32;
@@ -311,7 +343,7 @@ fn covers(row: u64, i: u32) -> bool
 
 // The cell at index i under a row: set whole, or as it was.
 fn cell_under(row: CellRow, i: u32, old: Cell) -> Cell
-    requires { ⌜ i < cellCount ⌝ }
+    requires { ⌜ i < cellRoom ⌝ }
     ensures { λ r. ⌜ r ≡ Option·getD (cellUnder (row .0) (row .1) i) old ⌝ }
 {
     if covers(row.0, i) {
@@ -337,7 +369,7 @@ fn connectors_under(row: u64, connectors: [Connector; CONNECTORS]) -> [Connector
 
 // The first n cells under a row. By recursion, as `edits::cleared`.
 fn cells_under(row: CellRow, cells: [Cell; CELLS], n: u32) -> [Cell; CELLS]
-    requires { ⌜ n ≤ cellCount ⌝ }
+    requires { ⌜ n ≤ cellRoom ⌝ }
     ensures { λ r. ⌜ r ≡ listed (λ i. Option·getD (cellUnder (row .0) (row .1) i) (getD cells i noCell)) n ++ drop n cells ⌝ }
 {
     if n == 0 {
@@ -350,11 +382,12 @@ fn cells_under(row: CellRow, cells: [Cell; CELLS], n: u32) -> [Cell; CELLS]
     next
 }
 
-fn edited_under(row: u64, edited: EditedSet) -> EditedSet
-    ensures { λ r. ⌜ r ≡ wordOf (λ i. bitAt edited i || PresetRows.covers row i) cellCount ⌝ }
+fn edited_under(row: u64, edited: EditedSet, n: u32) -> EditedSet
+    requires { ⌜ n ≤ cellRoom ⌝ }
+    ensures { λ r. ⌜ r ≡ wordOf (λ i. bitAt edited i || PresetRows.covers row i) n ⌝ }
 {
     let mut next: EditedSet = 0;
-    for i in 0..CELLS as u32 {
+    for i in 0..n {
         let old = words::bit(edited, i);
         next = words::pushed(next, i, old | covers(row, i));
     }
@@ -363,16 +396,17 @@ fn edited_under(row: u64, edited: EditedSet) -> EditedSet
 
 // The card after a preset. A number that is not offered changes nothing.
 pub fn apply_preset(card: Card, v: Number) -> Card
-    ensures { λ r. ⌜ r ≡ preset cellCount card v ⌝ }
+    ensures { λ r. ⌜ r ≡ preset (cellsFor (card .size)) card v ⌝ }
 {
     let row = cell_row(v);
     let cells = card.cells;
     let connectors = card.connectors;
-    let set = cells_under(row, cells, CELLS as u32);
-    let routed = connectors_under(source_row(v), connectors);
+    let n = cells_for(card.size) as u32;
+    let set = cells_under(row, cells, n);
+    let routed = connectors_under(source_row(v, card.size), connectors);
     let mut next = card;
     next.cells = set;
     next.connectors = routed;
-    next.edited = edited_under(row.0, card.edited);
+    next.edited = edited_under(row.0, card.edited, n);
     next
 }

@@ -3,7 +3,7 @@ ghost use mathlib.Core.Path.{_≡_};
 ghost use Prim.Native.Nat.{_≤_};
 ghost use lib.ListN.{take};
 ghost use Rattle.cells.specs.Table.{slots};
-ghost use Rattle.card.specs.Address.{cellCount};
+ghost use Rattle.card.specs.Address.{cellRoom, cellsFor};
 ghost use Rattle.card.specs.Chart.{Charted};
 ghost use Rattle.card.specs.Valid.{badPlace, badCellType, badConnectorType, badClock, badConfig, unusedSlot, badAddress, frontDriven};
 ghost use Rattle.card.specs.Valid.{validSlot, validSlots, validCell, validConnector, every, valid, isCounted, noConfig, badStateAs, badState, noState};
@@ -19,6 +19,7 @@ use crate::limits::LARGEST_CLOCK;
 use crate::limits::Number;
 use crate::limits::OPEN_DRAIN;
 use crate::limits::PUSH_PULL;
+use crate::place::cells_for;
 use crate::place::is_cell;
 use crate::place::is_connector;
 use cells::cell::Cell;
@@ -30,10 +31,10 @@ use cells::table::row_of;
 use cells::work::LARGEST_COUNT;
 
 // 5: no place of a cell or a connector.
-pub fn bad_place(v: Number) -> bool
-    ensures { λ r. ⌜ r ≡ badPlace cellCount v ⌝ }
+pub fn bad_place(v: Number, size: u8) -> bool
+    ensures { λ r. ⌜ r ≡ badPlace (cellsFor size) v ⌝ }
 {
-    !(is_cell(v) | is_connector(v))
+    !(is_cell(v, size) | is_connector(v))
 }
 
 // 7: a type or a clock code that there is not.
@@ -73,33 +74,33 @@ pub fn unused_slot(kind: u8, given: Slots) -> bool
 }
 
 // 11: an address that is none, or reserved, by its entry.
-fn refused(chart: &Chart, a: Number) -> bool
+fn refused(chart: &Chart, a: Number, size: u8) -> bool
     requires { ⌜ Charted (now chart) ⌝ }
-    ensures { λ r. ⌜ r ≡ badAddress cellCount a ⌝ }
+    ensures { λ r. ⌜ r ≡ badAddress (cellsFor size) a ⌝ }
 {
     if LARGEST_ADDRESS < a {
         return true;
     }
-    let e = entry_of(chart, a as u8);
+    let e = entry_of(chart, a as u8, size);
     !e.permitted
 }
 
-pub fn bad_address(a: Number) -> bool
-    ensures { λ r. ⌜ r ≡ badAddress cellCount a ⌝ }
+pub fn bad_address(a: Number, size: u8) -> bool
+    ensures { λ r. ⌜ r ≡ badAddress (cellsFor size) a ⌝ }
 {
     let c = chart();
-    refused(&c, a)
+    refused(&c, a, size)
 }
 
 // The same of four addresses, for which the chart is made once.
-pub fn bad_addresses(x: Number, y: Number, z: Number, f: Number) -> Slots
-    ensures { λ r. ⌜ r ≡ slots (badAddress cellCount x) (badAddress cellCount y) (badAddress cellCount z) (badAddress cellCount f) ⌝ }
+pub fn bad_addresses(x: Number, y: Number, z: Number, f: Number, size: u8) -> Slots
+    ensures { λ r. ⌜ r ≡ slots (badAddress (cellsFor size) x) (badAddress (cellsFor size) y) (badAddress (cellsFor size) z) (badAddress (cellsFor size) f) ⌝ }
 {
     let c = chart();
-    let x = refused(&c, x);
-    let y = refused(&c, y);
-    let z = refused(&c, z);
-    let f = refused(&c, f);
+    let x = refused(&c, x, size);
+    let y = refused(&c, y, size);
+    let z = refused(&c, z, size);
+    let f = refused(&c, f, size);
     Slots { x, y, z, f }
 }
 
@@ -111,12 +112,12 @@ pub fn front_driven(trigger: u8, kind: Number) -> bool
 }
 
 // What a slot may hold. Here and below the chart is lent: it is made once for all settings.
-fn valid_slot(chart: &Chart, used: bool, edge: bool, a: u8) -> bool
+fn valid_slot(chart: &Chart, used: bool, edge: bool, a: u8, size: u8) -> bool
     requires { ⌜ Charted (now chart) ⌝ }
-    ensures { λ r. ⌜ r ≡ validSlot cellCount used edge a ⌝ }
+    ensures { λ r. ⌜ r ≡ validSlot (cellsFor size) used edge a ⌝ }
 {
     if used {
-        let e = entry_of(chart, a);
+        let e = entry_of(chart, a, size);
         e.permitted & (!edge | e.edge)
     } else {
         a == 0
@@ -124,61 +125,61 @@ fn valid_slot(chart: &Chart, used: bool, edge: bool, a: u8) -> bool
 }
 
 // What the four slots of a type may hold. There are four, since the array has that length.
-fn valid_slots(chart: &Chart, row: Row, s: [u8; 4]) -> bool
+fn valid_slots(chart: &Chart, row: Row, s: [u8; 4], size: u8) -> bool
     requires { ⌜ Charted (now chart) ⌝ }
-    ensures { λ r. ⌜ r ≡ validSlots cellCount row s ⌝ }
+    ensures { λ r. ⌜ r ≡ validSlots (cellsFor size) row s ⌝ }
 {
     let used = row.used;
     let edge = row.edge;
-    let x = valid_slot(chart, used.x, edge.x, s[0]);
-    let y = valid_slot(chart, used.y, edge.y, s[1]);
-    let z = valid_slot(chart, used.z, edge.z, s[2]);
-    let f = valid_slot(chart, used.f, edge.f, s[3]);
+    let x = valid_slot(chart, used.x, edge.x, s[0], size);
+    let y = valid_slot(chart, used.y, edge.y, s[1], size);
+    let z = valid_slot(chart, used.z, edge.z, s[2], size);
+    let f = valid_slot(chart, used.f, edge.f, s[3], size);
     (x & y) & (z & f)
 }
 
 // The settings that a cell may have.
-fn valid_cell(chart: &Chart, cell: Cell) -> bool
+fn valid_cell(chart: &Chart, cell: Cell, size: u8) -> bool
     requires { ⌜ Charted (now chart) ⌝ }
-    ensures { λ r. ⌜ r ≡ validCell cellCount cell ⌝ }
+    ensures { λ r. ⌜ r ≡ validCell (cellsFor size) cell ⌝ }
 {
     let row = row_of(cell.kind);
     let slots = cell.slots;
     let kind = cell.kind as Number;
-    (!bad_cell_type(kind) & (cell.config <= row.largest)) & valid_slots(chart, row, slots)
+    (!bad_cell_type(kind) & (cell.config <= row.largest)) & valid_slots(chart, row, slots, size)
 }
 
 // The settings that a connector may have.
-fn valid_connector(chart: &Chart, c: Connector) -> bool
+fn valid_connector(chart: &Chart, c: Connector, size: u8) -> bool
     requires { ⌜ Charted (now chart) ⌝ }
-    ensures { λ r. ⌜ r ≡ validConnector cellCount c ⌝ }
+    ensures { λ r. ⌜ r ≡ validConnector (cellsFor size) c ⌝ }
 {
-    let e = entry_of(chart, c.source);
+    let e = entry_of(chart, c.source, size);
     !bad_connector_type(c.kind as Number) & e.permitted
 }
 
 // Each of the first n cells may have its settings. By recursion, as `edits::cleared`.
-fn valid_cells(chart: &Chart, cells: [Cell; CELLS], n: usize) -> bool
+fn valid_cells(chart: &Chart, cells: [Cell; CELLS], n: usize, size: u8) -> bool
     requires { ⌜ Charted (now chart) ⌝ }
-    requires { ⌜ n ≤ cellCount ⌝ }
-    ensures { λ r. ⌜ r ≡ every (validCell cellCount) (take n cells) ⌝ }
+    requires { ⌜ n ≤ cellRoom ⌝ }
+    ensures { λ r. ⌜ r ≡ every (validCell (cellsFor size)) (take n cells) ⌝ }
 {
     if n == 0 {
         return true;
     }
     let i = n - 1;
-    let below = valid_cells(chart, cells, i);
-    below & valid_cell(chart, cells[i])
+    let below = valid_cells(chart, cells, i, size);
+    below & valid_cell(chart, cells[i], size)
 }
 
 // So may every connector.
-fn valid_connectors(chart: &Chart, connectors: [Connector; CONNECTORS]) -> bool
+fn valid_connectors(chart: &Chart, connectors: [Connector; CONNECTORS], size: u8) -> bool
     requires { ⌜ Charted (now chart) ⌝ }
-    ensures { λ r. ⌜ r ≡ every (validConnector cellCount) connectors ⌝ }
+    ensures { λ r. ⌜ r ≡ every (validConnector (cellsFor size)) connectors ⌝ }
 {
     let mut ok = true;
     for k in 0..CONNECTORS {
-        let v = valid_connector(chart, connectors[k]);
+        let v = valid_connector(chart, connectors[k], size);
         ok = ok & v;
     }
     ok
@@ -189,13 +190,15 @@ pub fn valid_settings(
     trigger: u8,
     cells: [Cell; CELLS],
     connectors: [Connector; CONNECTORS],
+    size: u8,
 ) -> bool
-    ensures { λ r. ⌜ r ≡ valid cellCount trigger cells connectors ⌝ }
+    ensures { λ r. ⌜ r ≡ valid (cellsFor size) trigger cells connectors ⌝ }
 {
     let front = connectors[0];
     let clock = !bad_clock(trigger as Number) & !front_driven(trigger, front.kind as Number);
+    let n = cells_for(size);
     let c = chart();
-    clock & (valid_cells(&c, cells, CELLS) & valid_connectors(&c, connectors))
+    clock & (valid_cells(&c, cells, n as usize, size) & valid_connectors(&c, connectors, size))
 }
 
 // A counter: its count is read where other types have a configuration.

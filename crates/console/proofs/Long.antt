@@ -21,7 +21,7 @@ long-line n c t store h =
 
 pub entered-long : (n : ℕ) (c : Card) (t u store : List ℕ) → longestLine < length t → longestLine < length u → entered n c t store ≡ entered n c u store
 entered-long n c t u store ht hu =
-    let same = parse-long t ht ∙ sym (parse-long u hu) in
+    let same = parse-long n t ht ∙ sym (parse-long n u hu) in
     let outcome = outcome-same n c t u same shortestReply (length store) in
     let saved = store-same n c t u same shortestReply store in
     let reply = reply-same n c t u same shortestReply (length store) in

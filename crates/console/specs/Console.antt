@@ -1,12 +1,14 @@
 -- Document 01, "One run": what one line of input does to the card, the store and the output. Bytes are written as numbers.
 use Prim.Native.Nat.{ℕ, _-_}
+use mathlib.Core.Path.{_≡_, refl}
 use mathlib.Core.Bool.{Bool, true, false, _&&_, _||_, cond}
 use mathlib.Core.List.{List, [], _∷_, _++_}
-use lib.Dec.{eqb}
+use lib.Dec.{eqb, leb}
 use lib.ListN.{length, getD, take}
 use Rattle.text.specs.Decimal.{isDigit, decimal}
-use Rattle.text.specs.Hex.{hex4, hexAt}
+use Rattle.text.specs.Hex.{hexDigits, hex4, hexAt}
 use Rattle.card.specs.declared.card.Card.{Card}
+use Rattle.card.specs.Address.{cellCount, cellRoom}
 use Rattle.ticks.specs.declared.tick.Answer.{Answer}
 use Rattle.ticks.specs.declared.tick.Ticked.{Ticked}
 use Rattle.ticks.specs.Tick.{tick}
@@ -44,14 +46,26 @@ tickLine t =
 abbrev pub word : ℕ → List ℕ
 word w = hex4 w ++ (32 ∷ [])
 
-abbrev pub ranText : Answer → List ℕ
-ranText a = (84 ∷ 32 ∷ []) ++ (word (a .driven) ++ (word (a .cells) ++ (word (a .woken) ++ (decimal (a .count) ++ (10 ∷ [])))))
+-- document 02, "Thirty-two cells": "Cell word and woken set are 32 bits there", eight digits
+unfoldable pub cellDigits : ℕ → ℕ → List ℕ
+cellDigits n w = cond (leb cellRoom n) (hexDigits 8 w) (hex4 w)
+
+-- of sixteen cells as before: four
+digits-before : (w : ℕ) → cellDigits cellCount w ≡ hex4 w
+unfolding cellDigits
+digits-before w = refl
+
+abbrev pub cellWord : ℕ → ℕ → List ℕ
+cellWord n w = cellDigits n w ++ (32 ∷ [])
+
+abbrev pub ranText : ℕ → Answer → List ℕ
+ranText n a = (84 ∷ 32 ∷ []) ++ (word (a .driven) ++ (cellWord n (a .cells) ++ (cellWord n (a .woken) ++ (decimal (a .count) ++ (10 ∷ [])))))
 
 abbrev pub idleText : List ℕ
 idleText = 84 ∷ 32 ∷ 45 ∷ 10 ∷ []
 
-unfoldable pub tickText : Answer → List ℕ
-tickText a = cond (a .ran) (ranText a) idleText
+unfoldable pub tickText : ℕ → Answer → List ℕ
+tickText n a = cond (a .ran) (ranText n a) idleText
 
 -- ---- a load
 
@@ -72,7 +86,7 @@ plainReply r = take (length r - 2) r ++ (10 ∷ [])
 
 -- the room that a line asks for; nothing printed is longer
 abbrev pub longestPrint : ℕ
-longestPrint = 32
+longestPrint = 36
 
 abbrev pub ticked : ℕ → Card → List ℕ → Ticked
 ticked n c t = tick n (tickLine t .full) c (tickLine t .input)
@@ -84,7 +98,7 @@ pub record Entry : Type 0 where
   pub printed : List ℕ
 
 abbrev pub byTick : ℕ → Card → List ℕ → List ℕ → Entry
-byTick n c t store = record { card = ticked n c t .card; store = store; printed = tickText (ticked n c t .answer) }
+byTick n c t store = record { card = ticked n c t .card; store = store; printed = tickText n (ticked n c t .answer) }
 
 abbrev pub byLoad : ℕ → Card → List ℕ → Entry
 byLoad n c store = record { card = loaded n c store; store = store; printed = loadText (loadNumber n store) }

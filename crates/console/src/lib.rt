@@ -1,16 +1,17 @@
 // One line of input of a run: a tick, a load or a card line, and what it prints.
 ghost use mathlib.Core.List.{_++_};
 ghost use mathlib.Core.Path.{_≡_};
-ghost use Prim.Native.Nat.{_≤_, _<_, _+_, _-_, _^_};
+ghost use Prim.Native.Nat.{_≤_, _<_, _+_, _-_};
 ghost use lib.ListN.{length};
 ghost use lib.Seq.{sets};
-ghost use Rattle.text.specs.Decimal.{maxDigits};
 ghost use Rattle.text.specs.Hex.{hex4};
-ghost use Rattle.card.specs.Address.{cellCount};
+ghost use Rattle.card.specs.Address.{cellsFor};
 ghost use Rattle.ticks.specs.Tick.{tick};
 ghost use Rattle.lines.specs.Line.{shortestReply};
-ghost use Rattle.console.specs.Console.{tickLine, tickText, isLoadLine, loadText, plainReply, longestPrint, byLine, entered};
+ghost use Rattle.console.specs.Console.{tickLine, cellDigits, tickText, isLoadLine, loadText, plainReply, longestPrint, byLine, entered};
 use card::card::Card;
+use card::limits::CellWord;
+use card::limits::LARGE;
 use lines::line::SHORTEST_REPLY;
 use ticks::tick::Answer;
 use ticks::tick::Input;
@@ -80,12 +81,26 @@ fn put_word(out: &mut [u8], at: usize, w: u16, byte: &[u8]) -> usize
     text::copy(out, end, byte)
 }
 
-// What a tick prints.
-fn put_tick(out: &mut [u8], a: Answer) -> usize
+// A word of the cells: eight digits of a large card, else four.
+fn put_cells(out: &mut [u8], at: usize, w: CellWord, size: u8, byte: &[u8]) -> usize
+    requires { ⌜ at + 9 ≤ length (now out) ⌝ }
+    requires { ⌜ length (now byte) ≡ 1 ⌝ }
+    ensures { λ r. ⌜ (now (out .exit) ≡ sets (now (out .entry)) at (cellDigits (cellsFor size) w ++ now (byte .entry))) × (r ≡ at + length (cellDigits (cellsFor size) w ++ now (byte .entry))) ⌝ }
+    ensures { λ r. ⌜ r ≤ at + 9 ⌝ }
+{
+    if size == LARGE {
+        let next = text::put_hex4(out, at, (w / 65536) as u16);
+        return put_word(out, next, (w % 65536) as u16, byte);
+    }
+    put_word(out, at, (w % 65536) as u16, byte)
+}
+
+// What a tick of a card of this size prints.
+fn put_tick(out: &mut [u8], a: Answer, size: u8) -> usize
     requires { ⌜ longestPrint ≤ length (now out) ⌝ }
-    requires { ⌜ a .count < 10 ^ maxDigits ⌝ }
-    ensures { λ _. ⌜ now (out .exit) ≡ sets (now (out .entry)) 0 (tickText a) ⌝ }
-    ensures { λ r. ⌜ r ≡ length (tickText a) ⌝ }
+    requires { ⌜ a .count < 100 ⌝ }
+    ensures { λ _. ⌜ now (out .exit) ≡ sets (now (out .entry)) 0 (tickText (cellsFor size) a) ⌝ }
+    ensures { λ r. ⌜ r ≡ length (tickText (cellsFor size) a) ⌝ }
     ensures { λ r. ⌜ r ≤ longestPrint ⌝ }
 {
     if !a.ran {
@@ -93,8 +108,8 @@ fn put_tick(out: &mut [u8], a: Answer) -> usize
     }
     let driven = text::copy(out, 0, b"T ");
     let cells = put_word(out, driven, a.driven, b" ");
-    let woken = put_word(out, cells, a.cells, b" ");
-    let count = put_word(out, woken, a.woken, b" ");
+    let woken = put_cells(out, cells, a.cells, size, b" ");
+    let count = put_cells(out, woken, a.woken, size, b" ");
     let end = text::put_decimal(out, count, a.count);
     text::copy(out, end, b"\n")
 }
@@ -144,7 +159,7 @@ pub fn is_load(text: &[u8]) -> bool
 
 // The tick that a line asks for.
 pub fn do_tick(card: Card, t: TickLine) -> Ticked
-    ensures { λ r. ⌜ (r ≡ tick cellCount (t .full) card (t .input)) × (r .answer .count < 10 ^ maxDigits) ⌝ }
+    ensures { λ r. ⌜ (r ≡ tick (cellsFor (card .size)) (t .full) card (t .input)) × (r .answer .count < 100) ⌝ }
 {
     let input = t.input;
     if t.full {
@@ -157,10 +172,10 @@ pub fn do_tick(card: Card, t: TickLine) -> Ticked
 // A card line, with its reply in the place of the output.
 fn enter_line(card: Card, text: &[u8], store: &mut [u8], out: &mut [u8]) -> Entered
     requires { ⌜ longestPrint ≤ length (now out) ⌝ }
-    ensures { λ r. ⌜ r .card ≡ byLine cellCount card (now (text .entry)) (now (store .entry)) .card ⌝ }
-    ensures { λ r. ⌜ now (store .exit) ≡ byLine cellCount card (now (text .entry)) (now (store .entry)) .store ⌝ }
-    ensures { λ r. ⌜ now (out .exit) ≡ sets (now (out .entry)) 0 (byLine cellCount card (now (text .entry)) (now (store .entry)) .printed) ⌝ }
-    ensures { λ r. ⌜ r .len ≡ length (byLine cellCount card (now (text .entry)) (now (store .entry)) .printed) ⌝ }
+    ensures { λ r. ⌜ r .card ≡ byLine (cellsFor (card .size)) card (now (text .entry)) (now (store .entry)) .card ⌝ }
+    ensures { λ r. ⌜ now (store .exit) ≡ byLine (cellsFor (card .size)) card (now (text .entry)) (now (store .entry)) .store ⌝ }
+    ensures { λ r. ⌜ now (out .exit) ≡ sets (now (out .entry)) 0 (byLine (cellsFor (card .size)) card (now (text .entry)) (now (store .entry)) .printed) ⌝ }
+    ensures { λ r. ⌜ r .len ≡ length (byLine (cellsFor (card .size)) card (now (text .entry)) (now (store .entry)) .printed) ⌝ }
     ensures { λ r. ⌜ r .len ≤ longestPrint ⌝ }
 {
     let mut reply = [0u8; SHORTEST_REPLY];
@@ -178,10 +193,10 @@ fn enter_line(card: Card, text: &[u8], store: &mut [u8], out: &mut [u8]) -> Ente
 // the longest print, and `len` says how many bytes that is.
 pub fn enter(card: Card, text: &[u8], store: &mut [u8], out: &mut [u8]) -> Entered
     requires { ⌜ longestPrint ≤ length (now out) ⌝ }
-    ensures { λ r. ⌜ r .card ≡ entered cellCount card (now (text .entry)) (now (store .entry)) .card ⌝ }
-    ensures { λ r. ⌜ now (store .exit) ≡ entered cellCount card (now (text .entry)) (now (store .entry)) .store ⌝ }
-    ensures { λ r. ⌜ now (out .exit) ≡ sets (now (out .entry)) 0 (entered cellCount card (now (text .entry)) (now (store .entry)) .printed) ⌝ }
-    ensures { λ r. ⌜ r .len ≡ length (entered cellCount card (now (text .entry)) (now (store .entry)) .printed) ⌝ }
+    ensures { λ r. ⌜ r .card ≡ entered (cellsFor (card .size)) card (now (text .entry)) (now (store .entry)) .card ⌝ }
+    ensures { λ r. ⌜ now (store .exit) ≡ entered (cellsFor (card .size)) card (now (text .entry)) (now (store .entry)) .store ⌝ }
+    ensures { λ r. ⌜ now (out .exit) ≡ sets (now (out .entry)) 0 (entered (cellsFor (card .size)) card (now (text .entry)) (now (store .entry)) .printed) ⌝ }
+    ensures { λ r. ⌜ r .len ≡ length (entered (cellsFor (card .size)) card (now (text .entry)) (now (store .entry)) .printed) ⌝ }
     ensures { λ r. ⌜ r .len ≤ longestPrint ⌝ }
 {
     let t = tick_line(text);
@@ -189,7 +204,7 @@ pub fn enter(card: Card, text: &[u8], store: &mut [u8], out: &mut [u8]) -> Enter
         let done = do_tick(card, t);
         let answer = done.answer;
         let next = done.card;
-        let len = put_tick(out, answer);
+        let len = put_tick(out, answer, card.size);
         return Entered {
             card: next,
             len: len,

@@ -9,36 +9,47 @@ use lib.Dec.{eqb, lit≤}
 use lib.ListN.{length}
 use lib.Seq.{sets}
 use borrow.Author.Tests.{eqb-true, eqb-false}
-use Rattle.saved.specs.Record.{configWidth, narrowWidth, cellLength, recordLength, loadNumber}
-use Rattle.convert.specs.Convert.{otherWidth, otherLength, shortFor, tooLong, convertNumber, otherForm, convertLength, convertedTo}
+use Rattle.saved.specs.Record.{configWidth, narrowWidth, cellLength, recordLength}
+use Rattle.convert.specs.Convert.{otherWidth, otherLength, shortFor, loaderNumber, tooLong, aboveSmall, convertNumber, otherForm, convertLength}
+use Rattle.convert.specs.Convert.{convertedTo}
 
--- the number by its four tests
-abbrev pub byTests : (length short : Bool) (load : ℕ) (long : Bool) → ℕ
-byTests l s k t = cond l 14 (cond s 1 (cond (eqb k 0) (cond t 17 0) k))
+-- the number by its five tests
+abbrev pub byTests : (length short : Bool) (load : ℕ) (long above : Bool) → ℕ
+byTests l s k t a = cond l 14 (cond s 1 (cond (eqb k 0) (cond t 17 (cond a 18 0)) k))
 
-pub number-is : (n room : ℕ) (bytes : List ℕ) (l s t : Bool) (k : ℕ) → otherLength n bytes ≡ l → shortFor n room bytes ≡ s → loadNumber n bytes ≡ k
-    → tooLong n bytes ≡ t → convertNumber n room bytes ≡ byTests l s k t
+pub number-is : (n room : ℕ) (bytes : List ℕ) (l s t a : Bool) (k : ℕ) → otherLength n bytes ≡ l → shortFor n room bytes ≡ s → loaderNumber n bytes ≡ k
+    → tooLong n bytes ≡ t → aboveSmall n bytes ≡ a → convertNumber n room bytes ≡ byTests l s k t a
 unfolding convertNumber
-number-is n room bytes l s t k el es ek et = λ i. byTests (el i) (es i) (ek i) (et i)
+number-is n room bytes l s t a k el es ek et ea = λ i. byTests (el i) (es i) (ek i) (et i) (ea i)
 
 -- that of the loader, where it has one
-pub number-loader : (n room : ℕ) (bytes : List ℕ) (k : ℕ) → otherLength n bytes ≡ false → shortFor n room bytes ≡ false → loadNumber n bytes ≡ k
+pub number-loader : (n room : ℕ) (bytes : List ℕ) (k : ℕ) → otherLength n bytes ≡ false → shortFor n room bytes ≡ false → loaderNumber n bytes ≡ k
     → eqb k 0 ≡ false → convertNumber n room bytes ≡ k
 number-loader n room bytes k el es ek other =
-    number-is n room bytes false false (tooLong n bytes) k el es ek refl ∙ ap (λ (z : Bool). cond z (cond (tooLong n bytes) 17 0) k) other
+    let t = tooLong n bytes in
+    let a = aboveSmall n bytes in
+    number-is n room bytes false false t a k el es ek refl refl ∙ ap (λ (z : Bool). cond z (cond t 17 (cond a 18 0)) k) other
 
 -- it is 0 where no test says no
-pub none-applies : (l s t : Bool) (k : ℕ) → byTests l s k t ≡ 0 → (l ≡ false) × (s ≡ false) × (k ≡ 0) × (t ≡ false)
-none-applies true s t k e = absurd (omega arith)
-none-applies false true t k e = absurd (omega arith)
-none-applies false false t k e = go (eqb k 0) refl e
-  where
-    last : (t : Bool) → _≡_ {A = ℕ} (cond t 17 0) 0 → t ≡ false
-    last true e = absurd (omega arith)
-    last false e = refl
+pub record Passed (l s : Bool) (k : ℕ) (t a : Bool) : Type 0 where
+  pub known : l ≡ false
+  pub roomy : s ≡ false
+  pub loads : k ≡ 0
+  pub short : t ≡ false
+  pub below : a ≡ false
 
-    go : (z : Bool) → eqb k 0 ≡ z → cond z (cond t 17 0) k ≡ 0 → (false ≡ false) × (false ≡ false) × (k ≡ 0) × (t ≡ false)
-    go true ez e = (refl, refl, eqb-true k 0 ez, last t e)
+pub none-applies : (l s t a : Bool) (k : ℕ) → byTests l s k t a ≡ 0 → Passed l s k t a
+none-applies true s t a k e = absurd (omega arith)
+none-applies false true t a k e = absurd (omega arith)
+none-applies false false t a k e = go (eqb k 0) refl e
+  where
+    last : (t a : Bool) → eqb k 0 ≡ true → _≡_ {A = ℕ} (cond t 17 (cond a 18 0)) 0 → Passed false false k t a
+    last true a ez e = absurd (omega arith)
+    last false true ez e = absurd (omega arith)
+    last false false ez e = record { known = refl; roomy = refl; loads = eqb-true k 0 ez; short = refl; below = refl }
+
+    go : (z : Bool) → eqb k 0 ≡ z → cond z (cond t 17 (cond a 18 0)) k ≡ 0 → Passed false false k t a
+    go true ez e = last t a ez e
     go false ez e = absurd (eqb-false k 0 ez e)
 
 -- what a refusal gives, and what a conversion

@@ -1,5 +1,5 @@
--- Document 02, "Records for cards already at sea", as one table by computation: the record of saved/specs/RecordExamples, and what is given for it both
--- ways, where bytes of it are others, and where the buffer is short.
+-- Document 02, "Records for cards already at sea" and "Thirty-two cells", as tables by computation: the records of saved/specs/RecordExamples, and what
+-- is given for them each way, where bytes of them are others, and where the buffer is short.
 use Prim.Native.Nat.{ℕ}
 use mathlib.Core.Path.{_≡_, refl}
 use mathlib.Core.List.{List, [], _∷_, _++_, map}
@@ -11,8 +11,8 @@ use Rattle.card.specs.Valid.{permittedBase, badClock, frontDriven, badCellType,
 use Rattle.card.specs.Valid.{validConnector, every, valid}
 use Rattle.saved.specs.Record.{bigEndian, cellField, connectorField, fieldsFrom, encode, bigValue, cellIn, connectorIn, normalCell, sameBytes, loadNumberAs}
 use Rattle.saved.specs.Record.{loadNumber, normalRecord}
-use Rattle.saved.specs.RecordExamples.{whole, part, oldCell, old, changed}
-use Rattle.convert.specs.Convert.{narrowCell, tooLong, convertNumber, otherForm, convertLength, convertedTo}
+use Rattle.saved.specs.RecordExamples.{whole, part, oldCell, old, changed, constantField, large, oldLarge}
+use Rattle.convert.specs.Convert.{narrowCell, tooLong, isBlank, readsAbove, slotsBelow, sourceBelow, aboveSmall, convertNumber, otherForm, convertLength, convertedTo}
 
 -- `whole` has durations 4294967295 and 70000 and the constant 258. With durations that two bytes hold it has the settings of `old`, 276 bytes
 fitting : List ℕ
@@ -24,6 +24,10 @@ fittingOne = changed ((11, 0) ∷ (12, 1) ∷ []) fitting
 
 oldOne : List ℕ
 oldOne = changed ((9, 0) ∷ (10, 1) ∷ []) old
+
+-- the settings of `fitting` in the record of a large card, where the cells above 16 are constant 0
+fittingLarge : List ℕ
+fittingLarge = changed ((113, 0) ∷ (114, 0) ∷ (126, 0) ∷ (127, 0) ∷ []) large
 
 -- k and the length of the result, for a buffer of this length
 number : ℕ → List ℕ → List ℕ
@@ -93,9 +97,99 @@ abbrev Agree : List (List ℕ × List ℕ) → Type 0
 Agree rows = map (λ (e : List ℕ × List ℕ). e .0) rows ≡ map (λ (e : List ℕ × List ℕ). e .1) rows
 
 examples : Agree table
-unfolding fitting fittingOne oldOne number result whole part oldCell old changed listed rowOf permittedBase badClock frontDriven badCellType badConnectorType badAddress validSlot validSlots validCell validConnector every valid bigEndian cellField connectorField fieldsFrom encode bigValue cellIn normalCell connectorIn sameBytes loadNumberAs loadNumber normalRecord narrowCell tooLong convertNumber otherForm convertLength convertedTo
+unfolding fitting fittingOne oldOne number result whole part oldCell old changed listed rowOf permittedBase badClock frontDriven badCellType badConnectorType badAddress validSlot validSlots validCell validConnector every valid bigEndian cellField connectorField fieldsFrom encode bigValue cellIn normalCell connectorIn sameBytes loadNumberAs loadNumber normalRecord narrowCell tooLong isBlank readsAbove slotsBelow sourceBelow aboveSmall convertNumber otherForm convertLength convertedTo
 examples = refl
 
 number-examples : Agree numbers
-unfolding fitting fittingOne oldOne number result whole part oldCell old changed listed rowOf permittedBase badClock frontDriven badCellType badConnectorType badAddress validSlot validSlots validCell validConnector every valid bigEndian cellField connectorField fieldsFrom encode bigValue cellIn normalCell connectorIn sameBytes loadNumberAs loadNumber normalRecord narrowCell tooLong convertNumber otherForm convertLength convertedTo
+unfolding fitting fittingOne oldOne number result whole part oldCell old changed listed rowOf permittedBase badClock frontDriven badCellType badConnectorType badAddress validSlot validSlots validCell validConnector every valid bigEndian cellField connectorField fieldsFrom encode bigValue cellIn normalCell connectorIn sameBytes loadNumberAs loadNumber normalRecord narrowCell tooLong isBlank readsAbove slotsBelow sourceBelow aboveSmall convertNumber otherForm convertLength convertedTo
 number-examples = refl
+
+-- ---- "The converter of ticket 8 takes the longer record where the small card can hold it"
+
+-- a record of 516 bytes with other bytes at some places
+above : List (ℕ × ℕ) → List ℕ
+above changes = number 276 (changed changes fittingLarge)
+
+-- 516 bytes to 276, the constant 258 as 1; "its way back still gives 308 bytes"
+abbrev largeForms : List (List ℕ × List ℕ)
+largeForms =
+    (number 276 fittingLarge, 0 ∷ [])
+    ∷ (otherForm cellCount fittingLarge, oldOne)
+    ∷ (convertedTo cellCount fittingLarge (replicate 279 7), oldOne ++ (7 ∷ 7 ∷ 7 ∷ []))
+    ∷ (otherForm cellCount (otherForm cellCount fittingLarge), fittingOne)
+    -- 14, whatever the buffer: another length, also that of the old form of 32 cells
+    ∷ (number 0 (take 515 large), 14 ∷ [])
+    ∷ (number 600 (large ++ (0 ∷ [])), 14 ∷ [])
+    ∷ (number 600 oldLarge, 14 ∷ [])
+    -- 1, before the record is looked at
+    ∷ (number 275 fittingLarge, 1 ∷ [])
+    ∷ (number 0 (replicate 516 0), 1 ∷ [])
+    ∷ (number 275 large, 1 ∷ [])
+    ∷ []
+
+-- 14 and 15 as the loader of a large card: the number of cell 17, the clock 5; slot Z of AND2, which is not used, with the address of a cell above 16
+abbrev largeLoads : List (List ℕ × List ℕ)
+largeLoads =
+    (above ((215, 18) ∷ []), 14 ∷ [])
+    ∷ (above ((3, 5) ∷ []), 15 ∷ [])
+    ∷ (above ((80, 20) ∷ []), 15 ∷ [])
+    ∷ []
+
+-- 17, "a duration over 65535", in cells 9 and 10, and in cell 32 by 1; before 18, which applies to cell 32 too, and to cell 17 as AND2
+abbrev largeLong : List (List ℕ × List ℕ)
+largeLong =
+    (number 276 large, 17 ∷ [])
+    ∷ (above ((411, 8) ∷ (413, 1) ∷ (416, 161) ∷ (417, 192) ∷ []), 17 ∷ [])
+    ∷ (number 276 (changed ((216, 5) ∷ []) large), 17 ∷ [])
+    ∷ []
+
+-- 18: "sets a cell above 16 to anything but constant 0": AND2, a one-shot that has room, constant 1 and constants that are loaded as 1
+abbrev largeSet : List (List ℕ × List ℕ)
+largeSet =
+    (above ((216, 5) ∷ []), 18 ∷ [])
+    ∷ (above ((411, 8) ∷ (414, 1) ∷ (416, 161) ∷ (417, 192) ∷ []), 18 ∷ [])
+    ∷ (above ((415, 1) ∷ []), 18 ∷ [])
+    ∷ (above ((412, 255) ∷ []), 18 ∷ [])
+    ∷ []
+
+-- 18, "or reads one": the level of cell 20 and the inverse of cell 32 in AND2, the rise of cell 17 at a clock
+abbrev largeReads : List (List ℕ × List ℕ)
+largeReads =
+    (above ((78, 20) ∷ []), 18 ∷ [])
+    ∷ (above ((78, 96) ∷ []), 18 ∷ [])
+    ∷ (above ((27, 145) ∷ []), 18 ∷ [])
+    -- the bases on either side, cell 16 and BNC1, in AND2 and as a source
+    ∷ (above ((78, 16) ∷ (81, 0) ∷ (479, 97) ∷ []), 0 ∷ [])
+    ∷ []
+
+-- 18 too: the source of BNC1, an output, and of TTL1, an input, there as the fall of cell 32
+abbrev largeSources : List (List ℕ × List ℕ)
+largeSources =
+    (above ((425, 17) ∷ []), 18 ∷ [])
+    ∷ (above ((479, 224) ∷ []), 18 ∷ [])
+    ∷ (convertedTo cellCount (changed ((479, 24) ∷ []) fittingLarge) (replicate 277 7), replicate 277 7)
+    ∷ []
+
+large-examples : Agree largeForms
+unfolding fitting fittingOne fittingLarge oldOne above number result whole part oldCell old changed constantField large oldLarge listed rowOf permittedBase badClock frontDriven badCellType badConnectorType badAddress validSlot validSlots validCell validConnector every valid bigEndian cellField connectorField fieldsFrom encode bigValue cellIn normalCell connectorIn sameBytes loadNumberAs loadNumber normalRecord narrowCell tooLong isBlank readsAbove slotsBelow sourceBelow aboveSmall convertNumber otherForm convertLength convertedTo
+large-examples = refl
+
+load-examples : Agree largeLoads
+unfolding fitting fittingOne fittingLarge oldOne above number result whole part oldCell old changed constantField large oldLarge listed rowOf permittedBase badClock frontDriven badCellType badConnectorType badAddress validSlot validSlots validCell validConnector every valid bigEndian cellField connectorField fieldsFrom encode bigValue cellIn normalCell connectorIn sameBytes loadNumberAs loadNumber normalRecord narrowCell tooLong isBlank readsAbove slotsBelow sourceBelow aboveSmall convertNumber otherForm convertLength convertedTo
+load-examples = refl
+
+long-examples : Agree largeLong
+unfolding fitting fittingOne fittingLarge oldOne above number result whole part oldCell old changed constantField large oldLarge listed rowOf permittedBase badClock frontDriven badCellType badConnectorType badAddress validSlot validSlots validCell validConnector every valid bigEndian cellField connectorField fieldsFrom encode bigValue cellIn normalCell connectorIn sameBytes loadNumberAs loadNumber normalRecord narrowCell tooLong isBlank readsAbove slotsBelow sourceBelow aboveSmall convertNumber otherForm convertLength convertedTo
+long-examples = refl
+
+set-examples : Agree largeSet
+unfolding fitting fittingOne fittingLarge oldOne above number result whole part oldCell old changed constantField large oldLarge listed rowOf permittedBase badClock frontDriven badCellType badConnectorType badAddress validSlot validSlots validCell validConnector every valid bigEndian cellField connectorField fieldsFrom encode bigValue cellIn normalCell connectorIn sameBytes loadNumberAs loadNumber normalRecord narrowCell tooLong isBlank readsAbove slotsBelow sourceBelow aboveSmall convertNumber otherForm convertLength convertedTo
+set-examples = refl
+
+read-examples : Agree largeReads
+unfolding fitting fittingOne fittingLarge oldOne above number result whole part oldCell old changed constantField large oldLarge listed rowOf permittedBase badClock frontDriven badCellType badConnectorType badAddress validSlot validSlots validCell validConnector every valid bigEndian cellField connectorField fieldsFrom encode bigValue cellIn normalCell connectorIn sameBytes loadNumberAs loadNumber normalRecord narrowCell tooLong isBlank readsAbove slotsBelow sourceBelow aboveSmall convertNumber otherForm convertLength convertedTo
+read-examples = refl
+
+source-examples : Agree largeSources
+unfolding fitting fittingOne fittingLarge oldOne above number result whole part oldCell old changed constantField large oldLarge listed rowOf permittedBase badClock frontDriven badCellType badConnectorType badAddress validSlot validSlots validCell validConnector every valid bigEndian cellField connectorField fieldsFrom encode bigValue cellIn normalCell connectorIn sameBytes loadNumberAs loadNumber normalRecord narrowCell tooLong isBlank readsAbove slotsBelow sourceBelow aboveSmall convertNumber otherForm convertLength convertedTo
+source-examples = refl

@@ -331,6 +331,7 @@ fn put_read(out: &mut Page, at: usize, command: Command, x: Context) -> usize {
         Command::Front => put_levels(out, at, x, true),
         Command::Back => put_levels(out, at, x, false),
         Command::Cells => put_outputs(out, at, x),
+        Command::Upper => put_outputs(out, at, x),
         Command::Save => put(
             out,
             at,

@@ -1,6 +1,6 @@
 // A line of input with its answer, and below it what the answer means.
 ghost use mathlib.Core.Path.{_≡_};
-ghost use Rattle.card.specs.Address.{cellCount};
+ghost use Rattle.card.specs.Address.{cellsFor};
 ghost use Rattle.console.specs.Console.{entered};
 use crate::accepted::put_accepted;
 use crate::accepted::put_loaded;
@@ -19,7 +19,7 @@ use lines::grammar::Parsed;
 use lines::grammar::parse_line;
 
 // `longestPrint`: no line prints more.
-const ROOM: usize = 32;
+const ROOM: usize = 36;
 
 // The card after a line, and how many bytes are written of it.
 pub struct Explained {
@@ -83,7 +83,7 @@ fn put_line(
     after: Card,
 ) -> usize {
     let x = context_of(before);
-    let p = parse_line(text);
+    let p = parse_line(text, before.size);
     let d = decide_for(x, store, p);
     let change = d.change;
     if d.k == 0 {
@@ -125,8 +125,8 @@ fn put_why(
 
 // One line of input, without its LF: itself, its answer as plrun prints it, and what that means. The card and the store are those of plrun.
 pub fn explain(card: Card, text: &[u8], store: &mut [u8], out: &mut Page) -> Explained
-    ensures { λ r. ⌜ r .card ≡ entered cellCount card (now (text .entry)) (now (store .entry)) .card ⌝ }
-    ensures { λ r. ⌜ now (store .exit) ≡ entered cellCount card (now (text .entry)) (now (store .entry)) .store ⌝ }
+    ensures { λ r. ⌜ r .card ≡ entered (cellsFor (card .size)) card (now (text .entry)) (now (store .entry)) .card ⌝ }
+    ensures { λ r. ⌜ now (store .exit) ≡ entered (cellsFor (card .size)) card (now (text .entry)) (now (store .entry)) .store ⌝ }
 {
     let mut answer = [0u8; ROOM];
     let entered = console::enter(card, text, store, &mut answer);

@@ -4,7 +4,6 @@ use crate::out::around;
 use crate::out::either;
 use crate::out::number;
 use crate::out::put;
-use card::limits::CELLS_END;
 use card::limits::CONNECTORS_END;
 use card::limits::FIRST_CONNECTOR;
 use cells::table::Class;
@@ -183,11 +182,8 @@ fn base_name(out: &mut Page, at: usize, base: u8) -> usize {
     if base == 0 {
         return put(out, at, b"nothing");
     }
-    if base < CELLS_END {
-        return cell_name(out, at, base - 1);
-    }
     if base < FIRST_CONNECTOR {
-        return put(out, at, b"reserved");
+        return cell_name(out, at, base - 1);
     }
     if base < CONNECTORS_END {
         return connector_name(out, at, base - FIRST_CONNECTOR);

@@ -217,15 +217,15 @@ fn put_address(out: &mut Page, at: usize, v: Number) -> usize {
 }
 
 // The first number of a line's slots that is no address.
-fn bad_number(p: Pairs) -> Number {
+fn bad_number(p: Pairs, size: u8) -> Number {
     let given = p.given;
-    if given.x & valid::bad_address(p.x) {
+    if given.x & valid::bad_address(p.x, size) {
         return p.x;
     }
-    if given.y & valid::bad_address(p.y) {
+    if given.y & valid::bad_address(p.y, size) {
         return p.y;
     }
-    if given.z & valid::bad_address(p.z) {
+    if given.z & valid::bad_address(p.z, size) {
         return p.z;
     }
     p.f
@@ -277,10 +277,10 @@ fn put_seven(out: &mut Page, at: usize, x: Context, command: Command) -> usize {
 }
 
 // 11 by the command.
-fn put_eleven(out: &mut Page, at: usize, command: Command) -> usize {
+fn put_eleven(out: &mut Page, at: usize, size: u8, command: Command) -> usize {
     match command {
         Command::SetConfig(v) => put_address(out, at, v),
-        Command::SetSlots(p) => put_address(out, at, bad_number(p)),
+        Command::SetSlots(p) => put_address(out, at, bad_number(p, size)),
         _ => at,
     }
 }
@@ -309,7 +309,7 @@ fn put_command(out: &mut Page, at: usize, k: u8, x: Context, command: Command) -
         8 => put_numbered(out, at, command),
         9 => put_config(out, at, x),
         10 => put_unused(out, at, x),
-        11 => put_eleven(out, at, command),
+        11 => put_eleven(out, at, x.size, command),
         12 => put_state(out, at, x),
         13 => put_front(out, at),
         _ => at,

@@ -1,5 +1,5 @@
 // A tick: each cell that was worked out, with its reasons and its output, and the connectors that changed.
-ghost use Prim.Native.Nat.{_<_};
+ghost use Prim.Native.Nat.{_<_, _≤_};
 use crate::names::address;
 use crate::names::connector_kind;
 use crate::names::connector_name;
@@ -17,6 +17,8 @@ use card::card::Card;
 use card::card::Connector;
 use card::limits::CELLS;
 use card::limits::CONNECTORS;
+use card::limits::CellWord;
+use card::place::cells_for;
 use cells::cell::Cell;
 use cells::cell::Pulses;
 use cells::reasons::Reasons;
@@ -177,10 +179,10 @@ fn put_woken(
     old: Cell,
     new: Cell,
     q: Reasons,
-    before: u16,
-    now: u16,
+    before: CellWord,
+    now: CellWord,
 ) -> usize
-    requires { ⌜ i < 16 ⌝ }
+    requires { ⌜ i < 32 ⌝ }
 {
     if !(full | any_reason(q)) {
         return at;
@@ -198,11 +200,14 @@ fn put_cells(
     old: [Cell; CELLS],
     new: [Cell; CELLS],
     found: [Reasons; CELLS],
-    before: u16,
-    now: u16,
-) -> usize {
+    before: CellWord,
+    now: CellWord,
+    count: u32,
+) -> usize
+    requires { ⌜ count ≤ 32 ⌝ }
+{
     let mut n = at;
-    for i in 0..CELLS as u32 {
+    for i in 0..count {
         let k = i as usize;
         n = put_woken(out, n, i, full, old[k], new[k], found[k], before, now);
     }
@@ -280,7 +285,7 @@ fn put_asleep(out: &mut Page, at: usize, start: usize) -> usize {
 }
 
 // What the words of the answer say: the connectors that are driven high, and the cells that are high.
-fn put_words(out: &mut Page, at: usize, driven: u16, outputs: u16) -> usize {
+fn put_words(out: &mut Page, at: usize, driven: u16, outputs: CellWord) -> usize {
     let a = put(out, at, b"    Driven high:");
     let b = put_high(out, a, driven, 0, 16);
     let c = put(out, b, b"    High cells:");
@@ -306,7 +311,17 @@ pub fn put_tick(
     let w = after.memory;
     let connectors = before.connectors;
     let start = put_words(out, at, w.driven, w.outputs);
-    let a = put_cells(out, start, full, old, new, found, m.outputs, w.outputs);
+    let a = put_cells(
+        out,
+        start,
+        full,
+        old,
+        new,
+        found,
+        m.outputs,
+        w.outputs,
+        cells_for(before.size) as u32,
+    );
     let b = put_asleep(out, a, start);
     put_connectors(out, b, connectors, input.attached, m.levels, w.levels)
 }

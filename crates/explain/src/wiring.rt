@@ -180,7 +180,7 @@ pub fn put_changes(out: &mut Page, at: usize, before: Card, after: Card) -> usiz
 
 // A cell of a set: " cell 1".
 fn put_member(out: &mut Page, at: usize, set: u64, i: u32) -> usize
-    requires { ⌜ i < 16 ⌝ }
+    requires { ⌜ i < 32 ⌝ }
 {
     if !words::bit(set, i) {
         return at;

@@ -1,5 +1,5 @@
 -- Laws of decisions: what an accepted command rules out, and that its numbers fit.
-use Prim.Native.Nat.{ℕ, zero, suc, _<_, _%_}
+use Prim.Native.Nat.{ℕ, zero, suc, _≤_, _<_, _%_}
 use mathlib.Core.Path.{_≡_, refl, sym, ap}
 use mathlib.Core.Bool.{Bool, true, false, _&&_, _||_, cond}
 use native.Mathlib.Nat.{mod-eq-of-lt}
@@ -10,7 +10,7 @@ use Rattle.cells.specs.Table.{slots, typeCount}
 use Rattle.cells.proofs.Laws.{or-left, or-right}
 use Rattle.card.specs.declared.change.Change.{Change}
 use Rattle.card.specs.declared.change.Wires.{Wires}
-use Rattle.card.specs.Address.{cellCount, firstConnector, connectorCount, among}
+use Rattle.card.specs.Address.{cellRoom, firstConnector, connectorCount, among}
 use Rattle.card.specs.Valid.{badPlace, badCellType, badConnectorType, badClock, badAddress}
 use Rattle.card.proofs.Places.{among-bounds}
 use Rattle.lines.specs.declared.grammar.Pairs.{Pairs}
@@ -65,14 +65,14 @@ alone-index NoSlot = refl
 
 -- ---- a number that is not refused fits
 
-place-cases : (v : ℕ) (a b : Bool) → a ≡ among 1 cellCount v → b ≡ among firstConnector connectorCount v → (a || b) ≡ true → v < 256
-place-cases v true b ea eb h = let g = among-bounds 1 cellCount v (sym ea) in omega arith
-place-cases v false true ea eb h = let g = among-bounds firstConnector connectorCount v (sym eb) in omega arith
-place-cases v false false ea eb h = absurd (mathlib.Core.Bool.false≢true h)
+place-cases : (n v : ℕ) (a b : Bool) → n ≤ cellRoom → a ≡ among 1 n v → b ≡ among firstConnector connectorCount v → (a || b) ≡ true → v < 256
+place-cases n v true b room ea eb h = let g = among-bounds 1 n v (sym ea) in omega arith
+place-cases n v false true room ea eb h = let g = among-bounds firstConnector connectorCount v (sym eb) in omega arith
+place-cases n v false false room ea eb h = absurd (mathlib.Core.Bool.false≢true h)
 
-pub place-fits : (v : ℕ) → badPlace cellCount v ≡ false → v < 256
+pub place-fits : (n v : ℕ) → n ≤ cellRoom → badPlace n v ≡ false → v < 256
 unfolding badPlace
-place-fits v h = place-cases v _ _ refl refl (not-false _ h)
+place-fits n v room h = place-cases n v _ _ room refl refl (not-false _ h)
 
 pub clock-fits : (v : ℕ) → badClock v ≡ false → v < 256
 unfolding badClock
@@ -86,17 +86,17 @@ pub connector-fits : (v : ℕ) → badConnectorType v ≡ false → v < 256
 unfolding badConnectorType
 connector-fits v h = let g = ltb-false 2 v h in omega arith
 
-pub address-fits : (v : ℕ) → badAddress cellCount v ≡ false → v < 256
+pub address-fits : (n v : ℕ) → badAddress n v ≡ false → v < 256
 unfolding badAddress
-address-fits v h = let g = ltb-false 255 v (or-left _ _ h) in omega arith
+address-fits n v h = let g = ltb-false 255 v (or-left _ _ h) in omega arith
 
 pub number-fits : (v : ℕ) → tooLarge v ≡ false → v < 4294967296
 number-fits v h = let g = ltb-false 4294967295 v h in omega arith
 
 -- what a slot is given, cut to a byte
-wire-fits : (given : Bool) (v : ℕ) → (given && badAddress cellCount v) ≡ false → wireOf given (v % 256) ≡ wireOf given v
-wire-fits true v h = mod-eq-of-lt (address-fits v h)
-wire-fits false v h = refl
+wire-fits : (n : ℕ) (given : Bool) (v : ℕ) → (given && badAddress n v) ≡ false → wireOf given (v % 256) ≡ wireOf given v
+wire-fits n true v h = mod-eq-of-lt (address-fits n v h)
+wire-fits n false v h = refl
 
 abbrev pub cutWires : Pairs → Wires
 cutWires p =
@@ -108,14 +108,14 @@ cutWires p =
       f = wireOf (p .given .f) (p .f % 256);
     }
 
-pub wires-fit : (p : Pairs) → anyBadAddress cellCount p ≡ false → cutWires p ≡ wiresOf p
-wires-fit p h =
-    let bx = p .given .x && badAddress cellCount (p .x) in
-    let bz = p .given .z && badAddress cellCount (p .z) in
-    let xy = or-left (bx || (p .given .y && badAddress cellCount (p .y))) _ h in
-    let zf = or-right (bx || (p .given .y && badAddress cellCount (p .y))) _ h in
-    let x = wire-fits (p .given .x) (p .x) (or-left bx _ xy) in
-    let y = wire-fits (p .given .y) (p .y) (or-right bx _ xy) in
-    let z = wire-fits (p .given .z) (p .z) (or-left bz _ zf) in
-    let f = wire-fits (p .given .f) (p .f) (or-right bz _ zf) in
+pub wires-fit : (n : ℕ) (p : Pairs) → anyBadAddress n p ≡ false → cutWires p ≡ wiresOf p
+wires-fit n p h =
+    let bx = p .given .x && badAddress n (p .x) in
+    let bz = p .given .z && badAddress n (p .z) in
+    let xy = or-left (bx || (p .given .y && badAddress n (p .y))) _ h in
+    let zf = or-right (bx || (p .given .y && badAddress n (p .y))) _ h in
+    let x = wire-fits n (p .given .x) (p .x) (or-left bx _ xy) in
+    let y = wire-fits n (p .given .y) (p .y) (or-right bx _ xy) in
+    let z = wire-fits n (p .given .z) (p .z) (or-left bz _ zf) in
+    let f = wire-fits n (p .given .f) (p .f) (or-right bz _ zf) in
     λ i. record { given = p .given; x = x i; y = y i; z = z i; f = f i }

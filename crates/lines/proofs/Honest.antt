@@ -72,7 +72,7 @@ module _ (n : ℕ) where
   call-last c (tick full input) = go (eqb (input .code) (c .trigger))
     where
       go : (b : Bool) → let t = cond b (Tick.ticked n full c input) (Tick.idle c) in
-          let next = Tick.moved (c .memory) (t .answer .driven) (t .answer .cells) (Tick.lines n c input .levels) in
+          let next = Tick.moved (Tick.trimmed n (c .memory)) (t .answer .driven) (t .answer .cells) (Tick.lines n c input .levels) in
           t .card .memory ≡ cond (t .answer .ran) next (c .memory)
       go true = refl
       go false = refl

@@ -9,5 +9,6 @@ pub mod Replies
 pub mod Rest
 pub mod SaveLoad
 pub mod Settable
+pub mod Sizes
 pub mod Wired
 pub mod Words

@@ -52,7 +52,7 @@ pub refused-kept : (n : ℕ) (c : Card) (text : List ℕ) (reply store : ℕ) �
     → lineOutcome n c text reply store .card ≡ c
 unfolding changed lineDecision lineOutcome
 refused-kept n c text reply store e =
-    ap (changed n c) (short-nothing n (contextOf n c) (ltb reply shortestReply) store (parse text) e)
+    ap (changed n c) (short-nothing n (contextOf n c) (ltb reply shortestReply) store (parse n text) e)
 
 module _ (n : ℕ) where
   -- ---- one call
@@ -65,7 +65,7 @@ module _ (n : ℕ) where
   pub call-settled : (c : Card) (call : Call) → Settled n c → Settled n (afterCall n c call)
   unfolding afterCall
   call-settled c (line text reply store) s = edit-settled n c _ (line-edit n c text (length reply) (length store)) s
-  call-settled c (load bytes) s = rw (loaded-by n c bytes) (load-settled c (eqb (loadNumber n bytes) 0) _ (powered-settled n _ _ _) s)
+  call-settled c (load bytes) s = rw (loaded-by n c bytes) (load-settled c (eqb (loadNumber n bytes) 0) _ (powered-settled n _ _ _ _) s)
   call-settled c (tick full input) s = tick-settled n full c input s
 
   -- two ticks of any kinds do the same on a settled card

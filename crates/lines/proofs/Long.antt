@@ -14,11 +14,11 @@ use Rattle.lines.specs.declared.grammar.Parsed.the-variants.{Malformed}
 use Rattle.lines.specs.Grammar.{longestLine, parse}
 use Rattle.lines.specs.Line.{Outcome, outcomeOf, shortestReply, refused, decisionFor, lineDecision, replyOf, lineOutcome, lineReply, storeAfter}
 
-pub parse-long : (t : List ℕ) → longestLine < length t → parse t ≡ Malformed
+pub parse-long : (n : ℕ) (t : List ℕ) → longestLine < length t → parse n t ≡ Malformed
 unfolding parse
-parse-long t h = rw (lt-leb (length t) longestLine h, and-false (leb 1 (length t)))
+parse-long n t h = rw (lt-leb (length t) longestLine h, and-false (leb 1 (length t)))
 
-module _ (n : ℕ) (c : Card) (t u : List ℕ) (same : parse t ≡ parse u) where
+module _ (n : ℕ) (c : Card) (t u : List ℕ) (same : parse n t ≡ parse n u) where
   pub outcome-same : (reply store : ℕ) → lineOutcome n c t reply store ≡ lineOutcome n c u reply store
   unfolding lineOutcome lineDecision
   outcome-same reply store =

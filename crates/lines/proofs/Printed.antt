@@ -21,7 +21,7 @@ use Rattle.lines.specs.declared.grammar.Slot.{Slot}
 use Rattle.lines.specs.declared.grammar.Slot.the-variants.{X, Y, Z, F, NoSlot}
 use Rattle.lines.specs.declared.grammar.Command.{Command}
 use Rattle.lines.specs.declared.grammar.Command.the-variants.{Move, Where, Trigger, Home, Preset, SetKind, SetConfig, SetState, GetKind, GetConfig}
-use Rattle.lines.specs.declared.grammar.Command.the-variants.{GetState, SetSlots, GetSlot, Front, Back, Cells, Save}
+use Rattle.lines.specs.declared.grammar.Command.the-variants.{GetState, SetSlots, GetSlot, Front, Back, Cells, Upper, Save}
 use Rattle.lines.specs.declared.grammar.Parsed.the-variants.{Here}
 use Rattle.lines.specs.Grammar.{charAt, isWord, isWhole, toEnd, slotOf, noPairs, gave, give, begun, pairRead, finished, pairsOf, writeOf, ccaWrite}
 use Rattle.lines.specs.Grammar.{ccaRead, ccaForm, slotForm, ccbForm, readOf, readForm, cardForm, plainForm, addressed, longestLine, parse, equals}
@@ -57,13 +57,13 @@ letter-read NoSlot = refl
 abbrev Sized : List ℕ → Type 0
 Sized t = (1 ≤ length t) × (length t ≤ longestLine)
 
-parse-plain : (t : List ℕ) → Sized t → isDigit (charAt t 0) ≡ false → parse t ≡ plainForm t
+parse-plain : (n : ℕ) (t : List ℕ) → Sized t → isDigit (charAt t 0) ≡ false → parse n t ≡ plainForm t
 unfolding parse
-parse-plain t size letter = rw (le-leb 1 (length t) (size .0), le-leb (length t) longestLine (size .1), letter)
+parse-plain n t size letter = rw (le-leb 1 (length t) (size .0), le-leb (length t) longestLine (size .1), letter)
 
-parse-card : (t : List ℕ) → Sized (cardLine t) → parse (cardLine t) ≡ cardForm (cardLine t)
+parse-card : (n : ℕ) (t : List ℕ) → Sized (cardLine t) → parse n (cardLine t) ≡ cardForm n (cardLine t)
 unfolding parse isDigit addressed
-parse-card t size = rw (le-leb 1 (length (cardLine t)) (size .0), le-leb (length (cardLine t)) longestLine (size .1))
+parse-card n t size = rw (le-leb 1 (length (cardLine t)) (size .0), le-leb (length (cardLine t)) longestLine (size .1))
 
 module _ (v : ℕ) (h : printable v ≡ true) where
   -- at most eight bytes of a form, and the number
@@ -73,20 +73,20 @@ module _ (v : ℕ) (h : printable v ≡ true) where
       let few = digits v h in
       (omega arith, omega arith)
 
-  move-parses : parse (M-E= ++ decimal v) ≡ Here (Move v)
+  move-parses : (n : ℕ) → parse n (M-E= ++ decimal v) ≡ Here (Move v)
   unfolding plainForm isWord isDigit
-  move-parses = parse-plain (M-E= ++ decimal v) (number-sized M-E= (lit≤ tt) (lit≤ tt)) refl ∙ rw (number-ends M-E= v h)
+  move-parses n = parse-plain n (M-E= ++ decimal v) (number-sized M-E= (lit≤ tt) (lit≤ tt)) refl ∙ rw (number-ends M-E= v h)
 
-  trigger-parses : parse (PM-E= ++ decimal v) ≡ Here (Trigger v)
+  trigger-parses : (n : ℕ) → parse n (PM-E= ++ decimal v) ≡ Here (Trigger v)
   unfolding plainForm isWord isDigit
-  trigger-parses = parse-plain (PM-E= ++ decimal v) (number-sized PM-E= (lit≤ tt) (lit≤ tt)) refl ∙ rw (number-ends PM-E= v h)
+  trigger-parses n = parse-plain n (PM-E= ++ decimal v) (number-sized PM-E= (lit≤ tt) (lit≤ tt)) refl ∙ rw (number-ends PM-E= v h)
 
   cca-sized : (p : Slot) → Sized (ccaText p v)
   cca-sized p = number-sized (cardLine (CCA ++ letterOf p ∷ equals ∷ [])) (lit≤ tt) (lit≤ tt)
 
-  cca-parses : (p : Slot) → parse (ccaText p v) ≡ writeOf p v
+  cca-parses : (n : ℕ) (p : Slot) → parse n (ccaText p v) ≡ writeOf p v
   unfolding cardForm isWord ccaForm ccaWrite
-  cca-parses p = parse-card _ (cca-sized p) ∙ rw (number-ends (cardLine (CCA ++ letterOf p ∷ equals ∷ [])) v h, letter-read p)
+  cca-parses n p = parse-card n _ (cca-sized p) ∙ rw (number-ends (cardLine (CCA ++ letterOf p ∷ equals ∷ [])) v h, letter-read p)
 
 -- ---- the pairs of CCB
 
@@ -226,7 +226,7 @@ pub pairs-each : (p : Pairs) → printableSlots p ≡ true → (printableSlot (p
     × (printableSlot (p .given .z) (p .z) ≡ true) × (printableSlot (p .given .f) (p .f) ≡ true)
 pairs-each p ok = all-four _ _ _ _ ok
 
-module _ (p : Pairs) (prints : printableCommand (SetSlots p) ≡ true) where
+module _ (n : ℕ) (p : Pairs) (prints : printableCommand n (SetSlots p) ≡ true) where
   some : anySlot (p .given) ≡ true
   unfolding printableCommand
   some = and-left (anySlot (p .given)) _ prints
@@ -278,54 +278,56 @@ module _ (p : Pairs) (prints : printableCommand (SetSlots p) ≡ true) where
       let all : steps 4 t (begun 5) ≡ read p (length t) = pairs-read t 5 4 takes-all all-printable at-most-four (omega arith) refl in
       ap (finished t) all ∙ rw (eq-eqb (length t) (length t) refl, some)
 
-  slots-parse : parse (cardLine (CCB ++ pairsText (givenPairs p))) ≡ Here (SetSlots p)
+  slots-parse : parse n (cardLine (CCB ++ pairsText (givenPairs p))) ≡ Here (SetSlots p)
   unfolding cardForm isWord
-  slots-parse = parse-card (CCB ++ pairsText (givenPairs p)) slots-sized ∙ no-read (givenPairs p) ∙ slots-read
+  slots-parse = parse-card n (CCB ++ pairsText (givenPairs p)) slots-sized ∙ no-read (givenPairs p) ∙ slots-read
 
 -- ---- every command
 
 -- "One line of 1 to 80 bytes"
-pub text-sized : (command : Command) → printableCommand command ≡ true → (1 ≤ length (commandText command)) × (length (commandText command) ≤ longestLine)
+pub text-sized : (n : ℕ) (command : Command) → printableCommand n command ≡ true → (1 ≤ length (commandText command)) × (length (commandText command) ≤ longestLine)
 unfolding commandText printableCommand
-text-sized (Move v) prints = number-sized v prints M-E= (lit≤ tt) (lit≤ tt)
-text-sized Where prints = (lit≤ tt, lit≤ tt)
-text-sized (Trigger v) prints = number-sized v prints PM-E= (lit≤ tt) (lit≤ tt)
-text-sized Home prints = (lit≤ tt, lit≤ tt)
-text-sized (Preset v) prints = cca-sized v prints X
-text-sized (SetKind v) prints = cca-sized v prints Y
-text-sized (SetConfig v) prints = cca-sized v prints Z
-text-sized (SetState v) prints = cca-sized v prints F
-text-sized GetKind prints = (lit≤ tt, lit≤ tt)
-text-sized GetConfig prints = (lit≤ tt, lit≤ tt)
-text-sized GetState prints = (lit≤ tt, lit≤ tt)
-text-sized (SetSlots p) prints = slots-sized p prints
-text-sized (GetSlot s) prints = (lit≤ tt, lit≤ tt)
-text-sized Front prints = (lit≤ tt, lit≤ tt)
-text-sized Back prints = (lit≤ tt, lit≤ tt)
-text-sized Cells prints = (lit≤ tt, lit≤ tt)
-text-sized Save prints = (lit≤ tt, lit≤ tt)
+text-sized n (Move v) prints = number-sized v prints M-E= (lit≤ tt) (lit≤ tt)
+text-sized n Where prints = (lit≤ tt, lit≤ tt)
+text-sized n (Trigger v) prints = number-sized v prints PM-E= (lit≤ tt) (lit≤ tt)
+text-sized n Home prints = (lit≤ tt, lit≤ tt)
+text-sized n (Preset v) prints = cca-sized v prints X
+text-sized n (SetKind v) prints = cca-sized v prints Y
+text-sized n (SetConfig v) prints = cca-sized v prints Z
+text-sized n (SetState v) prints = cca-sized v prints F
+text-sized n GetKind prints = (lit≤ tt, lit≤ tt)
+text-sized n GetConfig prints = (lit≤ tt, lit≤ tt)
+text-sized n GetState prints = (lit≤ tt, lit≤ tt)
+text-sized n (SetSlots p) prints = slots-sized n p prints
+text-sized n (GetSlot s) prints = (lit≤ tt, lit≤ tt)
+text-sized n Front prints = (lit≤ tt, lit≤ tt)
+text-sized n Back prints = (lit≤ tt, lit≤ tt)
+text-sized n Cells prints = (lit≤ tt, lit≤ tt)
+text-sized n Upper prints = (lit≤ tt, lit≤ tt)
+text-sized n Save prints = (lit≤ tt, lit≤ tt)
 
 -- what is printed reads as the command
-pub text-parses : (command : Command) → printableCommand command ≡ true → parse (commandText command) ≡ Here command
+pub text-parses : (n : ℕ) (command : Command) → printableCommand n command ≡ true → parse n (commandText command) ≡ Here command
 unfolding commandText printableCommand parse isDigit addressed cardForm plainForm isWord isWhole ccaForm ccaRead ccbForm slotForm readForm readOf slotOf writeOf
-text-parses (Move v) prints = move-parses v prints
-text-parses Where prints = refl
-text-parses (Trigger v) prints = trigger-parses v prints
-text-parses Home prints = refl
-text-parses (Preset v) prints = cca-parses v prints X
-text-parses (SetKind v) prints = cca-parses v prints Y
-text-parses (SetConfig v) prints = cca-parses v prints Z
-text-parses (SetState v) prints = cca-parses v prints F
-text-parses GetKind prints = refl
-text-parses GetConfig prints = refl
-text-parses GetState prints = refl
-text-parses (SetSlots p) prints = slots-parse p prints
-text-parses (GetSlot X) prints = refl
-text-parses (GetSlot Y) prints = refl
-text-parses (GetSlot Z) prints = refl
-text-parses (GetSlot F) prints = refl
-text-parses (GetSlot NoSlot) prints = absurd (false≢true prints)
-text-parses Front prints = refl
-text-parses Back prints = refl
-text-parses Cells prints = refl
-text-parses Save prints = refl
+text-parses n (Move v) prints = move-parses v prints n
+text-parses n Where prints = refl
+text-parses n (Trigger v) prints = trigger-parses v prints n
+text-parses n Home prints = refl
+text-parses n (Preset v) prints = cca-parses v prints n X
+text-parses n (SetKind v) prints = cca-parses v prints n Y
+text-parses n (SetConfig v) prints = cca-parses v prints n Z
+text-parses n (SetState v) prints = cca-parses v prints n F
+text-parses n GetKind prints = refl
+text-parses n GetConfig prints = refl
+text-parses n GetState prints = refl
+text-parses n (SetSlots p) prints = slots-parse n p prints
+text-parses n (GetSlot X) prints = refl
+text-parses n (GetSlot Y) prints = refl
+text-parses n (GetSlot Z) prints = refl
+text-parses n (GetSlot F) prints = refl
+text-parses n (GetSlot NoSlot) prints = absurd (false≢true prints)
+text-parses n Front prints = refl
+text-parses n Back prints = refl
+text-parses n Cells prints = refl
+text-parses n Upper prints = rw prints
+text-parses n Save prints = refl

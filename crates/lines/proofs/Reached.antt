@@ -27,7 +27,7 @@ use Rattle.saved.proofs.Records.{load-refused, loaded-valid}
 use Rattle.lines.specs.declared.grammar.Pairs.{Pairs}
 use Rattle.lines.specs.declared.grammar.Command.{Command}
 use Rattle.lines.specs.declared.grammar.Command.the-variants.{Move, Where, Trigger, Home, Preset, SetKind, SetConfig, SetState, GetKind, GetConfig}
-use Rattle.lines.specs.declared.grammar.Command.the-variants.{GetState, SetSlots, GetSlot, Front, Back, Cells, Save}
+use Rattle.lines.specs.declared.grammar.Command.the-variants.{GetState, SetSlots, GetSlot, Front, Back, Cells, Upper, Save}
 use Rattle.lines.specs.declared.grammar.Parsed.{Parsed}
 use Rattle.lines.specs.declared.grammar.Parsed.the-variants.{Malformed, Elsewhere, Here}
 use Rattle.lines.specs.Grammar.{parse}
@@ -68,7 +68,7 @@ module _ (n : ℕ) (more : cellCount ≤ n) where
   accepted-valid c store (Trigger v) ok e = valid-trigger n c ok v (judged-none v (badClock v) 6 e .1)
   accepted-valid c store Home ok e = valid-home n c ok
   accepted-valid c store (Preset v) ok e =
-      valid-preset n more c ok v (last-none (judged v (not (offered v)) 8) (presetDrives (contextOf n c) v) 12 e)
+      valid-preset n more c ok v (last-none (judged v (not (offered n v)) 8) (presetDrives n (contextOf n c) v) 12 e)
   accepted-valid c store (SetKind v) ok e =
       let first = judged v (badConnectorType v) 7 in
       let drives = drivesFront (contextOf n c) v in
@@ -96,6 +96,7 @@ module _ (n : ℕ) (more : cellCount ≤ n) where
   accepted-valid c store Front ok e = ok
   accepted-valid c store Back ok e = ok
   accepted-valid c store Cells ok e = ok
+  accepted-valid c store Upper ok e = ok
   accepted-valid c store Save ok e = ok
 
   decided-valid : (c : Card) (store : ℕ) (p : Parsed) → validCard n c ≡ true
@@ -121,10 +122,10 @@ module _ (n : ℕ) (more : cellCount ≤ n) where
   unfolding changed lineDecision lineOutcome
   line-valid c text reply store ok = go (ltb reply shortestReply)
     where
-      go : (b : Bool) → let d = cond b (refused 1) (decisionFor n (contextOf n c) store (parse text)) in
+      go : (b : Bool) → let d = cond b (refused 1) (decisionFor n (contextOf n c) store (parse n text)) in
           validCard n (changed n c (d .change)) ≡ true
       go true = ok
-      go false = decided-valid c store (parse text) ok
+      go false = decided-valid c store (parse n text) ok
 
   -- ---- one call, and lists
 

@@ -1,6 +1,6 @@
 -- Save and load are inverse: a line that saves has room for the record, the record of a reached card loads, and a loaded card saves as its bytes, with
 -- constants above 1 made 1.
-use Prim.Native.Nat.{ℕ, _≤_}
+use Prim.Native.Nat.{ℕ, _≤_, _<_}
 use mathlib.Core.Path.{_≡_, refl, sym, ap, _∙_}
 use mathlib.Core.Bool.{Bool, true, false, _&&_, cond, true≢false}
 use mathlib.Core.List.{List, _++_}
@@ -15,15 +15,17 @@ use Rattle.cells.specs.declared.cell.Cell.{Cell}
 use Rattle.card.specs.declared.card.Card.{Card}
 use Rattle.card.specs.declared.context.Context.{Context}
 use Rattle.card.specs.Context.{contextOf}
+use native.Mathlib.Decide.{decLt}
+use native.Mathlib.Omega.{arith}
 use Rattle.card.specs.Address.{cellCount}
 use Rattle.card.specs.Fresh.{freshOf}
 use Rattle.card.specs.Valid.{validCard}
 use Rattle.saved.specs.Record.{configWidth, narrowWidth, recordLength, recordOf, triggerIn, cellIn, normalCell, loadCells, connectorsIn, poweredUp, loadNumber, loaded}
-use Rattle.saved.proofs.Records.{valid-length, saved-front, cleared-taken, load-accepts, load-powers, narrow-form, saved-loads, saved-loaded}
+use Rattle.saved.proofs.Records.{valid-length, saved-front, cleared-taken, load-accepts, load-powers, narrow-form, no-old-form, saved-loads, saved-loaded}
 use Rattle.saved.proofs.Records
 use Rattle.lines.specs.declared.grammar.Command.{Command}
 use Rattle.lines.specs.declared.grammar.Command.the-variants.{Move, Where, Trigger, Home, Preset, SetKind, SetConfig, SetState, GetKind, GetConfig}
-use Rattle.lines.specs.declared.grammar.Command.the-variants.{GetState, SetSlots, GetSlot, Front, Back, Cells, Save}
+use Rattle.lines.specs.declared.grammar.Command.the-variants.{GetState, SetSlots, GetSlot, Front, Back, Cells, Upper, Save}
 use Rattle.lines.specs.declared.grammar.Parsed.{Parsed}
 use Rattle.lines.specs.declared.grammar.Parsed.the-variants.{Malformed, Elsewhere, Here}
 use Rattle.lines.specs.Grammar.{isWord, isWhole, cardForm, plainForm, addressed, parse}
@@ -59,6 +61,7 @@ command-room n x store (GetSlot s) g e = never g
 command-room n x store Front g e = never g
 command-room n x store Back g e = never g
 command-room n x store Cells g e = never g
+command-room n x store Upper g e = never g
 command-room n x store Save g e = ltb-false store (recordLength n configWidth) (when-none (ltb store (recordLength n configWidth)) 0 e)
 
 room : (n : ℕ) (x : Context) (b : Bool) (store : ℕ) (p : Parsed) → let d = cond b (refused 1) (decisionFor n x store p) in
@@ -71,7 +74,7 @@ room n x false store (Here command) e g = command-room n x store command g e
 
 save-room : (n : ℕ) (c : Card) (text : List ℕ) (reply store : ℕ) → Saves n c text reply store → wholeRecord n ≤ store
 unfolding lineDecision lineOutcome
-save-room n c text reply store s = room n (contextOf n c) (ltb reply shortestReply) store (parse text) (s .accepted) (s .saves)
+save-room n c text reply store s = room n (contextOf n c) (ltb reply shortestReply) store (parse n text) (s .accepted) (s .saves)
 
 module _ (n : ℕ) (c : Card) (text : List ℕ) (reply store : ℕ) (s : Saves n c text reply store) where
   both : (eqb (lineOutcome n c text reply store .k) 0 && lineOutcome n c text reply store .response .saves) ≡ true
@@ -91,16 +94,16 @@ store-is n c text reply store ok s =
 
 -- ---- the theorem
 
-parses : parse (bytesOf "36SS Z") ≡ Here Save
+parses : (n : ℕ) → parse n (bytesOf "36SS Z") ≡ Here Save
 unfolding bytesOf isDigit isWord isWhole cardForm plainForm addressed parse
-parses = refl
+parses n = refl
 
 line-saves : (n : ℕ) (c : Card) (reply store : ℕ) → shortestReply ≤ reply → wholeRecord n ≤ store → Saves n c (bytesOf "36SS Z") reply store
 unfolding lineDecision lineOutcome decisionFor decision responseTo refusal
 line-saves n c reply store hr hs =
     record {
-      accepted = rw (le-ltb reply shortestReply hr, parses, le-ltb store (wholeRecord n) hs);
-      saves = rw (le-ltb reply shortestReply hr, parses);
+      accepted = rw (le-ltb reply shortestReply hr, parses n, le-ltb store (wholeRecord n) hs);
+      saves = rw (le-ltb reply shortestReply hr, parses n);
     }
 
 restored : (n : ℕ) (c : Card) → validCard n c ≡ true → (d : Card) → Restored n c (loaded n d (recordOf n configWidth c))
@@ -124,13 +127,13 @@ written n c text reply store ok s =
     })
 
 -- a record of the old form
-from-old-form : (n : ℕ) (d : Card) (bytes : List ℕ) → length bytes ≡ recordLength n narrowWidth → loadNumber n bytes ≡ 0
+small-old-form : (n : ℕ) (d : Card) (bytes : List ℕ) → n ≤ cellCount → length bytes ≡ recordLength n narrowWidth → loadNumber n bytes ≡ 0
     → FromOldForm n bytes (loaded n d bytes)
-from-old-form n d bytes long ok =
+small-old-form n d bytes few long ok =
     let cells : ℕ → List Cell = λ w. loadCells n w bytes ++ drop n (d .cells) in
-    let c : loaded n d bytes ≡ poweredUp n (triggerIn bytes) (cells narrowWidth) (connectorsIn n narrowWidth bytes) =
+    let c : loaded n d bytes ≡ poweredUp n (d .size) (triggerIn bytes) (cells narrowWidth) (connectorsIn n narrowWidth bytes) =
     load-powers n d bytes ok
-    ∙ ap (λ (w : ℕ). poweredUp n (triggerIn bytes) (cells w) (connectorsIn n w bytes)) (narrow-form n bytes long) in
+    ∙ ap (λ (w : ℕ). poweredUp n (d .size) (triggerIn bytes) (cells w) (connectorsIn n w bytes)) (narrow-form n bytes few long) in
     let first = take-at (loadCells n narrowWidth bytes) (drop n (d .cells)) n (length-listed (λ i. normalCell (cellIn narrowWidth bytes i)) n) in
     record {
       trigger = ap (λ (x : Card). x .trigger) c;
@@ -139,6 +142,18 @@ from-old-form n d bytes long ok =
       saved-loads = λ text reply store s. ap (loadNumber n) (bytes-are n _ text reply store s) ∙ saved-loads n d d bytes ok;
       saved-same = λ text reply store e s. ap (loaded n e) (bytes-are n _ text reply store s) ∙ saved-loaded n d e bytes ok;
     }
+
+-- of more cells there is none that loads
+from-old-form : (n : ℕ) (d : Card) (bytes : List ℕ) → length bytes ≡ recordLength n narrowWidth → loadNumber n bytes ≡ 0
+    → FromOldForm n bytes (loaded n d bytes)
+from-old-form n d bytes long ok = go (decLt cellCount n)
+  where
+    go : Dec (cellCount < n) → FromOldForm n bytes (loaded n d bytes)
+    go (yes h) = absurd (fourteen (sym (no-old-form n bytes h long) ∙ ok))
+      where
+        fourteen : _≡_ {A = ℕ} 14 0 → ⊥
+        fourteen e = omega arith
+    go (no h) = small-old-form n d bytes (omega arith) long ok
 
 pub save-load : (n : ℕ) → cellCount ≤ n → SaveLoad n
 save-load n more =

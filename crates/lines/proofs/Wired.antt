@@ -1,12 +1,12 @@
 -- Valid settings are set by their lines: one command at a place, the commands of one cell and of one connector, lifted over their lists.
-use Prim.Native.Nat.{ℕ, suc, _+_, _^_, _≤_, _<_}
+use Prim.Native.Nat.{ℕ, suc, _+_, _-_, _^_, _≤_, _<_}
 use mathlib.Core.Path.{_≡_, refl, sym, ap, subst, _∙_}
 use mathlib.Core.Bool.{Bool, true, false, cond, and-false}
 use mathlib.Core.List.{List, [], _∷_, _++_, map}
 use native.Mathlib.Omega.{arith}
 use lib.Dec.{eqb}
-use lib.ListN.{length, getD, set, take, replicate, length-map, length-set, length-replicate}
-use lib.Seq.{sets, take-all}
+use lib.ListN.{length, getD, set, take, replicate, length-map, length-set, length-append, length-replicate}
+use lib.Seq.{sets, sets-eq, take-at, drop-at}
 use borrow.Author.Tests.{le-ltb, lt-ltb, eq-eqb}
 use Rattle.text.specs.Decimal.{maxDigits}
 use Rattle.text.proofs.Stores.{sets-all}
@@ -17,7 +17,7 @@ use Rattle.cells.specs.Table.{rowOf, anySlot, largestConfig}
 use Rattle.cells.proofs.Rows.{and-left, and-right}
 use Rattle.card.specs.declared.card.Card.{Card}
 use Rattle.card.specs.declared.card.Connector.{Connector}
-use Rattle.card.specs.Address.{connectorCount, firstCell, firstConnector}
+use Rattle.card.specs.Address.{cellRoom, connectorCount, firstCell, firstConnector}
 use Rattle.card.specs.Connectors.{noConnector}
 use Rattle.card.specs.Change.{changed}
 use Rattle.card.specs.Context.{contextOf}
@@ -46,7 +46,7 @@ use Rattle.lines.proofs.Printed.{text-parses}
 -- commands one after the other, each printable and accepted, lead from c to d
 data Runs (n store : ℕ) : Card → List Command → Card → Type 0 where
   none : {c : Card} → Runs n store c [] c
-  next : {c d : Card} {command : Command} {commands : List Command} → printableCommand command ≡ true → refusal n (contextOf n c) store command ≡ 0
+  next : {c d : Card} {command : Command} {commands : List Command} → printableCommand n command ≡ true → refusal n (contextOf n c) store command ≡ 0
       → Runs n store (obeyed n c command) commands d → Runs n store c (command ∷ commands) d
 
 module _ {n store : ℕ} where
@@ -54,13 +54,13 @@ module _ {n store : ℕ} where
   both-run none later = later
   both-run (next prints free early) later = next prints free (both-run early later)
 
-  only-runs : (test : Bool) (c : Card) (command : Command) → (test ≡ true → printableCommand command ≡ true)
+  only-runs : (test : Bool) (c : Card) (command : Command) → (test ≡ true → printableCommand n command ≡ true)
       → (test ≡ true → refusal n (contextOf n c) store command ≡ 0)
       → Runs n store c (only test command) (cond test (obeyed n c command) c)
   only-runs true c command prints free = next (prints refl) (free refl) none
   only-runs false c command prints free = none
 
-  runs-printable : {c d : Card} {commands : List Command} → Runs n store c commands d → every printableCommand commands ≡ true
+  runs-printable : {c d : Card} {commands : List Command} → Runs n store c commands d → every (printableCommand n) commands ≡ true
   unfolding every
   runs-printable none = refl
   runs-printable (next prints free more) = rw prints (runs-printable more)
@@ -75,15 +75,15 @@ record Reaches (n store : ℕ) (c : Card) (commands : List Command) (t : ℕ) (c
 
 -- the line of a command that is not refused is accepted, and obeyed
 module _ (n reply store : ℕ) (room : shortestReply ≤ reply) where
-  line-accepted : (c : Card) (command : Command) → printableCommand command ≡ true → refusal n (contextOf n c) store command ≡ 0
+  line-accepted : (c : Card) (command : Command) → printableCommand n command ≡ true → refusal n (contextOf n c) store command ≡ 0
       → lineOutcome n c (commandText command) reply store .k ≡ 0
   unfolding lineDecision lineOutcome decisionFor decision
-  line-accepted c command prints free = rw (le-ltb reply shortestReply room, text-parses command prints) free
+  line-accepted c command prints free = rw (le-ltb reply shortestReply room, text-parses n command prints) free
 
-  line-obeyed : (c : Card) (command : Command) → printableCommand command ≡ true → refusal n (contextOf n c) store command ≡ 0
+  line-obeyed : (c : Card) (command : Command) → printableCommand n command ≡ true → refusal n (contextOf n c) store command ≡ 0
       → lineOutcome n c (commandText command) reply store .card ≡ obeyed n c command
   unfolding lineDecision lineOutcome decisionFor decision
-  line-obeyed c command prints free = rw (le-ltb reply shortestReply room, text-parses command prints, free)
+  line-obeyed c command prints free = rw (le-ltb reply shortestReply room, text-parses n command prints, free)
 
   fed-runs : {c d : Card} {commands : List Command} → Runs n store c commands d → fed n reply store c (map commandText commands) ≡ d
   unfolding fed
@@ -132,7 +132,7 @@ module _ (n : ℕ) (cell : Cell) (ok : validCell n cell ≡ true) where
         and-false (r .used .f),
       )
 
-  slots-printable : anySlot (rowOf (cell .kind) .used) ≡ true → printableCommand (SetSlots (pairsIn cell)) ≡ true
+  slots-printable : anySlot (rowOf (cell .kind) .used) ≡ true → printableCommand n (SetSlots (pairsIn cell)) ≡ true
   unfolding printableCommand
   slots-printable some =
       let r = rowOf (cell .kind) in
@@ -347,21 +347,29 @@ module _ (n store : ℕ) (apart : firstCell + n ≤ firstConnector) where
         connectors = more .connectors ∙ ap (λ (l : List Connector). sets l (suc k) connectors) (first .connectors);
       }
 
+  -- a front that is set whole, and what stands behind it
+  sets-front : (a b xs : List Cell) → length xs ≡ length a → sets (a ++ b) 0 xs ≡ xs ++ b
+  sets-front a b xs e =
+      let whole = length-append a b in
+      sets-eq xs (a ++ b) 0 (omega arith) ∙ ap (λ (r : List Cell). xs ++ r) (drop-at a b (0 + length xs) (omega arith))
+
   -- from a fresh card
   wiring-reaches : (trigger : ℕ) (cells : List Cell) (connectors : List Connector) → valid n trigger cells connectors ≡ true
-      → Reaches n store (freshOf n) (wiring trigger (take n cells) connectors) trigger (map clearedCell (take n cells)) connectors
+      → Reaches n store (freshOf n) (wiring trigger (take n cells) connectors) trigger (map clearedCell (take n cells) ++ replicate (cellRoom - n) freshCell) connectors
   unfolding wiring changed changeFor refusal printableCommand setTrigger
   wiring-reaches trigger cells connectors ok =
       let s = split n trigger cells connectors ok in
       let count = s .cell-count in
       let others = s .connector-count in
       let start = length-replicate n freshCell in
+      let behind = replicate (cellRoom - n) freshCell in
+      let all = length-append (replicate n freshCell) behind in
       let front = cells-reach (take n cells) 0 (freshOf n) (omega arith) (omega arith) (s .cells-pass) in
       let back = connectors-reach connectors 0 (front .card) (front .trigger) (omega arith) (ap length (front .connectors)) (s .connectors-pass) in
-      let set-cells : back .card .cells ≡ map clearedCell (take n cells) =
+      let set-cells : back .card .cells ≡ map clearedCell (take n cells) ++ behind =
       back .cells
       ∙ front .cells
-      ∙ sets-all (replicate n freshCell) (map clearedCell (take n cells)) (length-map (take n cells) clearedCell ∙ count ∙ sym start) in
+      ∙ sets-front (replicate n freshCell) behind (map clearedCell (take n cells)) (length-map (take n cells) clearedCell ∙ count ∙ sym start) in
       let long : length connectors ≡ length (front .card .connectors) = others ∙ sym (ap length (front .connectors)) in
       let set-connectors : back .card .connectors ≡ connectors = back .connectors ∙ sets-all (front .card .connectors) connectors long in
       let sound : Sound n trigger cells (back .card .connectors) = subst (Sound n trigger cells) (sym set-connectors) s in
@@ -377,7 +385,7 @@ module _ (n store : ℕ) (apart : firstCell + n ≤ firstConnector) where
 
 -- so every command of a wiring is printable, and its line reads back
 pub wiring-printable : (n trigger : ℕ) (cells : List Cell) (connectors : List Connector) → firstCell + n ≤ firstConnector
-    → valid n trigger cells connectors ≡ true → every printableCommand (wiring trigger (take n cells) connectors) ≡ true
+    → valid n trigger cells connectors ≡ true → every (printableCommand n) (wiring trigger (take n cells) connectors) ≡ true
 wiring-printable n trigger cells connectors apart ok = runs-printable (wiring-reaches n 0 apart trigger cells connectors ok .runs)
 
 pub settable : Settable
@@ -389,7 +397,7 @@ settable n reply store trigger cells connectors apart room ok =
       accepted-runs n reply store room (r .runs),
       record {
         trigger = ap (λ (c : Card). c .trigger) end ∙ r .trigger;
-        cells = ap (λ (c : Card). take n (c .cells)) end ∙ ap (take n) (r .cells) ∙ take-all n (map clearedCell (take n cells)) (omega arith);
+        cells = ap (λ (c : Card). take n (c .cells)) end ∙ ap (take n) (r .cells) ∙ take-at (map clearedCell (take n cells)) (replicate (cellRoom - n) freshCell) n long;
         connectors = ap (λ (c : Card). c .connectors) end ∙ r .connectors;
       },
     )

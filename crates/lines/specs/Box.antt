@@ -81,7 +81,7 @@ taking false v vs = vs
 
 offeredOf : List ℕ → List ℕ
 offeredOf [] = []
-offeredOf (v ∷ vs) = taking (offered v) v (offeredOf vs)
+offeredOf (v ∷ vs) = taking (offered cellCount v) v (offeredOf vs)
 
 -- ---- the run
 

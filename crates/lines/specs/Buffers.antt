@@ -1,5 +1,5 @@
--- Document 01, row 1 of "When the card says no", by the lengths of the two buffers, and document 02's "a store of that size", 308: lines to a fresh card, by
--- computation. With them the longest reply, which the shortest reply buffer holds.
+-- Document 01, row 1 of "When the card says no", by the lengths of the two buffers, and document 02's "a store of that size", 308, or 516 on thirty-two cells:
+-- lines to a fresh card, by computation. With them the longest reply, which the shortest reply buffer holds.
 use Prim.Native.Nat.{ℕ}
 use Prim.Native.String.{String}
 use mathlib.Core.Path.{_≡_, refl}
@@ -12,11 +12,11 @@ use Rattle.text.specs.Decimal.{isDigit, digitsOf, leads, plain, numberIn, numbe
 use Rattle.text.specs.Written.{bytesOf}
 use Rattle.cells.specs.Table.{rowOf}
 use Rattle.card.specs.declared.card.Card.{Card}
-use Rattle.card.specs.Address.{cellCount}
+use Rattle.card.specs.Address.{cellCount, cellRoom}
 use Rattle.card.specs.Context.{configShown}
 use Rattle.card.specs.Edits.{currentCell, currentConnector, putCell, typed, setType, configuredState, configured, setConfig}
 use Rattle.card.specs.Change.{changed}
-use Rattle.card.specs.Fresh.{fresh}
+use Rattle.card.specs.Fresh.{fresh, freshOf}
 use Rattle.card.specs.Valid.{badConfig, noConfig}
 use Rattle.lines.specs.Grammar.{isWord, isWhole, toEnd, slotOf, writeOf, ccaWrite, ccaRead, ccaForm, readForm, cardForm, plainForm, addressed, parse}
 use Rattle.lines.specs.Refusal.{refusal}
@@ -89,13 +89,71 @@ rows =
     ∷ row "36CCA Q=1" 17 275 2 6
     ∷ []
 
-given : Row → ℕ × ℕ
-given e =
-    (lineOutcome cellCount fresh (bytesOf (e .text)) (e .reply) (e .store) .k, length (lineReply cellCount fresh (bytesOf (e .text)) (e .reply) (e .store)))
+-- of a card of thirty-two cells, whose record has 516 bytes
+abbrev largeRows : List Row
+largeRows =
+    row "36SS Z" 0 0 1 0
+    ∷ row "36SS Z" 15 0 1 0
+    ∷ row "36SS Z" 16 0 1 6
+    ∷ row "36SS Z" 17 0 1 6
+    ∷ row "36SS Z" 0 276 1 0
+    ∷ row "36SS Z" 15 276 1 0
+    ∷ row "36SS Z" 16 276 1 6
+    ∷ row "36SS Z" 17 276 1 6
+    ∷ row "36SS Z" 0 308 1 0
+    ∷ row "36SS Z" 15 308 1 0
+    ∷ row "36SS Z" 16 308 1 6
+    ∷ row "36SS Z" 17 308 1 6
+    ∷ row "36SS Z" 0 515 1 0
+    ∷ row "36SS Z" 15 515 1 0
+    ∷ row "36SS Z" 16 515 1 6
+    ∷ row "36SS Z" 17 515 1 6
+    ∷ row "36SS Z" 0 516 1 0
+    ∷ row "36SS Z" 15 516 1 0
+    ∷ row "36SS Z" 16 516 0 4
+    ∷ row "36SS Z" 17 516 0 4
+    ∷ row "36SS Z" 0 517 1 0
+    ∷ row "36SS Z" 15 517 1 0
+    ∷ row "36SS Z" 16 517 0 4
+    ∷ row "36SS Z" 17 517 0 4
+    ∷ row "35SS Z" 0 0 1 0
+    ∷ row "35SS Z" 15 0 1 0
+    ∷ row "35SS Z" 16 0 3 6
+    ∷ row "35SS Z" 17 0 3 6
+    ∷ row "35SS Z" 0 276 1 0
+    ∷ row "35SS Z" 15 276 1 0
+    ∷ row "35SS Z" 16 276 3 6
+    ∷ row "35SS Z" 17 276 3 6
+    ∷ row "W E" 0 0 1 0
+    ∷ row "W E" 15 0 1 0
+    ∷ row "W E" 16 0 0 6
+    ∷ row "W E" 17 0 0 6
+    ∷ row "W E" 0 276 1 0
+    ∷ row "W E" 15 276 1 0
+    ∷ row "W E" 16 276 0 6
+    ∷ row "W E" 17 276 0 6
+    ∷ row "36CCA Q=1" 0 0 1 0
+    ∷ row "36CCA Q=1" 15 0 1 0
+    ∷ row "36CCA Q=1" 16 0 2 6
+    ∷ row "36CCA Q=1" 17 0 2 6
+    ∷ row "36CCA Q=1" 0 276 1 0
+    ∷ row "36CCA Q=1" 15 276 1 0
+    ∷ row "36CCA Q=1" 16 276 2 6
+    ∷ row "36CCA Q=1" 17 276 2 6
+    ∷ []
 
-examples : map given rows ≡ map (λ (e : Row). (e .k, e .len)) rows
-unfolding given listed bytesOf isDigit digitsOf leads plain numberIn numberAt decimalFrom decimal fresh currentCell currentConnector isWord isWhole toEnd slotOf writeOf ccaWrite ccaRead ccaForm readForm cardForm plainForm addressed parse refusal changed changeFor responseTo decision decisionFor lineDecision lineOutcome replyOf lineReply
-examples = refl
+-- the line to a fresh card of n cells
+given : ℕ → Row → ℕ × ℕ
+given n e =
+    let c = freshOf n in
+    (lineOutcome n c (bytesOf (e .text)) (e .reply) (e .store) .k, length (lineReply n c (bytesOf (e .text)) (e .reply) (e .store)))
+
+expected : Row → ℕ × ℕ
+expected e = (e .k, e .len)
+
+examples : (map (given cellCount) rows ≡ map expected rows) × (map (given cellRoom) largeRows ≡ map expected largeRows)
+unfolding given expected listed bytesOf isDigit digitsOf leads plain numberIn numberAt decimalFrom decimal fresh currentCell currentConnector isWord isWhole toEnd slotOf writeOf ccaWrite ccaRead ccaForm readForm cardForm plainForm addressed parse refusal changed changeFor responseTo decision decisionFor lineDecision lineOutcome replyOf lineReply
+examples = (refl, refl)
 
 -- the longest reply: the duration of a timer, in a buffer of 16 bytes
 afterLine : Card → String → Card

@@ -6,6 +6,7 @@ use lib.Dec.{eqb, leb, ltb}
 use lib.ListN.{length, getD}
 use Rattle.text.specs.Decimal.{isDigit, numberAt}
 use Rattle.cells.specs.Table.{slots, no-slot, anySlot}
+use Rattle.card.specs.Address.{cellRoom}
 use Rattle.lines.specs.declared.grammar.Pairs.{Pairs}
 use Rattle.lines.specs.declared.grammar.Ending.{Ending}
 use Rattle.lines.specs.declared.grammar.Reading.{Reading}
@@ -13,7 +14,7 @@ use Rattle.lines.specs.declared.grammar.Slot.{Slot}
 use Rattle.lines.specs.declared.grammar.Slot.the-variants.{X, Y, Z, F, NoSlot}
 use Rattle.lines.specs.declared.grammar.Command.{Command}
 use Rattle.lines.specs.declared.grammar.Command.the-variants.{Move, Where, Trigger, Home, Preset, SetKind, SetConfig, SetState, GetKind, GetConfig}
-use Rattle.lines.specs.declared.grammar.Command.the-variants.{GetState, SetSlots, GetSlot, Front, Back, Cells, Save}
+use Rattle.lines.specs.declared.grammar.Command.the-variants.{GetState, SetSlots, GetSlot, Front, Back, Cells, Upper, Save}
 use Rattle.lines.specs.declared.grammar.Parsed.{Parsed}
 use Rattle.lines.specs.declared.grammar.Parsed.the-variants.{Malformed, Elsewhere, Here}
 
@@ -143,17 +144,17 @@ unfoldable pub ccbForm : List ℕ → Parsed
 ccbForm t =
     cond ((eqb (charAt t 5) blank && eqb (charAt t 7) query) && eqb (length t) 8) (slotForm (slotOf (charAt t 6))) (pairsOf t 5)
 
--- `36RDADC X?` front levels, `Y?` backplane, `Z?` cells
-unfoldable pub readOf : Slot → Parsed
-readOf X = Here Front
-readOf Y = Here Back
-readOf Z = Here Cells
-readOf F = Malformed
-readOf NoSlot = Malformed
+-- `36RDADC X?` front levels, `Y?` backplane, `Z?` cells; document 02, "Thirty-two cells": "`36RDADC F?` reads cells 17 to 32", where there are any
+unfoldable pub readOf : ℕ → Slot → Parsed
+readOf n X = Here Front
+readOf n Y = Here Back
+readOf n Z = Here Cells
+readOf n F = cond (leb cellRoom n) (Here Upper) Malformed
+readOf n NoSlot = Malformed
 
 -- after `36RDADC `, at place 8
-unfoldable pub readForm : List ℕ → Parsed
-readForm t = cond (eqb (charAt t 9) query && eqb (length t) 10) (readOf (slotOf (charAt t 8))) Malformed
+unfoldable pub readForm : ℕ → List ℕ → Parsed
+readForm n t = cond (eqb (charAt t 9) query && eqb (length t) 10) (readOf n (slotOf (charAt t 8))) Malformed
 
 -- the words of the forms: `CCA `, `CCB`, `RDADC `, `SS Z`; `M E=`, `PM E=`, `W E`, `HOME E`, `! E`
 abbrev pub CCA : List ℕ
@@ -184,11 +185,11 @@ abbrev pub !-E : List ℕ
 !-E = 33 ∷ 32 ∷ 69 ∷ []
 
 -- a card command, behind the two digits of a card's address
-unfoldable pub cardForm : List ℕ → Parsed
-cardForm t =
+unfoldable pub cardForm : ℕ → List ℕ → Parsed
+cardForm n t =
     cond (isWord CCA 2 t) (ccaForm t)
     (cond (isWord CCB 2 t) (ccbForm t)
-    (cond (isWord RDADC 2 t) (readForm t) (cond (isWord SS-Z 2 t && eqb (length t) 6) (Here Save) Malformed)))
+    (cond (isWord RDADC 2 t) (readForm n t) (cond (isWord SS-Z 2 t && eqb (length t) 6) (Here Save) Malformed)))
 
 -- a number behind a word
 abbrev pub numbered : (ℕ → Command) → Ending → Parsed
@@ -212,8 +213,8 @@ addressed false (Here c) = Elsewhere
 abbrev pub longestLine : ℕ
 longestLine = 80
 
-unfoldable pub parse : List ℕ → Parsed
-parse t =
+unfoldable pub parse : ℕ → List ℕ → Parsed
+parse n t =
     cond (leb 1 (length t) && leb (length t) longestLine)
-    (cond (isDigit (charAt t 0) && isDigit (charAt t 1)) (addressed (eqb (charAt t 0) 51 && eqb (charAt t 1) 54) (cardForm t)) (plainForm t))
+    (cond (isDigit (charAt t 0) && isDigit (charAt t 1)) (addressed (eqb (charAt t 0) 51 && eqb (charAt t 1) 54) (cardForm n t)) (plainForm t))
     Malformed

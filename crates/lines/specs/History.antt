@@ -18,7 +18,7 @@ use Rattle.card.specs.Fresh.{noCell, noMemory, freshOf}
 use Rattle.ticks.specs.declared.tick.Input.{Input}
 use Rattle.ticks.specs.Reading.{slotsRead}
 use Rattle.ticks.specs.Tick
-use Rattle.ticks.specs.Tick.{moved, readIn}
+use Rattle.ticks.specs.Tick.{trimmed, moved, readIn}
 use Rattle.saved.specs.Record.{loadNumber}
 use Rattle.lines.specs.Line.{lineChange}
 use Rattle.lines.specs.Calls.{Call, afterCall, end}
@@ -82,7 +82,7 @@ module _ (n : ℕ) where
   lastNext c (load bytes) was = cond (eqb (loadNumber n bytes) 0) noMemory was
   lastNext c (tick full input) was =
       let a = Tick.tick n full c input .answer in
-      cond (a .ran) (moved was (a .driven) (a .cells) (Tick.lines n c input .levels)) was
+      cond (a .ran) (moved (trimmed n was) (a .driven) (a .cells) (Tick.lines n c input .levels)) was
 
   -- the cell words of the last three ticks that ran, the levels of the last two, and the driven word of the last
   unfoldable pub lastSince : Card → List Call → Memory → Memory

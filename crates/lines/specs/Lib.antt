@@ -8,8 +8,10 @@ pub mod History
 pub mod Rest
 pub mod SaveLoad
 pub mod Settable
+pub mod Sizes
 pub mod Box
 pub mod Examples
 pub mod Buffers
+pub mod Large
 -- Another view of a rule above: the way from settings to lines, which the laws of Settable go by.
 pub mod Wiring

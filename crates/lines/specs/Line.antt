@@ -12,14 +12,14 @@ use Rattle.card.specs.declared.change.Change.the-variants as Changes
 use Rattle.card.specs.declared.change.Wires.{Wires}
 use Rattle.card.specs.declared.context.Context.{Context}
 use Rattle.card.specs.Change.{changed}
-use Rattle.card.specs.Context.{contextOf, typeRead, configRead, stateRead, slotRead, frontRead, backRead}
+use Rattle.card.specs.Context.{contextOf, typeRead, configRead, stateRead, slotRead, frontRead, backRead, lowerRead, upperRead}
 use Rattle.saved.specs.Record.{configWidth, savedTo}
 use Rattle.lines.specs.declared.grammar.Pairs.{Pairs}
 use Rattle.lines.specs.declared.grammar.Slot.{Slot}
 use Rattle.lines.specs.declared.grammar.Slot.the-variants.{X, Y, Z, F, NoSlot}
 use Rattle.lines.specs.declared.grammar.Command.{Command}
 use Rattle.lines.specs.declared.grammar.Command.the-variants.{Move, Where, Trigger, Home, Preset, SetKind, SetConfig, SetState, GetKind, GetConfig}
-use Rattle.lines.specs.declared.grammar.Command.the-variants.{GetState, SetSlots, GetSlot, Front, Back, Cells, Save}
+use Rattle.lines.specs.declared.grammar.Command.the-variants.{GetState, SetSlots, GetSlot, Front, Back, Cells, Upper, Save}
 use Rattle.lines.specs.declared.grammar.Parsed.{Parsed}
 use Rattle.lines.specs.declared.grammar.Parsed.the-variants.{Malformed, Elsewhere, Here}
 use Rattle.lines.specs.declared.decision.Response.{Response}
@@ -61,6 +61,7 @@ changeFor x (GetSlot s) = Changes.Nothing
 changeFor x Front = Changes.Nothing
 changeFor x Back = Changes.Nothing
 changeFor x Cells = Changes.Nothing
+changeFor x Upper = Changes.Nothing
 changeFor x Save = Changes.Nothing
 
 -- what an accepted command makes of a card
@@ -102,7 +103,8 @@ responseTo x (SetSlots p) = silent
 responseTo x (GetSlot s) = number (slotRead x (slotIndex s))
 responseTo x Front = number (frontRead x)
 responseTo x Back = number (backRead x)
-responseTo x Cells = number (x .outputs)
+responseTo x Cells = number (lowerRead x)
+responseTo x Upper = number (upperRead x)
 responseTo x Save = saving
 
 -- ---- a line obeyed or refused
@@ -129,7 +131,7 @@ shortestReply = 16
 
 -- by the lengths of the two buffers: under 16 bytes of reply, nothing at all
 unfoldable pub lineDecision : ℕ → Context → List ℕ → ℕ → ℕ → Decision
-lineDecision n x text reply store = cond (ltb reply shortestReply) (refused 1) (decisionFor n x store (parse text))
+lineDecision n x text reply store = cond (ltb reply shortestReply) (refused 1) (decisionFor n x store (parse n text))
 
 -- the change that a line makes in a card
 abbrev pub lineChange : ℕ → Card → List ℕ → ℕ → ℕ → Change

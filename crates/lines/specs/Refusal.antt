@@ -14,7 +14,7 @@ use Rattle.lines.specs.declared.grammar.Slot.{Slot}
 use Rattle.lines.specs.declared.grammar.Slot.the-variants.{X, Y, Z, F, NoSlot}
 use Rattle.lines.specs.declared.grammar.Command.{Command}
 use Rattle.lines.specs.declared.grammar.Command.the-variants.{Move, Where, Trigger, Home, Preset, SetKind, SetConfig, SetState, GetKind, GetConfig}
-use Rattle.lines.specs.declared.grammar.Command.the-variants.{GetState, SetSlots, GetSlot, Front, Back, Cells, Save}
+use Rattle.lines.specs.declared.grammar.Command.the-variants.{GetState, SetSlots, GetSlot, Front, Back, Cells, Upper, Save}
 
 -- a number, where the test holds
 abbrev pub when : Bool → ℕ → ℕ
@@ -59,7 +59,7 @@ refusal n x store (Move v) = judged v (badPlace n v) 5
 refusal n x store Where = 0
 refusal n x store (Trigger v) = judged v (badClock v) 7
 refusal n x store Home = 0
-refusal n x store (Preset v) = orElse (judged v (not (offered v)) 8) (when (presetDrives x v) 13)
+refusal n x store (Preset v) = orElse (judged v (not (offered n v)) 8) (when (presetDrives n x v) 13)
 refusal n x store (SetKind v) =
     cond (x .celled) (judged v (badCellType v) 7) (orElse (judged v (badConnectorType v) 7) (when (drivesFront x v) 13))
 refusal n x store (SetConfig v) = cond (x .celled) (judged v (badConfig (x .cell .kind) v) 9) (judged v (badAddress n v) 11)
@@ -74,4 +74,5 @@ refusal n x store (GetSlot s) = orElse (when (not (x .celled)) 6) (when (unusedS
 refusal n x store Front = 0
 refusal n x store Back = 0
 refusal n x store Cells = 0
+refusal n x store Upper = 0
 refusal n x store Save = when (ltb store (recordLength n configWidth)) 1

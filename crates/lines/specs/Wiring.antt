@@ -3,19 +3,19 @@
 use Prim.Native.Nat.{ℕ, suc, _+_, _^_}
 use mathlib.Core.Bool.{Bool, true, false, _&&_, cond}
 use mathlib.Core.List.{List, [], _∷_, _++_, map}
-use lib.Dec.{eqb, ltb}
+use lib.Dec.{eqb, ltb, leb}
 use lib.ListN.{getD}
 use Rattle.text.specs.Decimal.{decimal, maxDigits}
 use Rattle.cells.specs.declared.cell.Cell.{Cell}
 use Rattle.cells.specs.Table.{rowOf, anySlot}
 use Rattle.card.specs.declared.card.Connector.{Connector}
-use Rattle.card.specs.Address.{firstCell, firstConnector}
+use Rattle.card.specs.Address.{cellRoom, firstCell, firstConnector}
 use Rattle.lines.specs.declared.grammar.Pairs.{Pairs}
 use Rattle.lines.specs.declared.grammar.Slot.{Slot}
 use Rattle.lines.specs.declared.grammar.Slot.the-variants.{X, Y, Z, F, NoSlot}
 use Rattle.lines.specs.declared.grammar.Command.{Command}
 use Rattle.lines.specs.declared.grammar.Command.the-variants.{Move, Where, Trigger, Home, Preset, SetKind, SetConfig, SetState, GetKind, GetConfig}
-use Rattle.lines.specs.declared.grammar.Command.the-variants.{GetState, SetSlots, GetSlot, Front, Back, Cells, Save}
+use Rattle.lines.specs.declared.grammar.Command.the-variants.{GetState, SetSlots, GetSlot, Front, Back, Cells, Upper, Save}
 use Rattle.lines.specs.Grammar.{equals, query, blank, CCA, CCB, RDADC, SS-Z, M-E=, PM-E=, W-E, HOME-E}
 
 -- ---- settings as commands
@@ -107,6 +107,7 @@ commandText (GetSlot p) = readText (CCB ++ blank ∷ []) p
 commandText Front = readText RDADC X
 commandText Back = readText RDADC Y
 commandText Cells = readText RDADC Z
+commandText Upper = readText RDADC F
 commandText Save = cardLine SS-Z
 
 -- the lines that set all settings
@@ -128,26 +129,27 @@ printableSlots p =
     (printableSlot (p .given .x) (p .x) && printableSlot (p .given .y) (p .y))
     && (printableSlot (p .given .z) (p .z) && printableSlot (p .given .f) (p .f))
 
--- numbers that have their form, and at least one slot in CCB
-unfoldable pub printableCommand : Command → Bool
-printableCommand (Move v) = printable v
-printableCommand Where = true
-printableCommand (Trigger v) = printable v
-printableCommand Home = true
-printableCommand (Preset v) = printable v
-printableCommand (SetKind v) = printable v
-printableCommand (SetConfig v) = printable v
-printableCommand (SetState v) = printable v
-printableCommand GetKind = true
-printableCommand GetConfig = true
-printableCommand GetState = true
-printableCommand (SetSlots p) = anySlot (p .given) && printableSlots p
-printableCommand (GetSlot NoSlot) = false
-printableCommand (GetSlot X) = true
-printableCommand (GetSlot Y) = true
-printableCommand (GetSlot Z) = true
-printableCommand (GetSlot F) = true
-printableCommand Front = true
-printableCommand Back = true
-printableCommand Cells = true
-printableCommand Save = true
+-- numbers that have their form, and at least one slot in CCB; and cells 17 to 32 where there are any
+unfoldable pub printableCommand : ℕ → Command → Bool
+printableCommand n (Move v) = printable v
+printableCommand n Where = true
+printableCommand n (Trigger v) = printable v
+printableCommand n Home = true
+printableCommand n (Preset v) = printable v
+printableCommand n (SetKind v) = printable v
+printableCommand n (SetConfig v) = printable v
+printableCommand n (SetState v) = printable v
+printableCommand n GetKind = true
+printableCommand n GetConfig = true
+printableCommand n GetState = true
+printableCommand n (SetSlots p) = anySlot (p .given) && printableSlots p
+printableCommand n (GetSlot NoSlot) = false
+printableCommand n (GetSlot X) = true
+printableCommand n (GetSlot Y) = true
+printableCommand n (GetSlot Z) = true
+printableCommand n (GetSlot F) = true
+printableCommand n Front = true
+printableCommand n Back = true
+printableCommand n Cells = true
+printableCommand n Upper = leb cellRoom n
+printableCommand n Save = true

@@ -1,7 +1,7 @@
 // What a line comes to, by a small part of the card: the number of its refusal, the change that it makes, and the response.
 ghost use mathlib.Core.Path.{_≡_};
 ghost use Prim.Native.Nat.{_%_};
-ghost use Rattle.card.specs.Address.{cellCount};
+ghost use Rattle.card.specs.Address.{cellsFor};
 ghost use Rattle.lines.specs.Refusal;
 ghost use Rattle.lines.specs.Refusal.{orElse, tooLarge};
 ghost use Rattle.lines.specs.Line;
@@ -113,10 +113,10 @@ fn refused(k: u8) -> Decision
 
 // What a command comes to.
 fn decide(x: Context, store: usize, command: Command) -> Decision
-    ensures { λ d. ⌜ d ≡ decision cellCount x store command ⌝ }
+    ensures { λ d. ⌜ d ≡ decision (cellsFor (x .size)) x store command ⌝ }
 {
     match command {
-        Command::Move(v) => writes::to_place(v),
+        Command::Move(v) => writes::to_place(v, x.size),
         Command::Where => read(0, x.pointer as Value),
         Command::Trigger(v) => writes::to_trigger(v),
         Command::Home => write(0, Change::Home),
@@ -131,14 +131,15 @@ fn decide(x: Context, store: usize, command: Command) -> Decision
         Command::GetSlot(s) => reads::slot(x, s),
         Command::Front => read(0, card::context::read_front(x)),
         Command::Back => read(0, card::context::read_back(x)),
-        Command::Cells => read(0, x.outputs as Value),
-        Command::Save => reads::save(store),
+        Command::Cells => read(0, card::context::read_lower(x)),
+        Command::Upper => read(0, card::context::read_upper(x)),
+        Command::Save => reads::save(store, x.size),
     }
 }
 
 // What a parsed line comes to, where the store has this many bytes. The card itself is not needed: Context holds what counts of it.
 pub fn decide_for(x: Context, store: usize, p: Parsed) -> Decision
-    ensures { λ d. ⌜ d ≡ decisionFor cellCount x store p ⌝ }
+    ensures { λ d. ⌜ d ≡ decisionFor (cellsFor (x .size)) x store p ⌝ }
 {
     match p {
         Parsed::Malformed => refused(2),

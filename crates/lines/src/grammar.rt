@@ -2,11 +2,13 @@
 ghost use mathlib.Core.Path.{_≡_};
 ghost use Prim.Native.Nat.{_≤_};
 ghost use lib.ListN.{length};
+ghost use Rattle.card.specs.Address.{cellsFor};
 ghost use Rattle.lines.specs.Grammar;
 ghost use Rattle.lines.specs.Grammar.{longestLine, charAt, isWord, isWhole, toEnd, slotOf};
 ghost use Rattle.lines.specs.Grammar.{writeOf, ccaWrite, ccaRead, ccaForm, slotForm, ccbForm, readOf, readForm};
 ghost use Rattle.lines.specs.Grammar.{cardForm, numbered, plainForm, parse};
 use crate::pairs::all_pairs;
+use card::limits::LARGE;
 use card::limits::Number;
 use cells::table::Slots;
 
@@ -49,6 +51,7 @@ pub enum Command {
     Front,
     Back,
     Cells,
+    Upper,
     Save,
 }
 
@@ -218,34 +221,45 @@ fn ccb_form(text: &[u8]) -> Parsed
     }
 }
 
+// The command of `36RDADC F?`, which only a large card has.
+fn upper_form(size: u8) -> Parsed
+    ensures { λ q. ⌜ q ≡ readOf (cellsFor size) Slot.F ⌝ }
+{
+    if size == LARGE {
+        Parsed::Here(Command::Upper)
+    } else {
+        Parsed::Malformed
+    }
+}
+
 // The command of `36RDADC p?`.
-fn read_of(p: Slot) -> Parsed
-    ensures { λ q. ⌜ q ≡ readOf p ⌝ }
+fn read_of(p: Slot, size: u8) -> Parsed
+    ensures { λ q. ⌜ q ≡ readOf (cellsFor size) p ⌝ }
 {
     match p {
         Slot::X => Parsed::Here(Command::Front),
         Slot::Y => Parsed::Here(Command::Back),
         Slot::Z => Parsed::Here(Command::Cells),
-        Slot::F => Parsed::Malformed,
+        Slot::F => upper_form(size),
         Slot::NoSlot => Parsed::Malformed,
     }
 }
 
 // Behind `36RDADC `.
-fn read_form(text: &[u8]) -> Parsed
-    ensures { λ q. ⌜ q ≡ readForm (now (text .entry)) ⌝ }
+fn read_form(text: &[u8], size: u8) -> Parsed
+    ensures { λ q. ⌜ q ≡ readForm (cellsFor size) (now (text .entry)) ⌝ }
 {
     if (char_at(text, 9) == b'?') & (text.len() == 10) {
-        read_of(slot_of(char_at(text, 8)))
+        read_of(slot_of(char_at(text, 8)), size)
     } else {
         Parsed::Malformed
     }
 }
 
 // A card command, behind the two digits of a card's address.
-fn card_form(text: &[u8]) -> Parsed
+fn card_form(text: &[u8], size: u8) -> Parsed
     requires { ⌜ length (now text) ≤ longestLine ⌝ }
-    ensures { λ q. ⌜ q ≡ cardForm (now (text .entry)) ⌝ }
+    ensures { λ q. ⌜ q ≡ cardForm (cellsFor size) (now (text .entry)) ⌝ }
 {
     if is_word(text, 2, b"CCA ") {
         return cca_form(text);
@@ -254,7 +268,7 @@ fn card_form(text: &[u8]) -> Parsed
         return ccb_form(text);
     }
     if is_word(text, 2, b"RDADC ") {
-        return read_form(text);
+        return read_form(text, size);
     }
     if is_word(text, 2, b"SS Z") & (text.len() == 6) {
         return Parsed::Here(Command::Save);
@@ -318,8 +332,8 @@ fn addressed(here: bool, p: Parsed) -> Parsed
 }
 
 // What the bytes of a line are: any bytes will do, and those of no form are malformed.
-pub fn parse_line(text: &[u8]) -> Parsed
-    ensures { λ q. ⌜ q ≡ parse (now (text .entry)) ⌝ }
+pub fn parse_line(text: &[u8], size: u8) -> Parsed
+    ensures { λ q. ⌜ q ≡ parse (cellsFor size) (now (text .entry)) ⌝ }
 {
     let n = text.len();
     if n < 1 {
@@ -331,7 +345,7 @@ pub fn parse_line(text: &[u8]) -> Parsed
     let a = char_at(text, 0);
     let b = char_at(text, 1);
     if text::is_digit(a) & text::is_digit(b) {
-        addressed((a == b'3') & (b == b'6'), card_form(text))
+        addressed((a == b'3') & (b == b'6'), card_form(text, size))
     } else {
         plain_form(text)
     }

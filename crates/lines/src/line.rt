@@ -6,7 +6,7 @@ ghost use Prim.Native.Nat.{_≤_, _<_, _^_};
 ghost use lib.ListN.{length};
 ghost use lib.Seq.{sets};
 ghost use Rattle.text.specs.Decimal.{decimal, maxDigits};
-ghost use Rattle.card.specs.Address.{cellCount};
+ghost use Rattle.card.specs.Address.{cellsFor};
 ghost use Rattle.saved.specs.Record.{configWidth, savedTo};
 ghost use Rattle.lines.specs.Line.{ending, replyOf, shortestReply, lineResult, resultOf};
 use crate::decision::Response;
@@ -56,7 +56,7 @@ fn put_reply(reply: &mut [u8], k: u8, r: Response) -> usize
 
 // Saves the record, where that was asked.
 fn save_if(asked: bool, card: Card, store: &mut [u8])
-    ensures { λ _. ⌜ now (store .exit) ≡ cond asked (savedTo cellCount configWidth card (now (store .entry))) (now (store .entry)) ⌝ }
+    ensures { λ _. ⌜ now (store .exit) ≡ cond asked (savedTo (cellsFor (card .size)) configWidth card (now (store .entry))) (now (store .entry)) ⌝ }
 {
     if asked {
         saved::record::save(card, store);
@@ -67,7 +67,7 @@ fn save_if(asked: bool, card: Card, store: &mut [u8])
 // to the front of the store; beyond these both are as they were. A refused line gives its number and leaves the card. Where the buffer has
 // fewer than SHORTEST_REPLY bytes, that number is 1 and nothing is written.
 pub fn line(card: Card, text: &[u8], reply: &mut [u8], store: &mut [u8]) -> Answered
-    ensures { λ r. ⌜ resultOf r (now (reply .exit)) (now (store .exit)) ≡ lineResult cellCount card (now (text .entry)) (now (reply .entry)) (now (store .entry)) ⌝ }
+    ensures { λ r. ⌜ resultOf r (now (reply .exit)) (now (store .exit)) ≡ lineResult (cellsFor (card .size)) card (now (text .entry)) (now (reply .entry)) (now (store .entry)) ⌝ }
     ensures { λ r. ⌜ r .len ≤ shortestReply ⌝ }
 {
     if reply.len() < SHORTEST_REPLY {
@@ -78,7 +78,7 @@ pub fn line(card: Card, text: &[u8], reply: &mut [u8], store: &mut [u8]) -> Answ
         };
     }
     let x = card::context::context_of(card);
-    let d = decide_for(x, store.len(), parse_line(text));
+    let d = decide_for(x, store.len(), parse_line(text, card.size));
     let k = d.k;
     let response = d.response;
     let change = d.change;

@@ -1,7 +1,7 @@
 // The commands that change nothing in the card and can be refused: three reads at the pointer, and the saving of the record.
 ghost use mathlib.Core.Path.{_≡_};
 ghost use lib.Dec.{ltb};
-ghost use Rattle.card.specs.Address.{cellCount};
+ghost use Rattle.card.specs.Address.{cellsFor};
 ghost use Rattle.saved.specs.Record.{configWidth, recordLength};
 ghost use Rattle.lines.specs.Refusal;
 ghost use Rattle.lines.specs.Line.{slotIndex, saving, decision};
@@ -16,11 +16,11 @@ use card::change::Change;
 use card::context::Context;
 use card::valid;
 use cells::table::Slots;
-use saved::record::RECORD_LENGTH;
+use saved::record::record_length;
 
 // `36CCA Z?`: the configuration of the current cell, or a connector's source; 9 where the type has none.
 pub fn config(x: Context) -> Decision
-    ensures { λ d. ⌜ d ≡ decision cellCount x 0 Command.GetConfig ⌝ }
+    ensures { λ d. ⌜ d ≡ decision (cellsFor (x .size)) x 0 Command.GetConfig ⌝ }
 {
     let cell = x.cell;
     let k = when(x.celled & valid::no_config(cell.kind), 9);
@@ -29,7 +29,7 @@ pub fn config(x: Context) -> Decision
 
 // `36CCA F?`: the state of the current cell; 6 at a connector, 12 where the type keeps none.
 pub fn state(x: Context) -> Decision
-    ensures { λ d. ⌜ d ≡ decision cellCount x 0 Command.GetState ⌝ }
+    ensures { λ d. ⌜ d ≡ decision (cellsFor (x .size)) x 0 Command.GetState ⌝ }
 {
     let cell = x.cell;
     let k = or_else(when(!x.celled, 6), when(valid::no_state(cell.kind), 12));
@@ -64,7 +64,7 @@ fn slot_index(s: Slot) -> usize
 
 // `36CCB p?`: the address in a slot of the current cell; 6 at a connector, 10 where the type does not use it.
 pub fn slot(x: Context, s: Slot) -> Decision
-    ensures { λ d. ⌜ d ≡ decision cellCount x 0 (Command.GetSlot s) ⌝ }
+    ensures { λ d. ⌜ d ≡ decision (cellsFor (x .size)) x 0 (Command.GetSlot s) ⌝ }
 {
     let cell = x.cell;
     let k = or_else(
@@ -75,11 +75,11 @@ pub fn slot(x: Context, s: Slot) -> Decision
 }
 
 // `36SS Z`, for a store of this many bytes: 1 where it is too short.
-pub fn save(store: usize) -> Decision
-    ensures { λ d. ⌜ d ≡ record { k = Refusal.when (ltb store (recordLength cellCount configWidth)) 1; change = Change.Nothing; response = saving } ⌝ }
+pub fn save(store: usize, size: u8) -> Decision
+    ensures { λ d. ⌜ d ≡ record { k = Refusal.when (ltb store (recordLength (cellsFor size) configWidth)) 1; change = Change.Nothing; response = saving } ⌝ }
 {
     Decision {
-        k: when(store < RECORD_LENGTH, 1),
+        k: when(store < record_length(size), 1),
         change: Change::Nothing,
         response: Response {
             number: false,

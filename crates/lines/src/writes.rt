@@ -2,7 +2,7 @@
 ghost use mathlib.Core.Bool.{not};
 ghost use mathlib.Core.Path.{_≡_};
 ghost use Prim.Native.Nat.{_%_};
-ghost use Rattle.card.specs.Address.{cellCount};
+ghost use Rattle.card.specs.Address.{cellsFor};
 ghost use Rattle.card.specs.Valid.{badPlace, badClock};
 ghost use Rattle.lines.specs.Refusal.{judged, anyGiven, anyTooLarge, anyBadAddress};
 ghost use Rattle.lines.specs.Line.{silent, wireOf, decided, decision};
@@ -35,11 +35,11 @@ fn low32(v: Number) -> u32
 }
 
 // `M E=v`.
-pub fn to_place(v: Number) -> Decision
-    ensures { λ d. ⌜ d ≡ decided (judged v (badPlace cellCount v) 5) (Change.Pointer v) silent ⌝ }
+pub fn to_place(v: Number, size: u8) -> Decision
+    ensures { λ d. ⌜ d ≡ decided (judged v (badPlace (cellsFor size) v) 5) (Change.Pointer v) silent ⌝ }
 {
     write(
-        decision::judged(v, valid::bad_place(v), 5),
+        decision::judged(v, valid::bad_place(v, size), 5),
         Change::Pointer(low8(v)),
     )
 }
@@ -56,9 +56,9 @@ pub fn to_trigger(v: Number) -> Decision
 
 // `36CCA X=v`. A preset that drives BNC1 while it is the trigger's input is 13.
 pub fn to_preset(x: Context, v: Number) -> Decision
-    ensures { λ d. ⌜ d ≡ decision cellCount x 0 (Command.Preset v) ⌝ }
+    ensures { λ d. ⌜ d ≡ decision (cellsFor (x .size)) x 0 (Command.Preset v) ⌝ }
 {
-    let k = decision::judged(v, card::presets::bad_preset(v), 8);
+    let k = decision::judged(v, card::presets::bad_preset(v, x.size), 8);
     write(
         or_else(k, when(card::context::preset_drives(x, v), 13)),
         Change::Preset(v),
@@ -67,7 +67,7 @@ pub fn to_preset(x: Context, v: Number) -> Decision
 
 // `36CCA Y=v`. At a connector 13 follows 7.
 pub fn to_kind(x: Context, v: Number) -> Decision
-    ensures { λ d. ⌜ d ≡ decision cellCount x 0 (Command.SetKind v) ⌝ }
+    ensures { λ d. ⌜ d ≡ decision (cellsFor (x .size)) x 0 (Command.SetKind v) ⌝ }
 {
     if x.celled {
         return write(
@@ -84,7 +84,7 @@ pub fn to_kind(x: Context, v: Number) -> Decision
 
 // `36CCA Z=v`: the configuration of a cell, or the source of a connector.
 pub fn to_config(x: Context, v: Number) -> Decision
-    ensures { λ d. ⌜ d ≡ decision cellCount x 0 (Command.SetConfig v) ⌝ }
+    ensures { λ d. ⌜ d ≡ decision (cellsFor (x .size)) x 0 (Command.SetConfig v) ⌝ }
 {
     let cell = x.cell;
     if x.celled {
@@ -94,14 +94,14 @@ pub fn to_config(x: Context, v: Number) -> Decision
         );
     }
     write(
-        decision::judged(v, valid::bad_address(v), 11),
+        decision::judged(v, valid::bad_address(v, x.size), 11),
         Change::Source(low8(v)),
     )
 }
 
 // `36CCA F=v`.
 pub fn to_state(x: Context, v: Number) -> Decision
-    ensures { λ d. ⌜ d ≡ decision cellCount x 0 (Command.SetState v) ⌝ }
+    ensures { λ d. ⌜ d ≡ decision (cellsFor (x .size)) x 0 (Command.SetState v) ⌝ }
 {
     let cell = x.cell;
     let k = decision::judged(v, !x.celled, 6);
@@ -128,21 +128,21 @@ fn any_too_large(p: Pairs) -> bool
     any_given(p.given, x, y, z, f)
 }
 
-fn any_bad_address(p: Pairs) -> bool
-    ensures { λ q. ⌜ q ≡ anyBadAddress cellCount p ⌝ }
+fn any_bad_address(p: Pairs, size: u8) -> bool
+    ensures { λ q. ⌜ q ≡ anyBadAddress (cellsFor size) p ⌝ }
 {
-    let bad = valid::bad_addresses(p.x, p.y, p.z, p.f);
+    let bad = valid::bad_addresses(p.x, p.y, p.z, p.f, size);
     any_given(p.given, bad.x, bad.y, bad.z, bad.f)
 }
 
 // All pairs or none: 4 and 6 come before 10 and 11, whichever pair meets them.
 fn slots_number(x: Context, p: Pairs) -> u8
-    ensures { λ k. ⌜ k ≡ decision cellCount x 0 (Command.SetSlots p) .k ⌝ }
+    ensures { λ k. ⌜ k ≡ decision (cellsFor (x .size)) x 0 (Command.SetSlots p) .k ⌝ }
 {
     let cell = x.cell;
     let first = or_else(when(any_too_large(p), 4), when(!x.celled, 6));
     let unused = when(valid::unused_slot(cell.kind, p.given), 10);
-    or_else(first, or_else(unused, when(any_bad_address(p), 11)))
+    or_else(first, or_else(unused, when(any_bad_address(p, x.size), 11)))
 }
 
 fn wire(given: bool, v: Number) -> u8
@@ -153,7 +153,7 @@ fn wire(given: bool, v: Number) -> u8
 
 // `36CCB` and its pairs: all of them take effect, or none.
 pub fn to_slots(x: Context, p: Pairs) -> Decision
-    ensures { λ d. ⌜ d ≡ decision cellCount x 0 (Command.SetSlots p) ⌝ }
+    ensures { λ d. ⌜ d ≡ decision (cellsFor (x .size)) x 0 (Command.SetSlots p) ⌝ }
 {
     let given = p.given;
     let wires = Wires {

@@ -1,14 +1,14 @@
 -- Laws of rows: how long one is and what it is made of, what an accepted one prints, and a row that is cut.
 use Prim.Native.Nat.{ℕ, _+_, _-_, _%_, _≤_, _<_}
 use mathlib.Core.Path.{_≡_, refl, sym, ap, _∙_}
-use mathlib.Core.Bool.{Bool, true, false, _&&_, _||_, and-false, true≢false}
+use mathlib.Core.Bool.{Bool, true, false, _&&_, _||_, cond, and-false, true≢false}
 use mathlib.Core.List.{List, [], _∷_, _++_}
 use mathlib.Core.Logic.{_⊎_, inl, inr, ⊎-elim}
 use native.Mathlib.Decide.{decLt}
 use native.Mathlib.Numerals.{add-one}
 use native.Mathlib.Omega.{arith}
 use lib.Dec.{eqb, leb}
-use lib.ListN.{length, getD, set, take, drop, length-append, length-take, length-drop, List·getD-eq-default}
+use lib.ListN.{length, getD, set, take, drop, replicate, length-replicate, length-append, length-take, length-drop, List·getD-eq-default}
 use lib.Seq.{sets, take-all, take-at, take-suc, take-suc-set}
 use borrow.Author.Tests.{eqb-true, leb-true, lt-leb, ne-eqb}
 use Rattle.text.specs.Digits.{every}
@@ -18,12 +18,14 @@ use Rattle.text.proofs.DigitLaws.{every-at}
 use Rattle.text.proofs.Stores.{Stored, behind}
 use Rattle.cells.proofs.Rows.{and-left, and-right}
 use Rattle.card.specs.declared.card.Card.{Card}
-use Rattle.card.specs.Address.{cellCount}
-use Rattle.card.specs.Fresh.{fresh}
-use Rattle.saved.specs.Record.{configWidth, recordOf, loadNumber, loaded}
+use Rattle.card.specs.Address.{cellCount, cellRoom, cellsFor}
+use Rattle.card.specs.Fresh.{freshOf}
+use Rattle.card.specs.Valid.{validCard}
+use Rattle.saved.specs.Record.{configWidth, recordLength, recordOf, loadNumber, loaded, savedTo}
+use Rattle.saved.proofs.Records.{valid-length, saved-front}
 use Rattle.convert.specs.Convert.{convertNumber, otherForm}
-use Rattle.loads.specs.Rows.{longestRow, isDash, isRow, hexOf, acceptedText, refusedText, answerTo, kept, rowAfter, rowAfterAll}
-use Rattle.loads.specs.Rows.{mostRoom, isConversion, convertedText, conversionText, printedElse, printed}
+use Rattle.loads.specs.Rows.{longestRow, isDash, isRow, isLarge, hexOf, acceptedText, refusedText, storeLength, savedFront, answerTo, kept, rowAfter}
+use Rattle.loads.specs.Rows.{mostRoom, rowAfterAll, isConversion, convertedText, conversionText, printedLast, printedElse, printed}
 
 -- ---- a row
 
@@ -52,12 +54,12 @@ module _ (row : List ℕ) (ok : isRow row ≡ true) where
 
 -- ---- a conversion
 
-pub no-blank : (row : List ℕ) → length row ≤ 4 → eqb (getD row 4 0) 32 ≡ false
-no-blank row h = rw (List·getD-eq-default row 0 h)
+pub no-blank : (row : List ℕ) (at : ℕ) → length row ≤ at → eqb (getD row at 0) 32 ≡ false
+no-blank row at h = rw (List·getD-eq-default row 0 h)
 
--- the record in it
-pub rest-of : (row : List ℕ) → take (length row - 5) (drop 5 row) ≡ drop 5 row
-rest-of row = take-all (length row - 5) (drop 5 row) (omega (arith, length-drop 5 row))
+-- the record in it, behind the first k bytes
+pub rest-of : (k : ℕ) (row : List ℕ) → take (length row - k) (drop k row) ≡ drop k row
+rest-of k row = take-all (length row - k) (drop k row) (omega (arith, length-drop k row))
 
 module _ (row : List ℕ) (ok : isConversion row ≡ true) where
   blank : Bool
@@ -76,7 +78,7 @@ module _ (row : List ℕ) (ok : isConversion row ≡ true) where
     where
       go : Dec (4 < length row) → 4 < length row
       go (yes h) = h
-      go (no h) = absurd (true≢false (sym (and-left blank (fits && isRow (drop 5 row)) parts) ∙ no-blank row (omega arith)))
+      go (no h) = absurd (true≢false (sym (and-left blank (fits && isRow (drop 5 row)) parts) ∙ no-blank row 4 (omega arith)))
 
   pub conversion-record : isRow (drop 5 row) ≡ true
   conversion-record = and-right fits (isRow (drop 5 row)) (and-right blank (fits && isRow (drop 5 row)) parts)
@@ -88,6 +90,25 @@ module _ (row : List ℕ) (ok : isConversion row ≡ true) where
       let all = and-left fits (isRow (drop 5 row)) (and-right blank (fits && isRow (drop 5 row)) parts) in
       leb-true (hexAt row 0 .value) mostRoom
       (and-right (hexAt row 0 .ok) room (and-right (leb (length row) longestRow) (hexAt row 0 .ok && room) all))
+
+-- ---- a record for a large card
+
+module _ (row : List ℕ) (ok : isLarge row ≡ true) where
+  large-parts : (eqb (getD row 2 0) 32 && ((leb (length row) longestRow && (eqb (getD row 0 0) 51 && eqb (getD row 1 0) 50)) && isRow (drop 3 row))) ≡ true
+  unfolding isLarge
+  large-parts = ok
+
+  pub large-long : 2 < length row
+  large-long = go (decLt 2 (length row))
+    where
+      go : Dec (2 < length row) → 2 < length row
+      go (yes h) = h
+      go (no h) = absurd (true≢false (sym (and-left (eqb (getD row 2 0) 32) _ large-parts) ∙ no-blank row 2 (omega arith)))
+
+  pub large-record : isRow (drop 3 row) ≡ true
+  large-record =
+      and-right (leb (length row) longestRow && (eqb (getD row 0 0) 51 && eqb (getD row 1 0) 50)) (isRow (drop 3 row))
+      (and-right (eqb (getD row 2 0) 32) _ large-parts)
 
 -- ---- texts
 
@@ -105,14 +126,33 @@ accepted-stored l store saved x y z p q r es ex ep ey eq ez er =
 
 -- ---- answers
 
-pub answer-refused : (bytes : List ℕ) (k : ℕ) → k ≡ loadNumber cellCount bytes → (k ≡ 0 → ⊥) → refusedText k ≡ answerTo bytes
+pub answer-refused : (n : ℕ) (bytes : List ℕ) (k : ℕ) → k ≡ loadNumber n bytes → (k ≡ 0 → ⊥) → refusedText k ≡ answerTo n bytes
 unfolding answerTo
-answer-refused bytes k e ne = rw (← e, ne-eqb k 0 ne)
+answer-refused n bytes k e ne = rw (← e, ne-eqb k 0 ne)
 
-pub answer-accepted : (bytes : List ℕ) (c : Card) → loadNumber cellCount bytes ≡ 0 → c ≡ loaded cellCount fresh bytes
-    → acceptedText (recordOf cellCount configWidth c) ≡ answerTo bytes
+pub answer-accepted : (n : ℕ) (bytes : List ℕ) → loadNumber n bytes ≡ 0
+    → acceptedText (recordOf n configWidth (loaded n (freshOf n) bytes)) ≡ answerTo n bytes
 unfolding answerTo
-answer-accepted bytes c e ec = rw (e, ec)
+answer-accepted n bytes e = rw e
+
+-- a save of a valid card writes its record
+pub front-is : (n : ℕ) (c : Card) → cellsFor (c .size) ≡ n → validCard n c ≡ true → n ≤ cellRoom → savedFront c ≡ recordOf n configWidth c
+unfolding savedFront
+front-is n c e ok most =
+    let zeros : List ℕ = replicate storeLength 0 in
+    let room : recordLength n configWidth ≤ length zeros = omega (arith, length-replicate {A = ℕ} storeLength 0) in
+    ap (λ (m : ℕ). take (recordLength m configWidth) (savedTo m configWidth c zeros)) e
+    ∙ ap (take (recordLength n configWidth)) (saved-front n configWidth c zeros ok room)
+    ∙ take-at (recordOf n configWidth c) (drop (recordLength n configWidth) zeros) (recordLength n configWidth) (valid-length n configWidth c ok)
+
+-- a size once more
+pub size-again : (size : ℕ) → cellsFor (cellsFor size) ≡ cellsFor size
+unfolding cellsFor
+size-again size = go (eqb size cellRoom)
+  where
+    go : (b : Bool) → cond (eqb (cond b cellRoom cellCount) cellRoom) cellRoom cellCount ≡ cond b cellRoom cellCount
+    go true = refl
+    go false = refl
 
 pub conversion-refused : (room : ℕ) (bytes : List ℕ) (k : ℕ) → k ≡ convertNumber cellCount room bytes → (k ≡ 0 → ⊥)
     → decimal k ++ (32 ∷ 48 ∷ 32 ∷ 45 ∷ 10 ∷ []) ≡ conversionText room bytes
@@ -134,9 +174,13 @@ too-long-else : (row : List ℕ) → longestRow < length row → isConversion ro
 unfolding isConversion
 too-long-else row h = rw (lt-leb (length row) longestRow h) (and-false (eqb (getD row 4 0) 32))
 
+too-long-last : (row : List ℕ) → longestRow < length row → isLarge row ≡ false
+unfolding isLarge
+too-long-last row h = rw (lt-leb (length row) longestRow h) (and-false (eqb (getD row 2 0) 32))
+
 -- it prints what the whole would
 pub printed-cut : (row : List ℕ) → printed (take kept row) ≡ printed row
-unfolding printed printedElse
+unfolding printed printedElse printedLast
 printed-cut row = go (decLt kept (length row))
   where
     go : Dec (kept < length row) → printed (take kept row) ≡ printed row
@@ -147,6 +191,8 @@ printed-cut row = go (decLt kept (length row))
           too-long row (omega arith),
           too-long-else (take kept row) (omega (arith, n)),
           too-long-else row (omega arith),
+          too-long-last (take kept row) (omega (arith, n)),
+          too-long-last row (omega arith),
         )
     go (no h) = ap printed (take-all kept row (omega arith))
 

@@ -1,5 +1,6 @@
 // Loads records into fresh cards, and converts them: a row of standard input is a record in small hex digits, two a byte, and ends with LF. `-`, or a
-// row of no digits, is a record of no bytes. A row `ROOM RECORD` is a record to be converted, with the length of the buffer in four hex digits.
+// row of no digits, is a record of no bytes. A row `32 RECORD` is a record for a card of 32 cells, others are for one of sixteen. A row `ROOM RECORD` is
+// a record to be converted, with the length of the buffer in four hex digits.
 //
 // A record prints `K SAVED`: the number of the load, 0 where it is accepted, and the record that a save of the loaded card writes, in hex, `-` where
 // the load was refused. One to be converted prints `K LENGTH RESULT`, with 0 and `-` where it is refused. A row of another form, of more than 1100
@@ -13,13 +14,14 @@ ghost use lib.ListN.{length, take};
 ghost use lib.Seq.{sets};
 ghost use Rattle.text.specs.Digits.{every};
 ghost use Rattle.text.specs.Hex.{isHex, hexValue};
-ghost use Rattle.card.specs.Address.{cellCount};
-ghost use Rattle.card.specs.Valid.{validCard};
-ghost use Rattle.saved.specs.Record.{configWidth, recordOf};
+ghost use Rattle.card.specs.Address.{cellsFor};
+ghost use Rattle.saved.specs.Record.{configWidth, recordLength};
 ghost use Rattle.loads.specs.Rows.{isDash, isRow, mostBytes, bytesIn, digitPair, hexOf};
-ghost use Rattle.loads.specs.Rows.{acceptedText, refusedText, answerTo, longestPrint, kept, rowAfter, rowAfterAll};
-ghost use Rattle.loads.specs.Rows.{mostResult, isConversion, convertedText, conversionText, printedElse, printed};
+ghost use Rattle.loads.specs.Rows.{acceptedText, refusedText, storeLength, savedFront, answerTo, longestPrint, kept, rowAfter, rowAfterAll};
+ghost use Rattle.loads.specs.Rows.{mostResult, isLarge, isConversion, convertedText, conversionText, printedLast, printedElse, printed};
 use card::card::Card;
+use card::limits::LARGE;
+use card::limits::SMALL;
 use libc::STDIN_FILENO;
 use libc::STDOUT_FILENO;
 
@@ -65,6 +67,18 @@ fn is_conversion(row: &[u8]) -> bool
     let room = text::hex4_at(row, 0);
     let fits = (n <= 1100) & (room.ok & (room.value <= 620));
     (row[4] == b' ') & (fits & is_row(&row[5..n]))
+}
+
+// `32`, a blank and a record.
+fn is_large(row: &[u8]) -> bool
+    ensures { λ q. ⌜ q ≡ isLarge (now (row .entry)) ⌝ }
+{
+    let n = row.len();
+    if n < 3 {
+        return false;
+    }
+    let fits = (n <= 1100) & ((row[0] == b'3') & (row[1] == b'2'));
+    (row[2] == b' ') & (fits & is_row(&row[3..n]))
 }
 
 // The byte that two digits say.
@@ -125,29 +139,37 @@ fn put_refused(out: &mut [u8], k: u8) -> usize
     text::copy(out, at, b" -\n")
 }
 
+// How many bytes a save of a card of a size writes.
+fn front_length(size: u8) -> usize
+    ensures { λ r. ⌜ r ≡ recordLength (cellsFor size) configWidth ⌝ }
+    ensures { λ r. ⌜ r ≤ storeLength ⌝ }
+{
+    saved::record::record_length(size)
+}
+
 // What an accepted load prints.
 fn put_accepted(out: &mut [u8], card: Card) -> usize
     requires { ⌜ longestPrint ≤ length (now out) ⌝ }
-    requires { ⌜ validCard cellCount card ≡ true ⌝ }
-    ensures { λ _. ⌜ now (out .exit) ≡ sets (now (out .entry)) 0 (acceptedText (recordOf cellCount configWidth card)) ⌝ }
-    ensures { λ r. ⌜ r ≡ length (acceptedText (recordOf cellCount configWidth card)) ⌝ }
+    ensures { λ _. ⌜ now (out .exit) ≡ sets (now (out .entry)) 0 (acceptedText (savedFront card)) ⌝ }
+    ensures { λ r. ⌜ r ≡ length (acceptedText (savedFront card)) ⌝ }
     ensures { λ r. ⌜ r ≤ longestPrint ⌝ }
 {
-    let mut store = [0u8; 308];
+    let mut store = [0u8; 516];
     saved::record::save(card, &mut store);
+    let n = front_length(card.size);
     let at = text::copy(out, 0, b"0 ");
-    let end = put_hex(out, at, &store);
+    let end = put_hex(out, at, &store[0..n]);
     text::copy(out, end, b"\n")
 }
 
-// What the load of some bytes prints.
-fn answer(bytes: &[u8], out: &mut [u8]) -> usize
+// What the load of some bytes into a fresh card of a size prints.
+fn answer(bytes: &[u8], out: &mut [u8], size: u8) -> usize
     requires { ⌜ longestPrint ≤ length (now out) ⌝ }
-    ensures { λ _. ⌜ now (out .exit) ≡ sets (now (out .entry)) 0 (answerTo (now (bytes .entry))) ⌝ }
-    ensures { λ r. ⌜ r ≡ length (answerTo (now (bytes .entry))) ⌝ }
+    ensures { λ _. ⌜ now (out .exit) ≡ sets (now (out .entry)) 0 (answerTo (cellsFor size) (now (bytes .entry))) ⌝ }
+    ensures { λ r. ⌜ r ≡ length (answerTo (cellsFor size) (now (bytes .entry))) ⌝ }
     ensures { λ r. ⌜ r ≤ longestPrint ⌝ }
 {
-    let loaded = saved::record::load(card::card::fresh(), bytes);
+    let loaded = saved::record::load(card::card::fresh_of(size), bytes);
     let k = loaded.k;
     let card = loaded.card;
     if k != 0 {
@@ -185,7 +207,23 @@ fn answer_conversion(bytes: &[u8], buffer: &mut [u8], out: &mut [u8]) -> usize
     put_converted(out, &buffer[0..n])
 }
 
-// What a row prints that is no record. The buffer is not empty, so that a byte beyond the result would show.
+// What a row prints that is neither a record for a small card nor one to be converted.
+fn print_last(row: &[u8], out: &mut [u8]) -> usize
+    requires { ⌜ longestPrint ≤ length (now out) ⌝ }
+    ensures { λ _. ⌜ now (out .exit) ≡ sets (now (out .entry)) 0 (printedLast (now (row .entry))) ⌝ }
+    ensures { λ r. ⌜ r ≡ length (printedLast (now (row .entry))) ⌝ }
+    ensures { λ r. ⌜ r ≤ longestPrint ⌝ }
+{
+    if !is_large(row) {
+        return text::copy(out, 0, b"?\n");
+    }
+    let n = row.len();
+    let mut bytes = [0u8; 550];
+    let n = bytes_in(&row[3..n], &mut bytes);
+    answer(&bytes[0..n], out, LARGE)
+}
+
+// What a row prints that is no record for a small card. The buffer is not empty, so that a byte beyond the result would show.
 fn print_else(row: &[u8], out: &mut [u8]) -> usize
     requires { ⌜ longestPrint ≤ length (now out) ⌝ }
     ensures { λ _. ⌜ now (out .exit) ≡ sets (now (out .entry)) 0 (printedElse (now (row .entry))) ⌝ }
@@ -193,7 +231,7 @@ fn print_else(row: &[u8], out: &mut [u8]) -> usize
     ensures { λ r. ⌜ r ≤ longestPrint ⌝ }
 {
     if !is_conversion(row) {
-        return text::copy(out, 0, b"?\n");
+        return print_last(row, out);
     }
     let room = text::hex4_at(row, 0);
     let room = room.value as usize;
@@ -216,7 +254,7 @@ fn print_row(row: &[u8], out: &mut [u8]) -> usize
     }
     let mut bytes = [0u8; 550];
     let n = bytes_in(row, &mut bytes);
-    answer(&bytes[0..n], out)
+    answer(&bytes[0..n], out, SMALL)
 }
 
 // ---- the input
@@ -225,7 +263,7 @@ fn print_row(row: &[u8], out: &mut [u8]) -> usize
 fn show(line: &[u8], len: usize) -> bool
     requires { ⌜ len ≤ length (now line) ⌝ }
 {
-    let mut out = [0u8; 640];
+    let mut out = [0u8; 1040];
     let n = print_row(&line[0..len], &mut out);
     io::write_all(STDOUT_FILENO, &out[0..n])
 }

@@ -9,6 +9,7 @@ use card::chart::ADDRESSES;
 use card::chart::Entry;
 use card::chart::chart;
 use card::chart::entry_of;
+use card::limits::SMALL;
 
 // The most bytes of a field, ten digits and what ends it, and of a row. All rows have room in this many.
 const FIELD_MOST: usize = 11;
@@ -52,7 +53,7 @@ fn put_chart(out: &mut [u8; TEXT_MOST]) -> usize
     let c = chart();
     let mut at = 0;
     for a in 0..ADDRESSES {
-        let e = entry_of(&c, a as u8);
+        let e = entry_of(&c, a as u8, SMALL);
         at = put_row(out, at, a as u8, e);
     }
     at

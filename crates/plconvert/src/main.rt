@@ -1,4 +1,5 @@
-// The program of document 02, "Records for cards already at sea": it reads one record, and writes the same settings in the other form. A refusal is a
+// The program of document 02, "Records for cards already at sea": it reads one record, and writes the same settings in the other form, those of a card of
+// 32 cells in the old form of sixteen. A refusal is a
 // line `:N-k` on the error output.
 use libc::STDERR_FILENO;
 use libc::STDIN_FILENO;
@@ -11,9 +12,9 @@ fn refuse(k: u8) {
     io::write_all(STDERR_FILENO, &line[0..n]);
 }
 
-// One byte more than the longest record is read: an input that goes on is of neither length.
+// One byte more than the longest record is read: an input that goes on is of no form's length.
 fn main() {
-    let mut bytes = [0u8; 309];
+    let mut bytes = [0u8; 517];
     let mut result = [0u8; 308];
     let given = io::read_full(STDIN_FILENO, &mut bytes);
     let done = convert::convert(&bytes[0..given], &mut result);

@@ -1,6 +1,6 @@
 // What plrun reads, line by line with its answers and what they mean. Constant memory, whatever the input.
 ghost use mathlib.Core.Path.{_≡_};
-ghost use Rattle.card.specs.Address.{cellCount};
+ghost use Rattle.card.specs.Address.{cellsFor};
 ghost use Rattle.console.specs.Console.{entered};
 ghost use lib.ListN.{take};
 ghost use Prim.Native.Nat.{_≤_};
@@ -42,8 +42,8 @@ fn write_front(out: &[u8], n: usize) -> bool {
 
 // A line has ended: it is entered, and what is said of it is written.
 fn end_line(card: Card, text: &[u8], store: &mut [u8], out: &mut Page) -> State
-    ensures { λ r. ⌜ r .card ≡ entered cellCount card (now (text .entry)) (now (store .entry)) .card ⌝ }
-    ensures { λ r. ⌜ now (store .exit) ≡ entered cellCount card (now (text .entry)) (now (store .entry)) .store ⌝ }
+    ensures { λ r. ⌜ r .card ≡ entered (cellsFor (card .size)) card (now (text .entry)) (now (store .entry)) .card ⌝ }
+    ensures { λ r. ⌜ now (store .exit) ≡ entered (cellsFor (card .size)) card (now (text .entry)) (now (store .entry)) .store ⌝ }
 {
     let done = explain(card, text, store, out);
     let next = done.card;

@@ -82,10 +82,10 @@ fn put_connectors(before: Card, after: Card) -> bool {
 
 // The refusal of a line with this preset.
 fn refusal(card: Card, v: Number) -> u64 {
-    if bad_preset(v) {
+    if bad_preset(v, card.size) {
         return 8;
     }
-    if (card.trigger == 4) & sets_front(v) {
+    if (card.trigger == 4) & sets_front(v, card.size) {
         return 13;
     }
     0

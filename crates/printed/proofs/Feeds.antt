@@ -19,7 +19,7 @@ use Rattle.lines.specs.declared.grammar.Slot.{Slot}
 use Rattle.lines.specs.declared.grammar.Slot.the-variants.{X, Y, Z, F, NoSlot}
 use Rattle.lines.specs.declared.grammar.Command.{Command}
 use Rattle.lines.specs.declared.grammar.Command.the-variants.{Move, Where, Trigger, Home, Preset, SetKind, SetConfig, SetState, GetKind, GetConfig}
-use Rattle.lines.specs.declared.grammar.Command.the-variants.{GetState, SetSlots, GetSlot, Front, Back, Cells, Save}
+use Rattle.lines.specs.declared.grammar.Command.the-variants.{GetState, SetSlots, GetSlot, Front, Back, Cells, Upper, Save}
 use Rattle.lines.specs.Calls.{end}
 use Rattle.lines.specs.Settable.{Settable}
 use Rattle.lines.specs.Wiring.{letterOf, givenPairs, pairsText, commandText, wiring, wiringLines}
@@ -77,6 +77,7 @@ line-free (GetSlot s) = rw (letter-free s)
 line-free Front = refl
 line-free Back = refl
 line-free Cells = refl
+line-free Upper = refl
 line-free Save = refl
 
 -- ---- the lines of a text

@@ -25,7 +25,7 @@ printedCell kind config slots = commandsText (cellCommands 0 (whole kind config 
 -- cells of the longest lines on a card whose connectors have the longest sources
 longCard : Card
 longCard =
-    started 0 (replicate 16 (whole 17 4294967295 (225 ∷ 225 ∷ 225 ∷ 225 ∷ []))) (replicate 16 (record { kind = 2; source = 225 })) 0
+    started 16 0 (replicate 16 (whole 17 4294967295 (225 ∷ 225 ∷ 225 ∷ 225 ∷ []))) (replicate 16 (record { kind = 2; source = 225 })) 0
 
 -- given, expected
 abbrev table : List (List ℕ × List ℕ)

@@ -5,7 +5,7 @@ use mathlib.Core.Bool.{true}
 use lib.ListN.{length}
 use Rattle.text.specs.Decimal.{decimalFrom, decimal}
 use Rattle.card.specs.declared.card.Card.{Card}
-use Rattle.card.specs.Address.{cellCount, connectorCount, firstCell, firstConnector}
+use Rattle.card.specs.Address.{cellCount, cellRoom, connectorCount, firstCell, firstConnector}
 use Rattle.card.specs.Valid.{validCard}
 use Rattle.printed.specs.Print.{wiringText, printNumber}
 
@@ -49,6 +49,11 @@ longest n = places firstCell cellLines 0 n + (places firstConnector connectorLin
 longest-now : longest cellCount ≡ 1534
 unfolding longest places decimal decimalFrom
 longest-now = refl
+
+-- and of thirty-two
+longest-large : longest cellRoom ≡ 2606
+unfolding longest places decimal decimalFrom
+longest-large = refl
 
 -- no card that lines can set prints more, so a buffer of that length is never too short
 pub record Longest (n : ℕ) : Type 0 where

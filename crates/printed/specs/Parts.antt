@@ -5,7 +5,7 @@ use mathlib.Core.List.{List, [], _∷_, _++_, map}
 use Rattle.text.specs.Decimal.{decimal, maxDigits}
 use Rattle.cells.specs.declared.cell.Cell.{Cell}
 use Rattle.cells.specs.Table.{rowOf, anySlot}
-use Rattle.card.specs.Address.{cellCount, connectorCount}
+use Rattle.card.specs.Address.{cellRoom, connectorCount}
 use Rattle.lines.specs.declared.grammar.Command.{Command}
 use Rattle.lines.specs.declared.grammar.Command.the-variants.{SetSlots}
 use Rattle.lines.specs.Wiring.{only, pairsIn, commandText}
@@ -48,7 +48,7 @@ abbrev pub connectorMost : ℕ
 connectorMost = 3 * numberMost
 
 abbrev pub cellsMost : ℕ
-cellsMost = cellCount * cellMost
+cellsMost = cellRoom * cellMost
 
 abbrev pub textMost : ℕ
 textMost = cellsMost + (connectorCount * connectorMost + numberMost)

@@ -4,7 +4,7 @@ ghost use Prim.Native.Nat.{_+_, _*_, _^_, _<_, _≤_};
 ghost use lib.ListN.{length, take};
 ghost use lib.Seq.{sets};
 ghost use Rattle.text.specs.Decimal.{maxDigits};
-ghost use Rattle.card.specs.Address.{cellCount, connectorCount};
+ghost use Rattle.card.specs.Address.{cellRoom, connectorCount};
 ghost use Rattle.lines.specs.Wiring.{cellCommands, connectorCommands, commandsFrom};
 ghost use Rattle.printed.specs.Parts.{commandsText, slotsText, slotsMost, cellMost, connectorMost, cellsMost, textMost};
 ghost use Rattle.printed.specs.Parts;
@@ -84,7 +84,7 @@ fn put_slots(out: &mut [u8; TEXT_MOST], at: usize, cell: Cell) -> usize
 
 // The lines of cell i.
 fn put_cell(out: &mut [u8; TEXT_MOST], at: usize, i: u8, cell: Cell) -> usize
-    requires { ⌜ i < cellCount ⌝ }
+    requires { ⌜ i < cellRoom ⌝ }
     requires { ⌜ at + cellMost ≤ textMost ⌝ }
     ensures { λ _. ⌜ now (out .exit) ≡ sets (now (out .entry)) at (commandsText (cellCommands i cell)) ⌝ }
     ensures { λ r. ⌜ r ≡ at + length (commandsText (cellCommands i cell)) ⌝ }
@@ -110,16 +110,17 @@ fn put_connector(out: &mut [u8; TEXT_MOST], at: usize, k: u8, c: Connector) -> u
     put(out, z, true, b"36CCA Z=", c.source as u32, b"\n")
 }
 
-// The lines of all cells, at the front.
-pub fn put_cells(out: &mut [u8; TEXT_MOST], cells: [Cell; CELLS]) -> usize
-    ensures { λ _. ⌜ now (out .exit) ≡ sets (now (out .entry)) 0 (commandsText (commandsFrom cellCommands 0 (take cellCount cells))) ⌝ }
-    ensures { λ r. ⌜ r ≡ 0 + length (commandsText (commandsFrom cellCommands 0 (take cellCount cells))) ⌝ }
+// The lines of the first n cells, at the front.
+pub fn put_cells(out: &mut [u8; TEXT_MOST], cells: [Cell; CELLS], n: u8) -> usize
+    requires { ⌜ n ≤ cellRoom ⌝ }
+    ensures { λ _. ⌜ now (out .exit) ≡ sets (now (out .entry)) 0 (commandsText (commandsFrom cellCommands 0 (take n cells))) ⌝ }
+    ensures { λ r. ⌜ r ≡ 0 + length (commandsText (commandsFrom cellCommands 0 (take n cells))) ⌝ }
     ensures { λ r. ⌜ r ≤ cellsMost ⌝ }
 {
     let mut at: usize = 0;
-    for i in 0..CELLS as u8 {
-        let n = i as usize;
-        at = put_cell(out, at, i, cells[n]);
+    for i in 0..n {
+        let k = i as usize;
+        at = put_cell(out, at, i, cells[k]);
     }
     at
 }

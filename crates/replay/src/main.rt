@@ -3,10 +3,10 @@
 // `pair-a` and `pair-b` differ only in which ticks are quick, so that what they print differs only
 // in woken sets and their counts. `busy` sessions are random and busy with every rule. The
 // `corners` are worked out by hand from the rules of counters, of triggers during a pulse, of
-// constants, of lines with nothing attached and of numbers of ten digits. The wirings that end in
-// `.lines` are those of the folder examples. `edge` and `late` are worked out by hand from the
-// rules of ticks; `count-quick` and `count-full` are one counter made of flip-flops, ticked both
-// ways.
+// constants, of lines with nothing attached, of numbers of ten digits, and of what only a card of
+// thirty-two cells takes. The wirings that end in `.lines` are those of the folder examples. `edge`
+// and `late` are worked out by hand from the rules of ticks; `count-quick` and `count-full` are one
+// counter made of flip-flops, ticked both ways.
 // `manual` holds the examples of docs/MANUAL.md, in its order; docs/check-manual compares them.
 // `long` is more than a buffer of input and of output: lines cut at every place by the end of a
 // block of 2048 bytes, lines of thousands of bytes, NUL bytes, and a last line without LF. Ticks,
@@ -41,6 +41,7 @@ fn main() {
     replay(b"constant-corners.in");
     replay(b"unplugged-corners.in");
     replay(b"long-exposure-corners.in");
+    replay(b"sixteen-corners.in");
     replay(b"clock.lines");
     replay(b"n-pulses.lines");
     replay(b"pass-n-m.lines");

@@ -33,7 +33,7 @@ fn put_tick(out: &[u8], len: usize, rests: bool)
 
 // A line of a wiring. Only a tick prints.
 fn take_line(card: Card, line: &[u8], store: &mut [u8; 308]) -> Card {
-    let mut out = [0u8; 32];
+    let mut out = [0u8; 36];
     let entered = console::enter(card, line, store, &mut out);
     let next = entered.card;
     let t = console::tick_line(line);

@@ -13,6 +13,7 @@ use lib.Seq.{sets, length-sets, take-all, take-at, take-add, take-append-add, ta
 use borrow.Author.Tests.{ne-eqb}
 use Rattle.text.proofs.Stores.{front}
 use Rattle.card.specs.declared.card.Card.{Card}
+use Rattle.card.specs.Address.{cellsFor}
 use Rattle.console.specs.Console.{longestPrint, entered}
 use Rattle.console.proofs.Long.{entered-long}
 use Rattle.runner.specs.declared.State.{State}
@@ -55,18 +56,18 @@ kept-cut l text k hl ek =
 
 -- ---- the bytes of a block
 
-pub takes-append : (n : ℕ) (s : RunState) (xs ys : List ℕ) → takesAll n s (xs ++ ys) ≡ takesAll n (takesAll n s xs) ys
+pub takes-append : (s : RunState) (xs ys : List ℕ) → takesAll s (xs ++ ys) ≡ takesAll (takesAll s xs) ys
 unfolding takesAll
-takes-append n s [] ys = refl
-takes-append n s (b ∷ bs) ys = takes-append n (takes n s b) bs ys
+takes-append s [] ys = refl
+takes-append s (b ∷ bs) ys = takes-append (takes s b) bs ys
 
 -- bytes without LF make the line longer
-takes-part : (n : ℕ) (s : RunState) (bs : List ℕ) → ((k : ℕ) → k < length bs → getD bs k 0 ≡ 10 → ⊥) → takesAll n s bs ≡ longer s bs
+takes-part : (s : RunState) (bs : List ℕ) → ((k : ℕ) → k < length bs → getD bs k 0 ≡ 10 → ⊥) → takesAll s bs ≡ longer s bs
 unfolding takesAll
-takes-part n s [] none = λ i. record { card = s .card; store = s .store; line = sym (append-nil (s .line)) i; printed = s .printed }
-takes-part n s (b ∷ bs) none =
+takes-part s [] none = λ i. record { card = s .card; store = s .store; line = sym (append-nil (s .line)) i; printed = s .printed }
+takes-part s (b ∷ bs) none =
     let first : b ≡ 10 → ⊥ = none 0 (omega arith) in
-    let ih = takes-part n (longer s (b ∷ [])) bs (λ k g. none (suc k) (omega arith)) in
+    let ih = takes-part (longer s (b ∷ [])) bs (λ k g. none (suc k) (omega arith)) in
     rw (ne-eqb b 10 first)
     (ih ∙ (λ i. record { card = s .card; store = s .store; line = append-assoc (s .line) (b ∷ []) bs i; printed = s .printed }))
 
@@ -91,27 +92,27 @@ entered-cut n c l store = go (decLt kept (length l))
         entered-long n c (cut l) l store (omega (arith, e)) (omega arith)
     go (no h) = ap (λ (t : List ℕ). entered n c t store) (take-all kept l (omega arith))
 
-ended-kept : (n : ℕ) (s : RunState) → ended n (keptOf s) ≡ ended n s
-ended-kept n s = ap (afterEntry s) (entered-cut n (s .card) (s .line) (s .store))
+ended-kept : (s : RunState) → ended (keptOf s) ≡ ended s
+ended-kept s = ap (afterEntry s) (entered-cut (cellsFor (s .card .size)) (s .card) (s .line) (s .store))
 
 kept-longer : (s : RunState) (more : List ℕ) → keptOf (longer (keptOf s) more) ≡ keptOf (longer s more)
 kept-longer s more = λ i. record { card = s .card; store = s .store; line = cut-cut (s .line) more i; printed = s .printed }
 
 -- the bytes that follow do the same to a line that was cut
-kept-takes : (n : ℕ) (s : RunState) (bs : List ℕ) → keptOf (takesAll n (keptOf s) bs) ≡ keptOf (takesAll n s bs)
+kept-takes : (s : RunState) (bs : List ℕ) → keptOf (takesAll (keptOf s) bs) ≡ keptOf (takesAll s bs)
 unfolding takesAll
-kept-takes n s [] = λ i. record { card = s .card; store = s .store; line = take-take kept kept (s .line) (le-refl kept) i; printed = s .printed }
-kept-takes n s (b ∷ bs) = go (λ x. kept-takes n x bs) (eqb b 10)
+kept-takes s [] = λ i. record { card = s .card; store = s .store; line = take-take kept kept (s .line) (le-refl kept) i; printed = s .printed }
+kept-takes s (b ∷ bs) = go (λ x. kept-takes x bs) (eqb b 10)
   where
-    go : ((x : RunState) → keptOf (takesAll n (keptOf x) bs) ≡ keptOf (takesAll n x bs)) → (lf : Bool)
-        → keptOf (takesAll n (cond lf (ended n (keptOf s)) (longer (keptOf s) (b ∷ []))) bs) ≡ keptOf (takesAll n (cond lf (ended n s) (longer s (b ∷ []))) bs)
-    go ih true = ap (λ (x : RunState). keptOf (takesAll n x bs)) (ended-kept n s)
+    go : ((x : RunState) → keptOf (takesAll (keptOf x) bs) ≡ keptOf (takesAll x bs)) → (lf : Bool)
+        → keptOf (takesAll (cond lf (ended (keptOf s)) (longer (keptOf s) (b ∷ []))) bs) ≡ keptOf (takesAll (cond lf (ended s) (longer s (b ∷ []))) bs)
+    go ih true = ap (λ (x : RunState). keptOf (takesAll x bs)) (ended-kept s)
     go ih false =
-        sym (ih (longer (keptOf s) (b ∷ []))) ∙ ap (λ (x : RunState). keptOf (takesAll n x bs)) (kept-longer s (b ∷ [])) ∙ ih (longer s (b ∷ []))
+        sym (ih (longer (keptOf s) (b ∷ []))) ∙ ap (λ (x : RunState). keptOf (takesAll x bs)) (kept-longer s (b ∷ [])) ∙ ih (longer s (b ∷ []))
 
 -- so a run that takes its input block by block stands where all the bytes at once would have brought it
-pub block-by-block : (n : ℕ) (s : RunState) (xs ys : List ℕ) → keptOf (takesAll n (keptOf (takesAll n s xs)) ys) ≡ keptOf (takesAll n s (xs ++ ys))
-block-by-block n s xs ys = kept-takes n (takesAll n s xs) ys ∙ ap keptOf (sym (takes-append n s xs ys))
+pub block-by-block : (s : RunState) (xs ys : List ℕ) → keptOf (takesAll (keptOf (takesAll s xs)) ys) ≡ keptOf (takesAll s (xs ++ ys))
+block-by-block s xs ys = kept-takes (takesAll s xs) ys ∙ ap keptOf (sym (takes-append s xs ys))
 
 -- ---- a part of a block
 
@@ -147,26 +148,26 @@ abbrev pub inBlock : State → (block store out : List ℕ) → (start end : ℕ
 inBlock s block store out start end = record { card = s .card; store = store; line = part start end block; printed = take (s .used) out }
 
 -- the first line, which may have begun in an earlier block
-pub first-line : (n : ℕ) (s : State) (block store out : List ℕ) (end : ℕ) → s .len ≤ end
+pub first-line : (s : State) (block store out : List ℕ) (end : ℕ) → s .len ≤ end
     → ((k : ℕ) → k < end → s .len ≤ k → getD block k 0 ≡ 10 → ⊥)
-    → inBlock s block store out 0 end ≡ takesAll n (stateOf s store block out) (part (s .len) end block)
-first-line n s block store out end h none =
+    → inBlock s block store out 0 end ≡ takesAll (stateOf s store block out) (part (s .len) end block)
+first-line s block store out end h none =
     let len : s .len - 0 ≡ s .len = omega arith in
     let line : part 0 end block ≡ take (s .len) block ++ part (s .len) end block =
     part-append block 0 (s .len) end (omega arith) h ∙ ap (λ (n : ℕ). take n block ++ part (s .len) end block) len in
     (λ i. record { card = s .card; store = store; line = line i; printed = take (s .used) out })
-    ∙ sym (takes-part n (stateOf s store block out) (part (s .len) end block) (free-part block (s .len) end none))
+    ∙ sym (takes-part (stateOf s store block out) (part (s .len) end block) (free-part block (s .len) end none))
 
 -- an LF, and the bytes up to the next one
-pub next-line : (n : ℕ) (x₀ x : RunState) (block : List ℕ) (from end next : ℕ) → from ≤ end → end < next → next ≤ length block → getD block end 0 ≡ 10
-    → ((k : ℕ) → k < next → end + 1 ≤ k → getD block k 0 ≡ 10 → ⊥) → x ≡ takesAll n x₀ (part from end block)
-    → longer (ended n x) (part (end + 1) next block) ≡ takesAll n x₀ (part from next block)
+pub next-line : (x₀ x : RunState) (block : List ℕ) (from end next : ℕ) → from ≤ end → end < next → next ≤ length block → getD block end 0 ≡ 10
+    → ((k : ℕ) → k < next → end + 1 ≤ k → getD block k 0 ≡ 10 → ⊥) → x ≡ takesAll x₀ (part from end block)
+    → longer (ended x) (part (end + 1) next block) ≡ takesAll x₀ (part from next block)
 unfolding takesAll
-next-line n x₀ x block from end next h k fits lf none e =
+next-line x₀ x block from end next h k fits lf none e =
     let rest = part (end + 1) next block in
     let bytes : part from next block ≡ part from end block ++ (10 ∷ rest) =
     part-append block from end next h (omega arith)
     ∙ ap (λ (t : List ℕ). part from end block ++ t) (part-cons block end next k fits ∙ ap (λ (b : ℕ). b ∷ rest) lf) in
-    sym (takes-part n (ended n x) rest (free-part block (end + 1) next none))
-    ∙ ap (λ (y : RunState). takesAll n (ended n y) rest) e
-    ∙ sym (ap (takesAll n x₀) bytes ∙ takes-append n x₀ (part from end block) (10 ∷ rest))
+    sym (takes-part (ended x) rest (free-part block (end + 1) next none))
+    ∙ ap (λ (y : RunState). takesAll (ended y) rest) e
+    ∙ sym (ap (takesAll x₀) bytes ∙ takes-append x₀ (part from end block) (10 ∷ rest))

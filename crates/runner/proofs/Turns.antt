@@ -8,6 +8,7 @@ use native.Mathlib.Omega.{arith}
 use lib.Dec.{eqb, ltb}
 use lib.ListN.{length, take, replicate, length-append}
 use lib.Seq.{length-take-le}
+use Rattle.card.specs.Address.{cellsFor}
 use Rattle.card.specs.Fresh.{freshOf}
 use Rattle.saved.specs.Record.{configWidth, recordLength}
 use Rattle.console.specs.Console.{longestPrint, Entry, entered}
@@ -21,15 +22,15 @@ behind : List ℕ → RunState → RunState
 behind p s = record { card = s .card; store = s .store; line = s .line; printed = p ++ s .printed }
 
 -- what was printed before changes nothing
-takes-behind : (n : ℕ) (p : List ℕ) (s : RunState) (bs : List ℕ) → takesAll n (behind p s) bs ≡ behind p (takesAll n s bs)
+takes-behind : (p : List ℕ) (s : RunState) (bs : List ℕ) → takesAll (behind p s) bs ≡ behind p (takesAll s bs)
 unfolding takesAll behind
-takes-behind n p s [] = refl
-takes-behind n p s (b ∷ bs) = ap (λ (x : RunState). takesAll n x bs) (go (eqb b 10)) ∙ takes-behind n p (takes n s b) bs
+takes-behind p s [] = refl
+takes-behind p s (b ∷ bs) = ap (λ (x : RunState). takesAll x bs) (go (eqb b 10)) ∙ takes-behind p (takes s b) bs
   where
     e : Entry
-    e = entered n (s .card) (s .line) (s .store)
+    e = entered (cellsFor (s .card .size)) (s .card) (s .line) (s .store)
 
-    go : (lf : Bool) → cond lf (ended n (behind p s)) (longer (behind p s) (b ∷ [])) ≡ behind p (cond lf (ended n s) (longer s (b ∷ [])))
+    go : (lf : Bool) → cond lf (ended (behind p s)) (longer (behind p s) (b ∷ [])) ≡ behind p (cond lf (ended s) (longer s (b ∷ [])))
     go true = λ i. record { card = e .card; store = e .store; line = []; printed = append-assoc p (s .printed) (e .printed) i }
     go false = refl
 
@@ -40,9 +41,9 @@ behind-flushed s = λ i. record { card = s .card; store = s .store; line = s .li
 -- a run stands at x, with these totals of bytes taken and printed
 pub record Reached (n : ℕ) (x : RunState) (taken printed : ℕ) : Type 0 where
   pub input : List ℕ
-  pub stands : flushed x ≡ flushed (keptOf (takesAll n (startState n) input))
+  pub stands : flushed x ≡ flushed (keptOf (takesAll (startState n) input))
   pub bytes : length input ≡ taken
-  pub prints : length (takesAll n (startState n) input .printed) ≡ printed
+  pub prints : length (takesAll (startState n) input .printed) ≡ printed
 
 pub reached-start : (n : ℕ) (r : Run) (line out : List ℕ) → r .card ≡ freshOf n → r .len ≡ 0 → r .taken ≡ 0 → r .printed ≡ 0
     → Reached n (runStateOf r (replicate (recordLength n configWidth) 0) line out) (r .taken) (r .printed)
@@ -55,7 +56,7 @@ reached-start n r line out card len taken printed =
       prints = sym printed;
     }
 
-pub reached-turn : (n : ℕ) (x y : RunState) (bs : List ℕ) (t p t′ p′ : ℕ) → Reached n x t p → y ≡ keptOf (takesAll n (flushed x) bs) → t′ ≡ t + length bs
+pub reached-turn : (n : ℕ) (x y : RunState) (bs : List ℕ) (t p t′ p′ : ℕ) → Reached n x t p → y ≡ keptOf (takesAll (flushed x) bs) → t′ ≡ t + length bs
     → p′ ≡ p + length (y .printed) → Reached n y t′ p′
 unfolding behind
 reached-turn n x y bs t p t′ p′ r e et ep =
@@ -67,18 +68,18 @@ reached-turn n x y bs t p t′ p′ r e et ep =
     }
   where
     before : RunState
-    before = keptOf (takesAll n (startState n) (r .input))
+    before = keptOf (takesAll (startState n) (r .input))
 
     old : List ℕ
     old = before .printed
 
     -- the whole input brings the run to y, behind what was printed before
-    whole : keptOf (takesAll n (startState n) (r .input ++ bs)) ≡ behind old y
+    whole : keptOf (takesAll (startState n) (r .input ++ bs)) ≡ behind old y
     whole =
-        sym (block-by-block n (startState n) (r .input) bs)
-        ∙ ap (λ (s : RunState). keptOf (takesAll n s bs)) (sym (behind-flushed before))
-        ∙ ap keptOf (takes-behind n old (flushed before) bs)
-        ∙ ap (λ (s : RunState). behind old (keptOf (takesAll n s bs))) (sym (r .stands))
+        sym (block-by-block (startState n) (r .input) bs)
+        ∙ ap (λ (s : RunState). keptOf (takesAll s bs)) (sym (behind-flushed before))
+        ∙ ap keptOf (takes-behind old (flushed before) bs)
+        ∙ ap (λ (s : RunState). behind old (keptOf (takesAll s bs))) (sym (r .stands))
         ∙ ap (behind old) (sym e)
 
 -- ---- between two turns

@@ -6,6 +6,7 @@ use mathlib.Core.List.{List, [], _∷_, _++_}
 use lib.Dec.{eqb}
 use lib.ListN.{length, take, drop, replicate}
 use Rattle.card.specs.declared.card.Card.{Card}
+use Rattle.card.specs.Address.{cellsFor}
 use Rattle.card.specs.Fresh.{freshOf}
 use Rattle.saved.specs.Record.{configWidth, recordLength}
 use Rattle.console.specs.Console.{longestPrint, Entry, entered}
@@ -13,7 +14,7 @@ use Rattle.printed.specs.Print.{printLength, printedTo}
 use Rattle.runner.specs.declared.State.{State}
 use Rattle.runner.specs.declared.Run.{Run}
 
--- ---- what bytes of input do, to a card of n cells
+-- ---- what bytes of input do, to a card of its size
 
 -- after some bytes of input: the card, the store, the line that has not ended, and all that has been printed
 pub record RunState : Type 0 where
@@ -30,19 +31,19 @@ startState n = record { card = freshOf n; store = replicate (recordLength n conf
 abbrev pub afterEntry : RunState → Entry → RunState
 afterEntry s e = record { card = e .card; store = e .store; line = []; printed = s .printed ++ e .printed }
 
-abbrev pub ended : ℕ → RunState → RunState
-ended n s = afterEntry s (entered n (s .card) (s .line) (s .store))
+abbrev pub ended : RunState → RunState
+ended s = afterEntry s (entered (cellsFor (s .card .size)) (s .card) (s .line) (s .store))
 
 abbrev pub longer : RunState → List ℕ → RunState
 longer s more = record { card = s .card; store = s .store; line = s .line ++ more; printed = s .printed }
 
 -- a byte of input, and all of them
-abbrev pub takes : ℕ → RunState → ℕ → RunState
-takes n s b = cond (eqb b 10) (ended n s) (longer s (b ∷ []))
+abbrev pub takes : RunState → ℕ → RunState
+takes s b = cond (eqb b 10) (ended s) (longer s (b ∷ []))
 
-unfoldable pub takesAll : ℕ → RunState → List ℕ → RunState
-takesAll n s [] = s
-takesAll n s (b ∷ bs) = takesAll n (takes n s b) bs
+unfoldable pub takesAll : RunState → List ℕ → RunState
+takesAll s [] = s
+takesAll s (b ∷ bs) = takesAll (takes s b) bs
 
 -- ---- what the program keeps
 
@@ -91,11 +92,18 @@ pub record Counted (r : Run) : Type 0 where
 -- was handed to write, unless the run is quiet
 pub record Ran (n : ℕ) (r : Run) (input : List ℕ) : Type 0 where
   pub taken : length input ≡ r .taken
-  pub card : r .card ≡ takesAll n (startState n) input .card
-  pub len : r .len ≡ length (cut (takesAll n (startState n) input .line))
-  pub printed : r .printed ≡ length (takesAll n (startState n) input .printed)
+  pub card : r .card ≡ takesAll (startState n) input .card
+  pub len : r .len ≡ length (cut (takesAll (startState n) input .line))
+  pub printed : r .printed ≡ length (takesAll (startState n) input .printed)
+
+-- the wiring of a card of its size, and its length
+abbrev pub printedNow : Card → List ℕ → List ℕ
+printedNow c before = printedTo (cellsFor (c .size)) c before
+
+abbrev pub printedSize : Card → ℕ → ℕ
+printedSize c room = printLength (cellsFor (c .size)) c room
 
 -- what plprint does with this input: the buffer holds the wiring of the card that it leaves
 pub record Wired (n : ℕ) (input : List ℕ) (len : ℕ) (before after : List ℕ) : Type 0 where
-  pub text : after ≡ printedTo n (takesAll n (startState n) input .card) before
-  pub size : len ≡ printLength n (takesAll n (startState n) input .card) (length before)
+  pub text : after ≡ printedNow (takesAll (startState n) input .card) before
+  pub size : len ≡ printedSize (takesAll (startState n) input .card) (length before)

@@ -15,7 +15,7 @@ ghost use mathlib.Core.Path.{_≡_};
 ghost use Prim.Native.Nat.{ℕ, _≤_, _<_, _+_, _-_, _*_, min};
 ghost use lib.Dec.{ltb};
 ghost use lib.ListN.{length, take, getD};
-ghost use Rattle.card.specs.Address.{cellCount};
+ghost use Rattle.card.specs.Address.{cellCount, cellsFor};
 ghost use Rattle.card.specs.Fresh.{fresh};
 ghost use Rattle.console.specs.Console.{longestPrint, entered};
 ghost use Rattle.runner.specs.Run.{part, takesAll, kept, cut, keptOf, flushed, blockLength, outputLength, mostReads, stateOf, runStateOf, Counted, Ran, Wired};
@@ -37,7 +37,7 @@ const BUFFER: usize = LINE + BLOCK;
 const STORE: usize = 308;
 
 // `longestPrint`: no line prints more.
-const ROOM: usize = 32;
+const ROOM: usize = 36;
 
 // `outputLength`: each byte of a block ends one line at most.
 const OUTPUT: usize = ROOM * BLOCK;
@@ -121,9 +121,9 @@ fn keep(line: &mut [u8; LINE], text: &[u8]) -> usize
 // A line has ended: it is entered, and what it prints goes behind what is printed already.
 fn enter(state: State, text: &[u8], store: &mut [u8], out: &mut [u8]) -> State
     requires { ⌜ state .used + longestPrint ≤ length (now out) ⌝ }
-    ensures { λ r. ⌜ r .card ≡ entered cellCount (state .card) (now (text .entry)) (now (store .entry)) .card ⌝ }
-    ensures { λ r. ⌜ now (store .exit) ≡ entered cellCount (state .card) (now (text .entry)) (now (store .entry)) .store ⌝ }
-    ensures { λ r. ⌜ take (r .used) (now (out .exit)) ≡ take (state .used) (now (out .entry)) ++ entered cellCount (state .card) (now (text .entry)) (now (store .entry)) .printed ⌝ }
+    ensures { λ r. ⌜ r .card ≡ entered (cellsFor (state .card .size)) (state .card) (now (text .entry)) (now (store .entry)) .card ⌝ }
+    ensures { λ r. ⌜ now (store .exit) ≡ entered (cellsFor (state .card .size)) (state .card) (now (text .entry)) (now (store .entry)) .store ⌝ }
+    ensures { λ r. ⌜ take (r .used) (now (out .exit)) ≡ take (state .used) (now (out .entry)) ++ entered (cellsFor (state .card .size)) (state .card) (now (text .entry)) (now (store .entry)) .printed ⌝ }
     ensures { λ r. ⌜ r .used ≤ state .used + longestPrint ⌝ }
 {
     let card = state.card;
@@ -150,7 +150,7 @@ fn take_block(
     requires { ⌜ state .len ≤ n ⌝ }
     requires { ⌜ n ≤ length (now block) ⌝ }
     requires { ⌜ state .used + longestPrint * (n - state .len) ≤ outputLength ⌝ }
-    ensures { λ r. ⌜ stateOf r (now (store .exit)) (now (line .exit)) (now (out .exit)) ≡ keptOf (takesAll cellCount (stateOf state (now (store .entry)) (now (block .entry)) (now (out .entry))) (part (state .len) n (now (block .entry)))) ⌝ }
+    ensures { λ r. ⌜ stateOf r (now (store .exit)) (now (line .exit)) (now (out .exit)) ≡ keptOf (takesAll (stateOf state (now (store .entry)) (now (block .entry)) (now (out .entry))) (part (state .len) n (now (block .entry)))) ⌝ }
     ensures { λ r. ⌜ r .len ≤ kept ⌝ }
     ensures { λ r. ⌜ length (now (line .exit)) ≡ kept ⌝ }
     ensures { λ r. ⌜ r .used ≤ state .used + longestPrint * (n - state .len) ⌝ }
@@ -229,7 +229,7 @@ fn turn(
     requires { ⌜ 0 < run .left ⌝ }
     requires { ⌜ Counted run ⌝ }
     ensures { λ r. ⌜ r .got ≤ blockLength ⌝ }
-    ensures { λ r. ⌜ runStateOf r (now (store .exit)) (now (line .exit)) (now (out .exit)) ≡ keptOf (takesAll cellCount (flushed (runStateOf run (now (store .entry)) (now (line .entry)) (now (out .entry)))) (part (run .len) (run .len + r .got) (now (block .exit)))) ⌝ }
+    ensures { λ r. ⌜ runStateOf r (now (store .exit)) (now (line .exit)) (now (out .exit)) ≡ keptOf (takesAll (flushed (runStateOf run (now (store .entry)) (now (line .entry)) (now (out .entry)))) (part (run .len) (run .len + r .got) (now (block .exit)))) ⌝ }
     ensures { λ r. ⌜ r .going ≡ (ltb 0 (r .got) && r .wrote) ⌝ }
     ensures { λ r. ⌜ r .len ≤ kept ⌝ }
     ensures { λ r. ⌜ length (now (line .exit)) ≡ kept ⌝ }
@@ -293,7 +293,7 @@ fn run_with(input: i32, shows: bool) -> Run
     ensures { λ r. ⌜ (r .going ≡ true → r .left ≡ 0) ⌝ }
 {
     let mut block = [0u8; BUFFER];
-    let mut out = io::large_buffer();
+    let mut out = [0u8; OUTPUT];
     let mut line = [0u8; LINE];
     let mut store = [0u8; STORE];
     let mut r = start();

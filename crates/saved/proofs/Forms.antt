@@ -18,14 +18,14 @@ use Rattle.cells.proofs.Laws.{constant-largest}
 use Rattle.cells.proofs.Rows.{and-right}
 use Rattle.card.specs.declared.card.Card.{Card}
 use Rattle.card.specs.declared.card.Connector.{Connector}
-use Rattle.card.specs.Address.{connectorCount}
+use Rattle.card.specs.Address.{cellRoom, connectorCount}
 use Rattle.card.specs.Connectors.{noConnector}
 use Rattle.card.specs.Fresh.{clearState, noCell}
 use Rattle.card.specs.Valid.{validCell, valid, validCard}
 use Rattle.card.specs.Edits.{clearedCell}
 use Rattle.card.proofs.Settings.{every-at, Sound, split, cell-slots, cell-config, config-most, valid-cleared, valid-first}
 use Rattle.card.proofs.Slots.{four}
-use Rattle.saved.specs.Record.{bigEndian, bigValue, triggerField, cellField, connectorField, fieldsFrom, encode, triggerLength, cellLength}
+use Rattle.saved.specs.Record.{bigEndian, bigValue, triggerField, cellField, connectorField, fieldsFrom, encode, configWidth, triggerLength, cellLength}
 use Rattle.saved.specs.Record.{connectorLength, recordLength, triggerIn, cellIn, connectorIn, cellsIn, connectorsIn, recordOf, sameBytes, loadNumberAs}
 use Rattle.saved.specs.Record.{normalConfig, normalCell, loadCells, normalRecord, SmallConstants, poweredUp, loadedAs}
 use Rattle.saved.proofs.Fields.{fields-length, field-at, fields-map, length-big, big-read, big-under, same-refl, same-sound, same-not}
@@ -49,6 +49,12 @@ connector-length k c = refl
 -- a cell's field lies before those of the connectors
 pub cell-inside : (n width i : ℕ) → i < n → triggerLength + i * cellLength width + cellLength width ≤ triggerLength + n * cellLength width
 cell-inside n width i h = omega (arith, mul-le-mul-right (cellLength width) h, suc-mul i (cellLength width))
+
+-- the fields of the cells of any card are no more than 416 bytes
+pub cells-small : (n width : ℕ) → n ≤ cellRoom → width ≤ configWidth → n * cellLength width ≤ 416
+cells-small n width h k =
+    let l : cellLength width ≤ 13 = omega arith in
+    omega (arith, mul-le-mul-right (cellLength width) h)
 
 -- the fields of all cells, and of all connectors
 abbrev front : ℕ → List Cell → List ℕ
@@ -260,7 +266,7 @@ valid-from n width bytes cells rest e =
     (ap (take n) e ∙ cells-taken n width bytes rest ∙ sym (cells-all n width bytes))
 
 pub loaded-from : (n width : ℕ) (d : Card) (bytes : List ℕ) (cells : List Cell) → cells ≡ loadCells n width bytes ++ drop n (d .cells)
-    → loadNumberAs n width bytes ≡ 0 → loadedAs n width d bytes ≡ poweredUp n (triggerIn bytes) cells (connectorsIn n width bytes)
+    → loadNumberAs n width bytes ≡ 0 → loadedAs n width d bytes ≡ poweredUp n (d .size) (triggerIn bytes) cells (connectorsIn n width bytes)
 unfolding loadedAs
 loaded-from n width d bytes cells ec e = rw (e, ec)
 
@@ -337,7 +343,7 @@ module _ (n width : ℕ) (d : Card) (bytes : List ℕ) (ok : loadNumberAs n widt
   cells : List Cell
   cells = loadCells n width bytes ++ drop n (d .cells)
 
-  powered : loadedAs n width d bytes ≡ poweredUp n (triggerIn bytes) cells (connectorsIn n width bytes)
+  powered : loadedAs n width d bytes ≡ poweredUp n (d .size) (triggerIn bytes) cells (connectorsIn n width bytes)
   unfolding cells
   powered = loaded-from n width d bytes cells refl ok
 
@@ -414,8 +420,8 @@ module _ (n width : ℕ) (c : Card) (ok : validCard n c ≡ true) (fit : Fit wid
       )
 
   pub load-save-as : (d : Card) → loadedAs n width d (recordOf n width c)
-      ≡ poweredUp n (c .trigger) (map clearedCell (take n (c .cells)) ++ drop n (d .cells)) (c .connectors)
+      ≡ poweredUp n (d .size) (c .trigger) (map clearedCell (take n (c .cells)) ++ drop n (d .cells)) (c .connectors)
   load-save-as d =
       loaded-from n width d (recordOf n width c) (map clearedCell (take n (c .cells)) ++ drop n (d .cells))
       (ap (λ (l : List Cell). l ++ drop n (d .cells)) (sym loads-back)) load-accepts-as
-      ∙ (λ k. poweredUp n (trigger-back k) (map clearedCell (take n (c .cells)) ++ drop n (d .cells)) (connectors-back k))
+      ∙ (λ k. poweredUp n (d .size) (trigger-back k) (map clearedCell (take n (c .cells)) ++ drop n (d .cells)) (connectors-back k))

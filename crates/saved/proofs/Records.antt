@@ -1,29 +1,29 @@
 -- The theorems of the saved record, over the number n of cells: what a save writes, that a load undoes a save and a save a load, that a load gives a
 -- valid card, and that the settings of a record stay the same where it is written in another form.
-use Prim.Native.Nat.{ℕ, zero, suc, _+_, _^_, _≤_, _<_}
+use Prim.Native.Nat.{ℕ, zero, suc, _+_, _^_, _≤_, _<_, zero-le}
 use mathlib.Core.Path.{_≡_, refl, sym, ap, ap₂, _∙_}
-use mathlib.Core.Bool.{true, false, cond}
+use mathlib.Core.Bool.{true, false, cond, and-false}
 use mathlib.Core.List.{List, [], _∷_, _++_, map, map-append, append-nil}
 use native.Mathlib.Nat.{zero-add}
 use native.Mathlib.Omega.{arith}
-use lib.Dec.{eqb, lit<}
+use lib.Dec.{eqb, leb, lit<}
 use lib.ListN.{length, take, drop, length-map, drop-of-length-le}
 use lib.Seq.{take-at, sets-eq}
-use borrow.Author.Tests.{le-ltb, eq-eqb, ne-eqb}
+use borrow.Author.Tests.{le-ltb, le-leb, lt-leb, eq-eqb, ne-eqb}
 use Rattle.words.specs.Listed.{listed}
 use Rattle.words.proofs.Listed.{front-taken}
 use Rattle.cells.specs.declared.cell.Cell.{Cell}
 use Rattle.cells.specs.Table.{largestConfig}
 use Rattle.card.specs.declared.card.Card.{Card}
 use Rattle.card.specs.declared.card.Connector.{Connector}
-use Rattle.card.specs.Address.{connectorCount}
+use Rattle.card.specs.Address.{cellCount, connectorCount}
 use Rattle.card.specs.Valid.{validCard}
 use Rattle.card.specs.Edits.{clearedCell}
 use Rattle.saved.specs.Record.{fieldsFrom, encode, configWidth, narrowWidth, recordLength, triggerIn, cellIn, connectorIn, connectorsIn, recordOf}
 use Rattle.saved.specs.Record.{normalCell, loadCells, poweredUp, loadNumberAs, loadedAs, widthOf, loadNumber, loaded, normalRecord}
 use Rattle.saved.specs.Record.{SmallConstants, savedTo}
 use Rattle.saved.proofs.Forms.{FourSlots, Fit, encode-length, cell-count, four-slots, connector-count, all-fit, cells-all, loaded-from}
-use Rattle.saved.proofs.Forms.{load-refused-as, tests, normal-same, save-load-as, loaded-valid-as, trigger-back, connectors-back, loads-back}
+use Rattle.saved.proofs.Forms.{load-refused-as, wrong-length, tests, normal-same, save-load-as, loaded-valid-as, trigger-back, connectors-back, loads-back}
 use Rattle.saved.proofs.Forms.{load-accepts-as, load-save-as}
 
 -- ---- saves
@@ -65,21 +65,29 @@ saved-whole n width c store ok e =
 pub config-fits : largestConfig < 256 ^ configWidth
 config-fits = lit< tt
 
-pub narrow-form : (n : ℕ) (bytes : List ℕ) → length bytes ≡ recordLength n narrowWidth → widthOf n bytes ≡ narrowWidth
-narrow-form n bytes e = rw (eq-eqb (length bytes) (recordLength n narrowWidth) e)
+pub narrow-form : (n : ℕ) (bytes : List ℕ) → n ≤ cellCount → length bytes ≡ recordLength n narrowWidth → widthOf n bytes ≡ narrowWidth
+narrow-form n bytes h e = rw (le-leb n cellCount h, eq-eqb (length bytes) (recordLength n narrowWidth) e)
 
 wide-form : (n : ℕ) (bytes : List ℕ) → 0 < n → length bytes ≡ recordLength n configWidth → widthOf n bytes ≡ configWidth
-wide-form n bytes some e = rw (ne-eqb (length bytes) (recordLength n narrowWidth) (λ same. omega arith))
+wide-form n bytes some e = rw (ne-eqb (length bytes) (recordLength n narrowWidth) (λ same. omega arith), and-false (leb n cellCount))
+
+-- there is no old form of more cells than it was made for
+pub large-form : (n : ℕ) (bytes : List ℕ) → cellCount < n → widthOf n bytes ≡ configWidth
+large-form n bytes h = rw (lt-leb n cellCount h)
+
+pub no-old-form : (n : ℕ) (bytes : List ℕ) → cellCount < n → length bytes ≡ recordLength n narrowWidth → loadNumber n bytes ≡ 14
+unfolding loadNumber
+no-old-form n bytes h e = ap (λ (w : ℕ). loadNumberAs n w bytes) (large-form n bytes h) ∙ wrong-length n configWidth bytes (λ same. omega arith)
 
 -- a record of the present length is loaded by the present form. Without cells the two forms are one
 pub number-wide : (n : ℕ) (bytes : List ℕ) → length bytes ≡ recordLength n configWidth → loadNumber n bytes ≡ loadNumberAs n configWidth bytes
 unfolding loadNumber loadNumberAs encode fieldsFrom connectorIn listed
-number-wide zero bytes e = ap (λ (w : ℕ). loadNumberAs 0 w bytes) (narrow-form 0 bytes e)
+number-wide zero bytes e = ap (λ (w : ℕ). loadNumberAs 0 w bytes) (narrow-form 0 bytes zero-le e)
 number-wide (suc m) bytes e = ap (λ (w : ℕ). loadNumberAs (suc m) w bytes) (wide-form (suc m) bytes (omega arith) e)
 
 pub loaded-wide : (n : ℕ) (d : Card) (bytes : List ℕ) → length bytes ≡ recordLength n configWidth → loaded n d bytes ≡ loadedAs n configWidth d bytes
 unfolding loaded loadedAs loadNumberAs encode fieldsFrom connectorIn listed
-loaded-wide zero d bytes e = ap (λ (w : ℕ). loadedAs 0 w d bytes) (narrow-form 0 bytes e)
+loaded-wide zero d bytes e = ap (λ (w : ℕ). loadedAs 0 w d bytes) (narrow-form 0 bytes zero-le e)
 loaded-wide (suc m) d bytes e = ap (λ (w : ℕ). loadedAs (suc m) w d bytes) (wide-form (suc m) bytes (omega arith) e)
 
 -- ---- loads
@@ -88,7 +96,7 @@ loaded-wide (suc m) d bytes e = ap (λ (w : ℕ). loadedAs (suc m) w d bytes) (w
 -- by its number a load powers the card up or leaves it
 pub loaded-by : (n : ℕ) (d : Card) (bytes : List ℕ) → let from = widthOf n bytes in
     loaded n d bytes
-    ≡ cond (eqb (loadNumber n bytes) 0) (poweredUp n (triggerIn bytes) (loadCells n from bytes ++ drop n (d .cells)) (connectorsIn n from bytes)) d
+    ≡ cond (eqb (loadNumber n bytes) 0) (poweredUp n (d .size) (triggerIn bytes) (loadCells n from bytes ++ drop n (d .cells)) (connectorsIn n from bytes)) d
 unfolding loadNumber loaded loadedAs
 loaded-by n d bytes = refl
 
@@ -99,7 +107,7 @@ load-refused n d bytes e = load-refused-as n (widthOf n bytes) d bytes e
 module _ (n : ℕ) (d : Card) (bytes : List ℕ) (ok : loadNumber n bytes ≡ 0) where
   -- an accepted one powers up with the settings that stand in the bytes
   pub load-powers : let from = widthOf n bytes in
-      loaded n d bytes ≡ poweredUp n (triggerIn bytes) (loadCells n from bytes ++ drop n (d .cells)) (connectorsIn n from bytes)
+      loaded n d bytes ≡ poweredUp n (d .size) (triggerIn bytes) (loadCells n from bytes ++ drop n (d .cells)) (connectorsIn n from bytes)
   unfolding loadNumber loaded
   load-powers = loaded-from n (widthOf n bytes) d bytes _ refl ok
 
@@ -138,7 +146,7 @@ module _ (n : ℕ) (c : Card) (ok : validCard n c ≡ true) where
   load-accepts = number-wide n (recordOf n configWidth c) (valid-length n configWidth c ok) ∙ load-accepts-as n configWidth c ok fit
 
   pub load-save : (d : Card) → loaded n d (recordOf n configWidth c)
-      ≡ poweredUp n (c .trigger) (map clearedCell (take n (c .cells)) ++ drop n (d .cells)) (c .connectors)
+      ≡ poweredUp n (d .size) (c .trigger) (map clearedCell (take n (c .cells)) ++ drop n (d .cells)) (c .connectors)
   load-save d = loaded-wide n d (recordOf n configWidth c) (valid-length n configWidth c ok) ∙ load-save-as n configWidth c ok fit d
 
   -- the cells that a load gives have the settings of c
@@ -160,7 +168,7 @@ one-record n c d okc okd e =
 -- ---- a record in another form
 
 -- cells with no state
-cleared-listed : (f : ℕ → Cell) (n : ℕ) → ((i : ℕ) → clearedCell (f i) ≡ f i) → map clearedCell (listed f n) ≡ listed f n
+pub cleared-listed : (f : ℕ → Cell) (n : ℕ) → ((i : ℕ) → clearedCell (f i) ≡ f i) → map clearedCell (listed f n) ≡ listed f n
 unfolding listed
 cleared-listed f zero h = refl
 cleared-listed f (suc n) h =
@@ -169,7 +177,7 @@ cleared-listed f (suc n) h =
 -- one that is accepted in the form `from`, with configurations that fit in the form `to`, written in that
 module _ (n from to : ℕ) (bytes : List ℕ) (ok : loadNumberAs n from bytes ≡ 0) (fit : Fit to (loadCells n from bytes)) where
   card : Card
-  card = poweredUp n (triggerIn bytes) (loadCells n from bytes) (connectorsIn n from bytes)
+  card = poweredUp n n (triggerIn bytes) (loadCells n from bytes) (connectorsIn n from bytes)
 
   card-valid : validCard n card ≡ true
   unfolding card validCard
@@ -215,7 +223,7 @@ module _ (n from to : ℕ) (bytes : List ℕ) (ok : loadNumberAs n from bytes �
   rewritten-loaded d =
       loaded-from n to d (normalRecord n from to bytes) (loadCells n from bytes ++ drop n (d .cells))
       (ap (λ (l : List Cell). l ++ drop n (d .cells)) (sym rewritten-cells)) rewritten-accepted
-      ∙ ap₂ (λ (t : ℕ) (k : List Connector). poweredUp n t (loadCells n from bytes ++ drop n (d .cells)) k) rewritten-trigger rewritten-connectors
+      ∙ ap₂ (λ (t : ℕ) (k : List Connector). poweredUp n (d .size) t (loadCells n from bytes ++ drop n (d .cells)) k) rewritten-trigger rewritten-connectors
       ∙ sym (loaded-from n from d bytes _ refl ok)
 
   pub rewritten-again : (w : ℕ) → normalRecord n to w (normalRecord n from to bytes) ≡ normalRecord n from w bytes

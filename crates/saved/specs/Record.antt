@@ -1,10 +1,10 @@
 -- Document 01, "Saved record", and document 02, "Constants are 0 or 1" and "Long exposures": the settings as bytes, and a load. Stated over the number
 -- n of cells and the width of a configuration, which is the form of a record.
 use Prim.Native.Nat.{ℕ, zero, suc, _+_, _-_, _*_, _/_, _%_, _^_, _<_, _≤_}
-use mathlib.Core.Path.{_≡_}
+use mathlib.Core.Path.{_≡_, refl}
 use mathlib.Core.Bool.{Bool, true, false, _&&_, cond}
 use mathlib.Core.List.{List, [], _∷_, _++_}
-use lib.Dec.{eqb, ltb}
+use lib.Dec.{eqb, ltb, leb}
 use lib.ListN.{length, getD, take, drop}
 use lib.Seq.{sets}
 use Rattle.words.specs.Listed.{listed}
@@ -13,7 +13,7 @@ use Rattle.cells.specs.State.{stateOf, cellOf}
 use Rattle.cells.specs.Table.{constantType, largestConstant}
 use Rattle.card.specs.declared.card.Card.{Card}
 use Rattle.card.specs.declared.card.Connector.{Connector}
-use Rattle.card.specs.Address.{firstCell, firstConnector, connectorCount}
+use Rattle.card.specs.Address.{cellCount, firstCell, firstConnector, connectorCount}
 use Rattle.card.specs.Fresh.{clearState, started}
 use Rattle.card.specs.Valid.{valid}
 
@@ -133,18 +133,22 @@ loadNumberAs n width bytes =
     (cond (valid n (triggerIn bytes) (loadCells n width bytes) (connectorsIn n width bytes)) 0 15) 14
 
 -- "A load is a power-up: fresh, with these settings"; "by HOME and by a load, all are" edited
-abbrev pub poweredUp : ℕ → ℕ → List Cell → List Connector → Card
-poweredUp n trigger cells connectors = started trigger cells connectors (2 ^ n - 1)
+abbrev pub poweredUp : ℕ → ℕ → ℕ → List Cell → List Connector → Card
+poweredUp n size trigger cells connectors = started size trigger cells connectors (2 ^ n - 1)
 
 -- the card after a load: what stands behind its n cells stays, and a refused load changes nothing
 unfoldable pub loadedAs : ℕ → ℕ → Card → List ℕ → Card
 loadedAs n width c bytes =
     cond (eqb (loadNumberAs n width bytes) 0)
-    (poweredUp n (triggerIn bytes) (loadCells n width bytes ++ drop n (c .cells)) (connectorsIn n width bytes)) c
+    (poweredUp n (c .size) (triggerIn bytes) (loadCells n width bytes ++ drop n (c .cells)) (connectorsIn n width bytes)) c
 
 -- "The 276-byte record still loads": the form that the length of a record tells. Other lengths than the two are 14 in either form
 abbrev pub widthOf : ℕ → List ℕ → ℕ
-widthOf n bytes = cond (eqb (length bytes) (recordLength n narrowWidth)) narrowWidth configWidth
+widthOf n bytes = cond (leb n cellCount && eqb (length bytes) (recordLength n narrowWidth)) narrowWidth configWidth
+
+-- of sixteen cells as before
+width-before : (bytes : List ℕ) → widthOf cellCount bytes ≡ cond (eqb (length bytes) (recordLength cellCount narrowWidth)) narrowWidth configWidth
+width-before bytes = refl
 
 -- a load, its form told by the length
 unfoldable pub loadNumber : ℕ → List ℕ → ℕ

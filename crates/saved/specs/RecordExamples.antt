@@ -1,5 +1,5 @@
 -- Document 01, "Saved record" and rows 14 and 15, with document 02, "Long exposures", as one table by computation: a whole record written out from
--- the documents, what it loads as, and what a load gives where bytes of it are others, or in the old form.
+-- the documents, what it loads as, and what a load gives where bytes of it are others, or in the old form; and a second table of a large card's record.
 use Prim.Native.Nat.{ℕ, _+_, _*_, _/_, _%_}
 use mathlib.Core.Path.{_≡_, refl}
 use mathlib.Core.List.{List, [], _∷_, _++_, map}
@@ -7,8 +7,8 @@ use lib.ListN.{length, set, take, drop, replicate}
 use Rattle.words.specs.Listed.{listed}
 use Rattle.cells.specs.State.{cellOf}
 use Rattle.cells.specs.Table.{rowOf}
-use Rattle.card.specs.Address.{cellCount}
-use Rattle.card.specs.Fresh.{clearState, fresh}
+use Rattle.card.specs.Address.{cellCount, cellRoom}
+use Rattle.card.specs.Fresh.{clearState, freshOf, fresh}
 use Rattle.card.specs.Context.{configShown}
 use Rattle.card.specs.Valid.{permittedBase, badClock, frontDriven, badCellType, badConnectorType, badAddress, validSlot, validSlots, validCell}
 use Rattle.card.specs.Valid.{validConnector, every, valid}
@@ -83,6 +83,17 @@ oldCell i = (2 ∷ 0 ∷ 8 ∷ []) ++ part (7 + 13 * i) 2 ++ part (11 + 13 * i) 
 
 unfoldable pub old : List ℕ
 old = part 0 4 ++ fieldsFrom (λ i (x : ℕ). oldCell i) 0 (replicate 16 0) ++ part 212 96
+
+-- the field of a cell above 16 that is constant 0, and that of the old form
+unfoldable pub constantField : ℕ → ℕ → List ℕ
+constantField width i = (2 ∷ 0 ∷ (6 + width) ∷ (i + 17) ∷ 0 ∷ []) ++ replicate (width + 4) 0
+
+-- the record of a large card with the settings of `whole`, and what the old form would make of it
+unfoldable pub large : List ℕ
+large = part 0 212 ++ fieldsFrom (λ i (x : ℕ). constantField 4 i) 0 (replicate 16 0) ++ part 212 96
+
+unfoldable pub oldLarge : List ℕ
+oldLarge = take 180 old ++ fieldsFrom (λ i (x : ℕ). constantField 2 i) 0 (replicate 16 0) ++ part 212 96
 
 -- a record with other bytes at some places
 unfoldable pub changed : List (ℕ × ℕ) → List ℕ → List ℕ
@@ -225,3 +236,78 @@ table =
 examples : map (λ (e : List ℕ × List ℕ). e .0) table ≡ map (λ (e : List ℕ × List ℕ). e .1) table
 unfolding whole part oldCell old changed saved cellRead connectorRead load with constantRead configShown listed rowOf fresh permittedBase badClock frontDriven badCellType badConnectorType badAddress validSlot validSlots validCell validConnector every valid bigEndian cellField connectorField fieldsFrom encode bigValue cellIn normalCell connectorIn recordOf sameBytes loadNumberAs loadedAs loadNumber loaded
 examples = refl
+
+-- ---- document 02, "Thirty-two cells": "A record has 32 cell fields and 516 bytes, the only length that a 32-cell card loads or saves"
+
+-- cell 17: OR2 of cell 16 and the inverse of cell 32; cell 32: one-shot, duration 3, trigger at the rise of cell 17, clock 192
+wired : List ℕ
+wired = changed ((216, 6) ∷ (221, 16) ∷ (222, 96) ∷ (411, 8) ∷ (415, 3) ∷ (416, 145) ∷ (417, 192) ∷ []) large
+
+loadLarge : List ℕ → List ℕ
+loadLarge bytes = loadNumber cellRoom bytes ∷ []
+
+withLarge : List (ℕ × ℕ) → List ℕ
+withLarge changes = loadLarge (changed changes wired)
+
+abbrev Agree : List (List ℕ × List ℕ) → Type 0
+Agree rows = map (λ (e : List ℕ × List ℕ). e .0) rows ≡ map (λ (e : List ℕ × List ℕ). e .1) rows
+
+-- the bytes of it, and that it loads and is saved as the same bytes but for its constant 258
+abbrev largeTable : List (List ℕ × List ℕ)
+largeTable =
+    (length wired ∷ [], 516 ∷ [])
+    ∷ (take 17 wired, 1 ∷ 0 ∷ 1 ∷ 3 ∷ 2 ∷ 0 ∷ 10 ∷ 1 ∷ 0 ∷ 0 ∷ 0 ∷ 1 ∷ 2 ∷ 0 ∷ 0 ∷ 0 ∷ 0 ∷ [])
+    ∷ (take 13 (drop 212 wired), 2 ∷ 0 ∷ 10 ∷ 17 ∷ 6 ∷ 0 ∷ 0 ∷ 0 ∷ 0 ∷ 16 ∷ 96 ∷ 0 ∷ 0 ∷ [])
+    ∷ (take 19 (drop 407 wired), 2 ∷ 0 ∷ 10 ∷ 32 ∷ 8 ∷ 0 ∷ 0 ∷ 0 ∷ 3 ∷ 145 ∷ 192 ∷ 0 ∷ 0 ∷ 3 ∷ 0 ∷ 3 ∷ 33 ∷ 2 ∷ 1 ∷ [])
+    ∷ (loadLarge wired, 0 ∷ [])
+    ∷ (recordOf cellRoom configWidth (loaded cellRoom (freshOf cellRoom) wired), changed ((11, 0) ∷ (12, 1) ∷ []) wired)
+    ∷ []
+
+-- 14: every other length, also 308, 276 and 452 bytes; and on sixteen cells the 516 bytes
+abbrev largeLengths : List (List ℕ × List ℕ)
+largeLengths =
+    (loadLarge (take 515 wired), 14 ∷ [])
+    ∷ (loadLarge (wired ++ (0 ∷ [])), 14 ∷ [])
+    ∷ (loadLarge whole, 14 ∷ [])
+    ∷ (loadLarge old, 14 ∷ [])
+    ∷ (length oldLarge ∷ loadLarge oldLarge, 452 ∷ 14 ∷ [])
+    ∷ (load wired, 14 ∷ [])
+    ∷ []
+
+-- 14 anywhere, and before 15 anywhere
+abbrev largeHeads : List (List ℕ × List ℕ)
+largeHeads =
+    -- the length and the number of the field of cell 17, the address of TTL7
+    (withLarge ((214, 8) ∷ []), 14 ∷ [])
+    ∷ (withLarge ((215, 18) ∷ []), 14 ∷ [])
+    ∷ (withLarge ((513, 47) ∷ []), 14 ∷ [])
+    ∷ (withLarge ((3, 5) ∷ (510, 2) ∷ []), 14 ∷ [])
+    ∷ []
+
+-- 15
+abbrev largeValues : List (List ℕ × List ℕ)
+largeValues =
+    -- type 23 in cell 32, slot Z of OR2, a reserved address in a slot, BNC1 an output with trigger 4
+    (withLarge ((411, 23) ∷ []), 15 ∷ [])
+    ∷ (withLarge ((223, 1) ∷ []), 15 ∷ [])
+    ∷ (withLarge ((221, 49) ∷ []), 15 ∷ [])
+    ∷ (withLarge ((3, 4) ∷ []), 15 ∷ [])
+    -- "addresses 17 to 32 (with inverse and edges)" are none of these, as a source and in a slot
+    ∷ (withLarge ((425, 17) ∷ (479, 224) ∷ (78, 32) ∷ []), 0 ∷ [])
+    ∷ []
+
+large-examples : Agree largeTable
+unfolding whole part oldCell old constantField large oldLarge wired changed load loadLarge withLarge listed rowOf permittedBase badClock frontDriven badCellType badConnectorType badAddress validSlot validSlots validCell validConnector every valid bigEndian cellField connectorField fieldsFrom encode bigValue cellIn normalCell connectorIn recordOf sameBytes loadNumberAs loadedAs loadNumber loaded
+large-examples = refl
+
+length-examples : Agree largeLengths
+unfolding whole part oldCell old constantField large oldLarge wired changed load loadLarge withLarge listed rowOf permittedBase badClock frontDriven badCellType badConnectorType badAddress validSlot validSlots validCell validConnector every valid bigEndian cellField connectorField fieldsFrom encode bigValue cellIn normalCell connectorIn sameBytes loadNumberAs loadNumber
+length-examples = refl
+
+head-examples : Agree largeHeads
+unfolding whole part oldCell old constantField large oldLarge wired changed load loadLarge withLarge listed rowOf permittedBase badClock frontDriven badCellType badConnectorType badAddress validSlot validSlots validCell validConnector every valid bigEndian cellField connectorField fieldsFrom encode bigValue cellIn normalCell connectorIn sameBytes loadNumberAs loadNumber
+head-examples = refl
+
+value-examples : Agree largeValues
+unfolding whole part oldCell old constantField large oldLarge wired changed load loadLarge withLarge listed rowOf permittedBase badClock frontDriven badCellType badConnectorType badAddress validSlot validSlots validCell validConnector every valid bigEndian cellField connectorField fieldsFrom encode bigValue cellIn normalCell connectorIn sameBytes loadNumberAs loadNumber
+value-examples = refl

@@ -7,7 +7,7 @@ ghost use Prim.Native.Nat.{_+_, _*_, _<_, _≤_};
 ghost use lib.Dec.{ltb};
 ghost use lib.ListN.{length, take, drop};
 ghost use lib.Seq.{sets};
-ghost use Rattle.card.specs.Address.{cellCount, connectorCount};
+ghost use Rattle.card.specs.Address.{cellRoom, cellsFor, connectorCount};
 ghost use Rattle.saved.specs.Record.{configWidth, cellLength, connectorLength, triggerLength, recordLength};
 ghost use Rattle.saved.specs.Headers.{everyBelow, numberedAt, headed};
 ghost use Rattle.saved.specs.Record.{bigEndian, bigValue, cellField, connectorField, fieldsFrom, encode};
@@ -16,11 +16,14 @@ ghost use Rattle.saved.specs.Record.{widthOf, loadNumberAs, loadedAs, lo
 use card::card::Card;
 use card::card::Connector;
 use card::card::started;
-use card::limits::ALL_EDITED;
+use card::edits::all_edited;
 use card::limits::CELLS;
 use card::limits::CONNECTORS;
 use card::limits::FIRST_CELL;
 use card::limits::FIRST_CONNECTOR;
+use card::limits::LARGE;
+use card::limits::SMALL;
+use card::place::cells_for;
 use card::valid::valid_settings;
 use cells::cell::Cell;
 use cells::cell::Config;
@@ -73,12 +76,32 @@ const Z_AT: usize = Y_AT + 1;
 
 const F_AT: usize = Z_AT + 1;
 
-// How many bytes a record has: without its configurations, and in either form.
-const BARE_LENGTH: usize = TRIGGER_LENGTH + CELLS * CELL_LENGTH + CONNECTORS * CONNECTOR_LENGTH;
+// How many bytes the record of a small card has: without its configurations, and in either form.
+const BARE_LENGTH: usize = TRIGGER_LENGTH
+    + SMALL as usize * CELL_LENGTH
+    + CONNECTORS * CONNECTOR_LENGTH;
 
-pub const RECORD_LENGTH: usize = BARE_LENGTH + CELLS * WIDTH;
+pub const RECORD_LENGTH: usize = BARE_LENGTH + SMALL as usize * WIDTH;
 
-pub const NARROW_LENGTH: usize = BARE_LENGTH + CELLS * NARROW_WIDTH;
+pub const NARROW_LENGTH: usize = BARE_LENGTH + SMALL as usize * NARROW_WIDTH;
+
+// The place of the connectors in a record of n cells.
+fn connectors_at(n: u8, width: usize) -> usize
+    requires { ⌜ n ≤ cellRoom ⌝ }
+    requires { ⌜ width ≤ configWidth ⌝ }
+    ensures { λ r. ⌜ r ≡ triggerLength + n * cellLength width ⌝ }
+    ensures { λ r. ⌜ r ≤ 420 ⌝ }
+{
+    TRIGGER_LENGTH + n as usize * (CELL_LENGTH + width)
+}
+
+// The length of the record of a card of a size.
+pub fn record_length(size: u8) -> usize
+    ensures { λ r. ⌜ r ≡ recordLength (cellsFor size) configWidth ⌝ }
+{
+    let n = cells_for(size);
+    connectors_at(n, WIDTH) + CONNECTORS * CONNECTOR_LENGTH
+}
 
 // What a load gives: the card, and the number that refuses it, 0 where none does.
 #[repr(C)]
@@ -105,7 +128,7 @@ fn config_bytes(config: Config) -> [u8; WIDTH]
 fn put_cell(out: &mut [u8], at: usize, width: usize, i: u8, cell: Cell)
     requires { ⌜ at + cellLength width ≤ length (now out) ⌝ }
     requires { ⌜ width ≤ configWidth ⌝ }
-    requires { ⌜ i < cellCount ⌝ }
+    requires { ⌜ i < cellRoom ⌝ }
     ensures { λ _. ⌜ now (out .exit) ≡ sets (now (out .entry)) at (cellField width i cell) ⌝ }
     ensures { λ _. ⌜ length (cellField width i cell) ≡ cellLength width ⌝ }
 {
@@ -140,9 +163,9 @@ fn connector_bytes(k: u8, c: Connector) -> [u8; CONNECTOR_LENGTH]
 
 // The fields of the first n cells, after that of the trigger. By recursion, as `card::edits::cleared`.
 fn put_cells(out: &mut [u8], width: usize, cells: [Cell; CELLS], n: u8)
-    requires { ⌜ triggerLength + cellCount * cellLength width ≤ length (now out) ⌝ }
+    requires { ⌜ triggerLength + n * cellLength width ≤ length (now out) ⌝ }
     requires { ⌜ width ≤ configWidth ⌝ }
-    requires { ⌜ n ≤ cellCount ⌝ }
+    requires { ⌜ n ≤ cellRoom ⌝ }
     ensures { λ _. ⌜ now (out .exit) ≡ sets (now (out .entry)) triggerLength (fieldsFrom (cellField width) 0 (take n cells)) ⌝ }
     ensures { λ _. ⌜ length (fieldsFrom (cellField width) 0 (take n cells)) ≡ n * cellLength width ⌝ }
 {
@@ -181,19 +204,18 @@ pub fn encode_to(
     trigger: u8,
     cells: [Cell; CELLS],
     connectors: [Connector; CONNECTORS],
+    n: u8,
 )
-    requires { ⌜ recordLength cellCount width ≤ length (now out) ⌝ }
+    requires { ⌜ n ≤ cellRoom ⌝ }
+    requires { ⌜ recordLength n width ≤ length (now out) ⌝ }
     requires { ⌜ width ≤ configWidth ⌝ }
-    ensures { λ _. ⌜ now (out .exit) ≡ sets (now (out .entry)) 0 (encode width trigger (take cellCount cells) connectors) ⌝ }
+    ensures { λ _. ⌜ now (out .exit) ≡ sets (now (out .entry)) 0 (encode width trigger (take n cells) connectors) ⌝ }
 {
     let first = [TRIGGER_TAG, 0, TRIGGER_SIZE, trigger];
     text::copy(out, 0, &first);
-    put_cells(out, width, cells, CELLS as u8);
-    put_connectors(
-        out,
-        TRIGGER_LENGTH + CELLS * (CELL_LENGTH + width),
-        connectors,
-    );
+    put_cells(out, width, cells, n);
+    let at = connectors_at(n, width);
+    put_connectors(out, at, connectors);
 }
 
 // ---- bytes in
@@ -213,9 +235,9 @@ fn config_in(bytes: &[u8], at: usize, width: usize) -> Config
 
 // The cell whose field is number i.
 fn cell_in(bytes: &[u8], width: usize, i: usize) -> Cell
-    requires { ⌜ length (now bytes) ≡ recordLength cellCount width ⌝ }
+    requires { ⌜ triggerLength + (i + 1) * cellLength width ≤ length (now bytes) ⌝ }
     requires { ⌜ width ≤ configWidth ⌝ }
-    requires { ⌜ i < cellCount ⌝ }
+    requires { ⌜ i < cellRoom ⌝ }
     ensures { λ r. ⌜ r ≡ cellIn width (now (bytes .entry)) i ⌝ }
 {
     let at = TRIGGER_LENGTH + i * (CELL_LENGTH + width);
@@ -236,13 +258,14 @@ fn cell_in(bytes: &[u8], width: usize, i: usize) -> Cell
 }
 
 // The connector whose field is number k.
-fn connector_in(bytes: &[u8], width: usize, k: usize) -> Connector
-    requires { ⌜ length (now bytes) ≡ recordLength cellCount width ⌝ }
+fn connector_in(bytes: &[u8], width: usize, k: usize, n: u8) -> Connector
+    requires { ⌜ n ≤ cellRoom ⌝ }
+    requires { ⌜ length (now bytes) ≡ recordLength n width ⌝ }
     requires { ⌜ width ≤ configWidth ⌝ }
     requires { ⌜ k < connectorCount ⌝ }
-    ensures { λ r. ⌜ r ≡ connectorIn cellCount width (now (bytes .entry)) k ⌝ }
+    ensures { λ r. ⌜ r ≡ connectorIn n width (now (bytes .entry)) k ⌝ }
 {
-    let at = TRIGGER_LENGTH + CELLS * (CELL_LENGTH + width) + k * CONNECTOR_LENGTH;
+    let at = connectors_at(n, width) + k * CONNECTOR_LENGTH;
     Connector {
         kind: bytes[at + KIND_AT],
         source: bytes[at + SOURCE_AT],
@@ -262,9 +285,9 @@ fn normal_config(kind: u8, config: Config) -> Config
 
 // The cell that a load gives for field number i.
 fn load_cell(bytes: &[u8], width: usize, i: usize) -> Cell
-    requires { ⌜ length (now bytes) ≡ recordLength cellCount width ⌝ }
+    requires { ⌜ triggerLength + (i + 1) * cellLength width ≤ length (now bytes) ⌝ }
     requires { ⌜ width ≤ configWidth ⌝ }
-    requires { ⌜ i < cellCount ⌝ }
+    requires { ⌜ i < cellRoom ⌝ }
     ensures { λ r. ⌜ r ≡ normalCell (cellIn width (now (bytes .entry)) i) ⌝ }
 {
     let mut cell = cell_in(bytes, width, i);
@@ -275,9 +298,9 @@ fn load_cell(bytes: &[u8], width: usize, i: usize) -> Cell
 
 // The first n cells that a load gives, in the place of others. By recursion, as `card::edits::cleared`.
 fn cells_in(bytes: &[u8], width: usize, cells: [Cell; CELLS], n: usize) -> [Cell; CELLS]
-    requires { ⌜ length (now bytes) ≡ recordLength cellCount width ⌝ }
+    requires { ⌜ triggerLength + n * cellLength width ≤ length (now bytes) ⌝ }
     requires { ⌜ width ≤ configWidth ⌝ }
-    requires { ⌜ n ≤ cellCount ⌝ }
+    requires { ⌜ n ≤ cellRoom ⌝ }
     ensures { λ r. ⌜ r ≡ loadCells n width (now (bytes .entry)) ++ drop n cells ⌝ }
 {
     if n == 0 {
@@ -294,14 +317,16 @@ fn connectors_in(
     bytes: &[u8],
     width: usize,
     connectors: [Connector; CONNECTORS],
+    n: u8,
 ) -> [Connector; CONNECTORS]
-    requires { ⌜ length (now bytes) ≡ recordLength cellCount width ⌝ }
+    requires { ⌜ n ≤ cellRoom ⌝ }
+    requires { ⌜ length (now bytes) ≡ recordLength n width ⌝ }
     requires { ⌜ width ≤ configWidth ⌝ }
-    ensures { λ r. ⌜ r ≡ connectorsIn cellCount width (now (bytes .entry)) ⌝ }
+    ensures { λ r. ⌜ r ≡ connectorsIn n width (now (bytes .entry)) ⌝ }
 {
     let mut next = connectors;
     for k in 0..CONNECTORS {
-        let c = connector_in(bytes, width, k);
+        let c = connector_in(bytes, width, k, n);
         next[k] = c;
     }
     next
@@ -341,12 +366,13 @@ fn all_numbered(
 }
 
 // Whether the bytes have the length of a record in the form of a width, and the heads of its fields. What the fields hold is another question.
-fn is_headed(bytes: &[u8], width: usize) -> bool
+fn is_headed(bytes: &[u8], width: usize, n: u8) -> bool
+    requires { ⌜ n ≤ cellRoom ⌝ }
     requires { ⌜ width ≤ configWidth ⌝ }
-    ensures { λ q. ⌜ q ≡ headed cellCount width (now (bytes .entry)) ⌝ }
+    ensures { λ q. ⌜ q ≡ headed n width (now (bytes .entry)) ⌝ }
 {
-    let connectors_at = TRIGGER_LENGTH + CELLS * (CELL_LENGTH + width);
-    if bytes.len() != connectors_at + CONNECTORS * CONNECTOR_LENGTH {
+    let place = connectors_at(n, width);
+    if bytes.len() != place + CONNECTORS * CONNECTOR_LENGTH {
         return false;
     }
     let trigger = (TRIGGER_TAG == bytes[0]) & ((0 == bytes[1]) & (TRIGGER_SIZE == bytes[2]));
@@ -354,14 +380,14 @@ fn is_headed(bytes: &[u8], width: usize) -> bool
         bytes,
         TRIGGER_LENGTH,
         CELL_LENGTH + width,
-        CELLS as u8,
+        n,
         CELL_TAG,
         CELL_SIZE + width as u8,
         FIRST_CELL,
     );
     let connectors = all_numbered(
         bytes,
-        connectors_at,
+        place,
         CONNECTOR_LENGTH,
         CONNECTORS as u8,
         CONNECTOR_TAG,
@@ -375,32 +401,34 @@ fn is_headed(bytes: &[u8], width: usize) -> bool
 
 // A load of any bytes by one form. The card powers up with them, and every cell counts as edited; a refused load leaves it as it was. k is 0, 14
 // where these are not the bytes of a record, or 15 where its settings, constants above 1 made 1, are none that lines can set.
-fn load_as(card: Card, width: usize, bytes: &[u8]) -> Loaded
+fn load_as(card: Card, width: usize, bytes: &[u8], n: u8) -> Loaded
+    requires { ⌜ n ≡ cellsFor (card .size) ⌝ }
+    requires { ⌜ n ≤ cellRoom ⌝ }
     requires { ⌜ width ≤ configWidth ⌝ }
-    ensures { λ r. ⌜ r .card ≡ loadedAs cellCount width card (now (bytes .entry)) ⌝ }
-    ensures { λ r. ⌜ r .k ≡ loadNumberAs cellCount width (now (bytes .entry)) ⌝ }
+    ensures { λ r. ⌜ r .card ≡ loadedAs n width card (now (bytes .entry)) ⌝ }
+    ensures { λ r. ⌜ r .k ≡ loadNumberAs n width (now (bytes .entry)) ⌝ }
 {
-    if !is_headed(bytes, width) {
+    if !is_headed(bytes, width, n) {
         return Loaded { card: card, k: 14 };
     }
     let trigger = bytes[HEAD];
     let cells = card.cells;
     let connectors = card.connectors;
-    let cells = cells_in(bytes, width, cells, CELLS);
-    let connectors = connectors_in(bytes, width, connectors);
-    let next = started(trigger, cells, connectors, ALL_EDITED);
-    if !valid_settings(trigger, cells, connectors) {
+    let cells = cells_in(bytes, width, cells, n as usize);
+    let connectors = connectors_in(bytes, width, connectors, n);
+    let next = started(card.size, trigger, cells, connectors, all_edited(n));
+    if !valid_settings(trigger, cells, connectors, card.size) {
         return Loaded { card: card, k: 15 };
     }
     Loaded { card: next, k: 0 }
 }
 
 // The form that the length of a record tells.
-pub fn width_of(bytes: &[u8]) -> usize
-    ensures { λ r. ⌜ r ≡ widthOf cellCount (now (bytes .entry)) ⌝ }
+pub fn width_of(bytes: &[u8], size: u8) -> usize
+    ensures { λ r. ⌜ r ≡ widthOf (cellsFor size) (now (bytes .entry)) ⌝ }
     ensures { λ r. ⌜ r ≤ configWidth ⌝ }
 {
-    if bytes.len() == NARROW_LENGTH {
+    if (size != LARGE) & (bytes.len() == NARROW_LENGTH) {
         NARROW_WIDTH
     } else {
         WIDTH
@@ -409,23 +437,25 @@ pub fn width_of(bytes: &[u8]) -> usize
 
 // A load of any bytes, by the form that their length tells.
 pub fn load(card: Card, bytes: &[u8]) -> Loaded
-    ensures { λ r. ⌜ r .card ≡ loaded cellCount card (now (bytes .entry)) ⌝ }
-    ensures { λ r. ⌜ r .k ≡ loadNumber cellCount (now (bytes .entry)) ⌝ }
+    ensures { λ r. ⌜ r .card ≡ loaded (cellsFor (card .size)) card (now (bytes .entry)) ⌝ }
+    ensures { λ r. ⌜ r .k ≡ loadNumber (cellsFor (card .size)) (now (bytes .entry)) ⌝ }
 {
-    let width = width_of(bytes);
-    load_as(card, width, bytes)
+    let n = cells_for(card.size);
+    let width = width_of(bytes, card.size);
+    load_as(card, width, bytes, n)
 }
 
 // The record of a card to the front of a store, if it has room; what stands behind it stays. Else the store stays, and the answer is false.
 pub fn save(card: Card, store: &mut [u8]) -> bool
-    ensures { λ r. ⌜ now (store .exit) ≡ savedTo cellCount configWidth card (now (store .entry)) ⌝ }
-    ensures { λ r. ⌜ r ≡ not (ltb (length (now (store .entry))) (recordLength cellCount configWidth)) ⌝ }
+    ensures { λ r. ⌜ now (store .exit) ≡ savedTo (cellsFor (card .size)) configWidth card (now (store .entry)) ⌝ }
+    ensures { λ r. ⌜ r ≡ not (ltb (length (now (store .entry))) (recordLength (cellsFor (card .size)) configWidth)) ⌝ }
 {
-    if store.len() < RECORD_LENGTH {
+    let n = cells_for(card.size);
+    if store.len() < record_length(card.size) {
         return false;
     }
     let cells = card.cells;
     let connectors = card.connectors;
-    encode_to(store, WIDTH, card.trigger, cells, connectors);
+    encode_to(store, WIDTH, card.trigger, cells, connectors, n);
     true
 }

@@ -1,5 +1,5 @@
 -- What one line of input shows, beside what it leaves (`entered` of the console).
-use Prim.Native.Nat.{ℕ, _+_, _*_, _^_, _≤_}
+use Prim.Native.Nat.{ℕ, _+_, _*_, _%_, _^_, _≤_}
 use mathlib.Core.Bool.{Bool, true, false, cond}
 use mathlib.Core.List.{List}
 use Rattle.card.specs.declared.card.Card.{Card}
@@ -8,9 +8,9 @@ use Rattle.ticks.specs.declared.tick.Ticked.{Ticked}
 use Rattle.console.specs.Console.{tickLine, ticked}
 use Rattle.scope.specs.declared.Shown.{Shown}
 
--- the four words of a tick in one: the levels, then "driven word ..., cell word (bit 0 cell 1), woken set (16 bits)"
+-- the four words of a tick in one: the levels, then "driven word ..., cell word (bit 0 cell 1), woken set (16 bits)", those of the cells 1 to 16
 abbrev pub wordsIn : ℕ → Answer → ℕ
-wordsIn levels a = levels + a .driven * 2 ^ 16 + a .cells * 2 ^ 32 + a .woken * 2 ^ 48
+wordsIn levels a = levels + a .driven * 2 ^ 16 + (a .cells % 65536) * 2 ^ 32 + (a .woken % 65536) * 2 ^ 48
 
 -- a line that is no tick, and one that is idle, show nothing
 abbrev pub nothing : Shown

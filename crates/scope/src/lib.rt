@@ -6,7 +6,7 @@
 ghost use mathlib.Core.Path.{_≡_};
 ghost use Prim.Native.Nat.{_≤_, _<_};
 ghost use lib.ListN.{length};
-ghost use Rattle.card.specs.Address.{cellCount};
+ghost use Rattle.card.specs.Address.{cellsFor};
 ghost use Rattle.console.specs.Console.{entered};
 ghost use Rattle.scope.specs.Steps;
 ghost use Rattle.scope.specs.Steps.{wordsIn, shownBy, shownAt, blockLength, kept};
@@ -25,7 +25,7 @@ pub const LINE: usize = 96;
 pub const STORE: usize = 308;
 
 // What a line showed: nothing, unless it was a tick that ran. `word` holds the levels in bits 0 to 15, BNC1 first, the driven word from bit 16, the
-// cell word from bit 32 and the woken set from bit 48.
+// cell word from bit 32 and the woken set from bit 48, each of the cells 1 to 16.
 pub struct Shown {
     pub ran: bool,
     pub word: u64,
@@ -77,8 +77,8 @@ fn words_in(levels: u16, a: Answer) -> u64
     ensures { λ r. ⌜ r ≡ wordsIn levels a ⌝ }
 {
     let driven = (a.driven as u64) << 16;
-    let cells = (a.cells as u64) << 32;
-    let woken = (a.woken as u64) << 48;
+    let cells = (a.cells as u64 % 65536) << 32;
+    let woken = (a.woken as u64 % 65536) << 48;
     levels as u64 + driven + cells + woken
 }
 
@@ -100,9 +100,9 @@ fn shown_by(t: Ticked) -> Shown
 
 // One line of input, without its LF: a tick, a load of the store, or a card line. What it would print is left out.
 pub fn step(card: Card, text: &[u8], store: &mut [u8]) -> Stepped
-    ensures { λ r. ⌜ r .card ≡ entered cellCount card (now (text .entry)) (now (store .entry)) .card ⌝ }
-    ensures { λ r. ⌜ now (store .exit) ≡ entered cellCount card (now (text .entry)) (now (store .entry)) .store ⌝ }
-    ensures { λ r. ⌜ r .shown ≡ shownAt cellCount card (now (text .entry)) ⌝ }
+    ensures { λ r. ⌜ r .card ≡ entered (cellsFor (card .size)) card (now (text .entry)) (now (store .entry)) .card ⌝ }
+    ensures { λ r. ⌜ now (store .exit) ≡ entered (cellsFor (card .size)) card (now (text .entry)) (now (store .entry)) .store ⌝ }
+    ensures { λ r. ⌜ r .shown ≡ shownAt (cellsFor (card .size)) card (now (text .entry)) ⌝ }
 {
     let t = console::tick_line(text);
     if t.ok {
@@ -114,7 +114,7 @@ pub fn step(card: Card, text: &[u8], store: &mut [u8]) -> Stepped
             shown: shown,
         };
     }
-    let mut out = [0u8; 32];
+    let mut out = [0u8; 36];
     let entered = console::enter(card, text, store, &mut out);
     let next = entered.card;
     let shown = nothing();

@@ -1,15 +1,15 @@
 -- The laws of rest. A card is at rest under an input on its own clock exactly where no cell is edited, every word stays as it was in the last two
 -- ticks, and nothing stirs a cell under the one view that all readers then have.
-use Prim.Native.Nat.{ℕ, _^_, _<_, _≤_}
-use mathlib.Core.Path.{_≡_, refl, sym, ap, ap₂, _∙_}
+use Prim.Native.Nat.{ℕ, _%_, _^_, _<_, _≤_}
+use mathlib.Core.Path.{_≡_, refl, sym, ap, ap₂, subst, _∙_}
 use mathlib.Core.Bool.{Bool, true, false, not, _&&_, cond}
-use native.Mathlib.Nat.{le-of-lt}
+use native.Mathlib.Nat.{le-of-lt, mod-eq-of-lt}
 use lib.Count.{ones}
 use lib.Dec.{eqb}
 use lib.ListN.{getD, length}
 use borrow.Author.Tests.{eq-eqb, ne-eqb}
 use Rattle.words.specs.Bits.{bitAt, wordOf}
-use Rattle.words.proofs.Laws.{bit-zero}
+use Rattle.words.proofs.Laws.{bit-zero, built-fits}
 use Rattle.cells.specs.declared.table.Slots.{Slots}
 use Rattle.cells.specs.State.{stateOf}
 use Rattle.cells.specs.Wake.{stirred}
@@ -27,7 +27,8 @@ use Rattle.ticks.specs.Tick.{readNow, readLast, named, outputsBelow, tur
 use Rattle.ticks.specs.FastPath.{steadyWires, sleptAll}
 use Rattle.ticks.specs.Rest.{AtRest, stillAnswer, restAnswer, steady, cellRests, allRest}
 use Rattle.ticks.proofs.Sleep.{quick-set, read-whole}
-use Rattle.ticks.proofs.Ticks.{lines-built}
+use Rattle.ticks.specs.Words.{FitsMemory}
+use Rattle.ticks.proofs.Ticks.{outputs-built}
 use Rattle.ticks.proofs.FastPath.{view-any, rest-all, quiet-turned}
 
 -- the words of the last two ticks are the same
@@ -65,22 +66,22 @@ steady-memory m e =
       levels2 = ap (λ (w : Wires). w .levels3) e;
     }
 
--- then the connectors are driven by that view, now and before
-pub last-lines : (n : ℕ) (c : Card) (input : Input) (v : ℕ) (l : Lines) → StillMemory (c .memory) → v ≡ wordOf (viewLast n (c .memory)) 64
-    → l ≡ linesOf (bitAt v) (bitAt v) (c .connectors) (effectiveSample (input .sample) (input .attached)) → l ≡ lines n c input
-last-lines n c input v l s ev el =
-    let m = c .memory in
-    let sample = effectiveSample (input .sample) (input .attached) in
-    el ∙ ap (λ (x : ℕ). linesOf (bitAt x) (bitAt x) (c .connectors) sample) ev
-    ∙ lines-built (viewLast n m) (viewLast n m) (c .connectors) sample
-    ∙ (λ k. linesOf (viewLast n m) (view n 0 (sym (s .outputs2) k) (sym (s .outputs2) k) (sym (s .levels2) k)) (c .connectors) sample)
-
 -- another clock's tick is idle, and leaves a card at rest
 pub idle-rests : (n : ℕ) (c : Card) (input : Input) → (input .code ≡ c .trigger → ⊥) → AtRest n c input
 unfolding tick
 idle-rests n c input other =
     let e = ne-eqb (input .code) (c .trigger) other in
     record { asleep = rw e; kept = rw e }
+
+-- the cell word of a card at rest is one that a tick gives
+pub rest-fits : (n : ℕ) (c : Card) (input : Input) → input .code ≡ c .trigger → AtRest n c input → c .memory .outputs < 2 ^ n
+unfolding tick turned
+rest-fits n c input own rest =
+    let on = eq-eqb (input .code) (c .trigger) own in
+    let kept : ticked n false c input .card ≡ c = rw on at (rest .kept) in
+    let w = wiresOf (c .memory) (lines n c input .levels) in
+    subst (λ (x : ℕ). x < 2 ^ n) (ap (λ (d : Card). d .memory .outputs) kept)
+    (built-fits _ n _ (outputs-built n false (c .cells) (c .edited) w n))
 
 module _ (n : ℕ) (c : Card) (input : Input) where
   -- ---- from rest to the tests
@@ -111,9 +112,11 @@ module _ (n : ℕ) (c : Card) (input : Input) where
       let kept : ticked n false c input .card ≡ c = rw on at (rest .kept) in
       let asleep : turnedIn n false c (lines n c input .levels) .woken ≡ 0 = rw on at (rest .asleep) in
       let memory = ap (λ (d : Card). d .memory) kept in
+      let whole : c .memory .outputs % 2 ^ n ≡ c .memory .outputs = mod-eq-of-lt (rest-fits n c input own rest) in
+      let second = sym (ap (λ (m : Memory). m .outputs2) memory) ∙ whole in
       let still : StillMemory (c .memory) = record {
-        outputs2 = sym (ap (λ (m : Memory). m .outputs2) memory);
-        outputs3 = sym (ap (λ (m : Memory). m .outputs3) memory) ∙ sym (ap (λ (m : Memory). m .outputs2) memory);
+        outputs2 = second;
+        outputs3 = sym (ap (λ (m : Memory). m .outputs3) memory) ∙ ap (λ (o : ℕ). o % 2 ^ n) second ∙ whole;
         levels2 = sym (ap (λ (m : Memory). m .levels2) memory);
       } in
       let levels = ap (λ (m : Memory). m .levels) memory in
@@ -151,6 +154,9 @@ module _ (n : ℕ) (c : Card) (input : Input) where
       t : turnedIn n false c (lines n c input .levels) ≡ sleptAll (c .cells) (c .memory .outputs)
       t = slept hc ho s
 
+      whole : c .memory .outputs % 2 ^ n ≡ c .memory .outputs
+      whole = mod-eq-of-lt ho
+
       kept : ticked n false c input .card ≡ c
       kept = λ k.
           record {
@@ -159,11 +165,12 @@ module _ (n : ℕ) (c : Card) (input : Input) where
             cells = t k .cells;
             connectors = c .connectors;
             edited = sym (s .edited) k;
+            size = c .size;
             memory = record {
               driven = s .driven k;
               outputs = t k .outputs;
-              outputs2 = sym (s .memory .outputs2) k;
-              outputs3 = (s .memory .outputs2 ∙ sym (s .memory .outputs3)) k;
+              outputs2 = (whole ∙ sym (s .memory .outputs2)) k;
+              outputs3 = (ap (λ (o : ℕ). o % 2 ^ n) (s .memory .outputs2) ∙ whole ∙ sym (s .memory .outputs3)) k;
               levels = s .levels k;
               levels2 = sym (s .memory .levels2) k;
             };
@@ -184,3 +191,8 @@ module _ (n : ℕ) (c : Card) (input : Input) where
       go true none kept = λ k.
           record { ran = true; driven = kept k .memory .driven; cells = kept k .memory .outputs; woken = none k; count = ones (none k) }
       go false none kept = refl
+
+-- ---- a card of n cells, whose words are those of n cells
+
+pub still-fits : (n : ℕ) (m : Memory) → m .outputs < 2 ^ n → StillMemory m → FitsMemory n m
+still-fits n m h s = (h, subst (λ (x : ℕ). x < 2 ^ n) (sym (s .outputs2)) h, subst (λ (x : ℕ). x < 2 ^ n) (sym (s .outputs3)) h)

@@ -7,6 +7,7 @@ pub mod FastPath
 pub mod Quarters
 pub mod Sleep
 pub mod Ticks
+pub mod Trim
 pub mod Turns
 pub mod ValidTicks
 pub mod Views

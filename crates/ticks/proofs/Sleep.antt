@@ -1,6 +1,6 @@
 -- The theorems of ticks: the count is the number of woken cells, the memory holds what was read, and on a settled card a quick tick does what a
 -- full one does. A fresh card is settled and every tick keeps it so.
-use Prim.Native.Nat.{ℕ, zero, suc, _+_, _-_, _*_, _^_, _≤_, _<_}
+use Prim.Native.Nat.{ℕ, zero, suc, _+_, _-_, _*_, _%_, _^_, _≤_, _<_}
 use mathlib.Core.Path.{_≡_, refl, sym, ap, ap₂, _∙_}
 use mathlib.Core.Bool.{Bool, true, false, _||_, cond}
 use mathlib.Core.List.{List, _++_}
@@ -9,7 +9,7 @@ use native.Mathlib.Decide.{decLt}
 use native.Mathlib.Omega.{arith}
 use lib.Count.{ones}
 use lib.Dec.{ltb, eqb}
-use lib.ListN.{drop, getD, getD-replicate}
+use lib.ListN.{drop, getD, getD-replicate, replicate, length-replicate, List·getD-append}
 use borrow.Author.Tests.{lt-ltb, le-ltb}
 use Rattle.words.specs.Bits.{bitAt, bitNumber, countOf}
 use Rattle.words.specs.Listed.{listed}
@@ -23,7 +23,7 @@ use Rattle.cells.specs.Wake.{stirred, disagree}
 use Rattle.cells.proofs.Laws.{again, constant-works, sleeps, disagree-sym, disagree-trans}
 use Rattle.card.specs.declared.card.Card.{Card}
 use Rattle.card.specs.declared.card.Memory.{Memory}
-use Rattle.card.specs.Address.{cellCount}
+use Rattle.card.specs.Address.{cellCount, cellRoom}
 use Rattle.card.specs.Fresh.{clearState, freshCell, noMemory, started, freshOf, noCell}
 use Rattle.card.specs.declared.card.Connector.{Connector}
 use Rattle.card.specs.Untouched.{Edit}
@@ -32,9 +32,10 @@ use Rattle.ticks.specs.declared.tick.Input.{Input}
 use Rattle.ticks.specs.declared.tick.Wires.{Wires}
 use Rattle.ticks.specs.Reading.{levelAt, slotsRead, mixed, view}
 use Rattle.ticks.specs.Tick.{readNow, readLast, turnTo, workedTurn, sleptTurn, named, turnAt, outputsBelow, cellAfter, wokeAt, turned}
-use Rattle.ticks.specs.Tick.{wiresOf, lines, cardAfter, readIn, ticked, idle, tick}
+use Rattle.ticks.specs.Tick.{trimmed, wiresOf, lines, cardAfter, readIn, ticked, idle, tick}
 use Rattle.ticks.specs.Settled.{remembered, Keeps, Settled, AlikeTicks}
 use Rattle.ticks.specs.Examples.{clock0, unsettled, wrong-stays, wrong-goes}
+use Rattle.ticks.proofs.Trim.{view-agree, cut}
 use Rattle.ticks.proofs.Views.{view-low}
 use Rattle.ticks.proofs.Ticks.{outAt, outputs-built}
 
@@ -85,6 +86,10 @@ pub full-set : (n : ℕ) (cells : List Cell) (edited : ℕ) (w : Wires) → turn
 unfolding turned turnAt
 full-set n cells edited w = built-all n
 
+-- document 02, "Thirty-two cells": "a full tick's set all ones"
+pub full-large : (cells : List Cell) (edited : ℕ) (w : Wires) → turned cellRoom true cells edited w .woken ≡ 4294967295
+full-large cells edited w = full-set cellRoom cells edited w
+
 cond-woke : (b : Bool) (cell : Cell) (now : Slots) (out : Bool) → cond b (workedTurn cell now) (sleptTurn cell out) .woke ≡ b
 cond-woke true cell now out = refl
 cond-woke false cell now out = refl
@@ -104,7 +109,13 @@ pub remembers : (n : ℕ) (full : Bool) (c : Card) (input : Input) (i : ℕ) (s 
     → remembered n i (ticked n full c input .card .memory) s ≡ readIn n full c input i s
 unfolding remembered turned readNow
 remembers n full c input i s h =
-    read-whole n full (c .cells) (c .edited) (wiresOf (c .memory) (lines n c input .levels)) n i s h
+    let m = c .memory in
+    let l = lines n c input .levels in
+    let w = wiresOf m l in
+    let o = outputsBelow n full (c .cells) (c .edited) w n in
+    let now = view-agree n i o o (m .outputs % 2 ^ n) (m .outputs) l (λ j k. refl) (cut n (m .outputs)) in
+    let last = view-agree n i _ (m .outputs) _ (m .outputs2) (m .levels) (cut n (m .outputs)) (cut n (m .outputs2)) in
+    (λ k. slotsRead (now k) (last k) s) ∙ read-whole n full (c .cells) (c .edited) w n i s h
 
 -- before a tick, what its readers had read in the last one is what the memory says
 pub recalls : (n i : ℕ) (m : Memory) (levels : ℕ) (s : List ℕ) → readLast n i (wiresOf m levels) s ≡ remembered n i m s
@@ -243,7 +254,7 @@ same-ticks n c input settled = go (eqb (input .code) (c .trigger))
         let cells = ap (λ (l : List Cell). l ++ drop n (c .cells)) (cells-same n c (lines n c input .levels) settled) in
         let outputs = outputs-same n c (lines n c input .levels) settled n (le-refl n) in
         record {
-          card = λ k. cardAfter c (lines n c input) (record { cells = cells k; outputs = outputs k; woken = 0 });
+          card = λ k. cardAfter (trimmed n (c .memory)) c (lines n c input) (record { cells = cells k; outputs = outputs k; woken = 0 });
           ran = refl;
           driven = refl;
           cells = outputs;
@@ -254,12 +265,17 @@ same-ticks n c input settled = go (eqb (input .code) (c .trigger))
 pub fresh-settled : (n : ℕ) → Settled n (freshOf n)
 unfolding Settled Keeps
 fresh-settled n i h edited now agree quiet =
-    rw (getD-replicate n i freshCell noCell h, bit-zero i) (constant-works 0 clearState now)
+    rw (
+      List·getD-append (replicate n freshCell) (replicate (cellRoom - n) freshCell) noCell i (rw (length-replicate n freshCell) h),
+      getD-replicate n i freshCell noCell h,
+      bit-zero i,
+    )
+    (constant-works 0 clearState now)
 
 -- a card that has just powered up is settled, since all its cells are edited
-pub powered-settled : (n trigger : ℕ) (cells : List Cell) (connectors : List Connector) → Settled n (started trigger cells connectors (2 ^ n - 1))
+pub powered-settled : (n size trigger : ℕ) (cells : List Cell) (connectors : List Connector) → Settled n (started size trigger cells connectors (2 ^ n - 1))
 unfolding Settled
-powered-settled n trigger cells connectors i h edited = all-edited n i h edited
+powered-settled n size trigger cells connectors i h edited = all-edited n i h edited
 
 -- an edit keeps a card settled: the cells that it changes are edited, and so exempt
 pub edit-settled : (n : ℕ) (c d : Card) → Edit n c d → Settled n c → Settled n d

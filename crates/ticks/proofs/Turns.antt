@@ -21,7 +21,6 @@ use Rattle.cells.specs.declared.cell.Worked.{Worked}
 use Rattle.cells.specs.State.{stateOf}
 use Rattle.cells.specs.Wake.{wakes, stirred, disagree}
 use Rattle.cells.specs.Work.{workOut}
-use Rattle.card.specs.Address.{cellCount}
 use Rattle.card.specs.Edits.{withSettings}
 use Rattle.card.specs.declared.card.Card.{Card}
 use Rattle.ticks.specs.declared.tick.Wires.{Wires}
@@ -35,21 +34,21 @@ use Rattle.ticks.proofs.Words.{view-step, reads-kept, moves-kept}
 -- ---- a tick of a card
 
 -- the definition's cells, outputs and woken cells
-abbrev pub afterOf : Bool → Card → Wires → ℕ → Cell
-afterOf full c w = cellAfter cellCount full (c .cells) (c .edited) w
+abbrev pub afterOf : ℕ → Bool → Card → Wires → ℕ → Cell
+afterOf n full c w = cellAfter n full (c .cells) (c .edited) w
 
-abbrev pub outsOf : Bool → Card → Wires → ℕ → Bool
-outsOf full c w = outAt cellCount full (c .cells) (c .edited) w
+abbrev pub outsOf : ℕ → Bool → Card → Wires → ℕ → Bool
+outsOf n full c w = outAt n full (c .cells) (c .edited) w
 
-abbrev pub wokesOf : Bool → Card → Wires → ℕ → Bool
-wokesOf full c w = wokeAt cellCount full (c .cells) (c .edited) w
+abbrev pub wokesOf : ℕ → Bool → Card → Wires → ℕ → Bool
+wokesOf n full c w = wokeAt n full (c .cells) (c .edited) w
 
 -- the card with other cells, and its cells with the first i turned
 abbrev pub seated : Card → List Cell → Card
 seated c cells = withSettings c (c .trigger) cells (c .connectors) (c .edited)
 
-abbrev pub upTo : Bool → Card → Wires → ℕ → List Cell
-upTo full c w i = listed (afterOf full c w) i ++ drop i (c .cells)
+abbrev pub upTo : ℕ → Bool → Card → Wires → ℕ → List Cell
+upTo n full c w i = listed (afterOf n full c w) i ++ drop i (c .cells)
 
 -- what is known of the length of an array in a struct is known of its entries as the machine has them
 pub as-long : (X Y : Type 0) (g : X → Y) (l : List X) (n : ℕ) → length (map g l) ≡ n → length l ≡ n

@@ -35,6 +35,7 @@ card cells outputs edited =
       connectors = fresh .connectors;
       edited = edited;
       memory = record { driven = 0; outputs = outputs; outputs2 = outputs; outputs3 = outputs; levels = 0; levels2 = 0 };
+      size = cellCount;
     }
 
 twoCells : Cell → Cell → List Cell
@@ -65,6 +66,7 @@ wired cells kind source =
       connectors = replicate connectorCount (record { kind = kind; source = source });
       edited = 3;
       memory = fresh .memory;
+      size = cellCount;
     }
 
 -- inputs; cell 1 is high in the tick in which TTL0 rises (address 169), cell 2 in the one in which BNC1 falls (225)

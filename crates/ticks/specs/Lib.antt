@@ -5,6 +5,7 @@ pub mod Tick
 pub mod Rest
 pub mod Counting
 pub mod Examples
+pub mod Sizes
 pub mod RestExamples
 -- Another view of a rule above, or what only proofs use: laws say that they agree.
 pub mod Words

@@ -1,5 +1,5 @@
 -- Document 01, "One tick" and "Who wakes": a tick of either kind, over the number n of cells.
-use Prim.Native.Nat.{ℕ, zero, suc, _+_, _*_, _^_}
+use Prim.Native.Nat.{ℕ, zero, suc, _+_, _*_, _%_, _^_}
 use mathlib.Core.Bool.{Bool, true, false, _||_, cond}
 use mathlib.Core.List.{List, _++_}
 use lib.Count.{ones}
@@ -110,6 +110,18 @@ linesIn n m connectors sample =
 abbrev pub lines : (n : ℕ) → Card → Input → Lines
 lines n c input = linesIn n (c .memory) (c .connectors) (effectiveSample (input .sample) (input .attached))
 
+-- of the cell words a card of n cells has n bits: what a card is handed in with above them nobody sees, and a tick that runs leaves it behind
+abbrev pub trimmed : (n : ℕ) → Memory → Memory
+trimmed n m =
+    record {
+      driven = m .driven;
+      outputs = m .outputs % 2 ^ n;
+      outputs2 = m .outputs2 % 2 ^ n;
+      outputs3 = m .outputs3 % 2 ^ n;
+      levels = m .levels;
+      levels2 = m .levels2;
+    }
+
 -- the memory moved on by a tick with these words
 abbrev pub moved : Memory → (driven outputs levels : ℕ) → Memory
 moved m driven outputs levels =
@@ -122,16 +134,17 @@ moved m driven outputs levels =
       levels2 = m .levels;
     }
 
--- the card after a tick that ran: it clears the edits and moves the memory on
-abbrev pub cardAfter : Card → Lines → Turned → Card
-cardAfter c l t =
+-- the card after a tick that ran: it clears the edits and moves the memory m on
+abbrev pub cardAfter : Memory → Card → Lines → Turned → Card
+cardAfter m c l t =
     record {
       pointer = c .pointer;
       trigger = c .trigger;
       cells = t .cells;
       connectors = c .connectors;
       edited = 0;
-      memory = moved (c .memory) (l .driven) (t .outputs) (l .levels);
+      memory = moved m (l .driven) (t .outputs) (l .levels);
+      size = c .size;
     }
 
 -- what a reader in position i reads in a tick
@@ -147,11 +160,11 @@ answerOf l t = record { ran = true; driven = l .driven; cells = t .outputs; woke
 abbrev pub turnedIn : (n : ℕ) → Bool → Card → ℕ → Turned
 turnedIn n full c levels = turned n full (c .cells) (c .edited) (wiresOf (c .memory) levels)
 
-abbrev pub ranWith : Card → Lines → Turned → Ticked
-ranWith c l t = record { card = cardAfter c l t; answer = answerOf l t }
+abbrev pub ranWith : Memory → Card → Lines → Turned → Ticked
+ranWith m c l t = record { card = cardAfter m c l t; answer = answerOf l t }
 
 abbrev pub ticked : (n : ℕ) → Bool → Card → Input → Ticked
-ticked n full c input = ranWith c (lines n c input) (turnedIn n full c (lines n c input .levels))
+ticked n full c input = ranWith (trimmed n (c .memory)) c (lines n c input) (turnedIn n full c (lines n c input .levels))
 
 -- "idle" and nothing changes; the words of an idle answer are 0
 abbrev pub idle : Card → Ticked

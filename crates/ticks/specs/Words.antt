@@ -1,11 +1,12 @@
 -- The words that addresses are read from, as what they read: the code keeps four words for what a reader reads, and four for what it reads otherwise
 -- than in the last tick.
-use Prim.Native.Nat.{ℕ, _<_}
+use Prim.Native.Nat.{ℕ, _^_, _<_}
 use mathlib.Core.Path.{_≡_}
 use mathlib.Core.Bool.{Bool, not, _&&_, _||_, Bool·beq}
 use mathlib.Core.List.{List}
 use Rattle.words.specs.Bits.{bitAt}
 use Rattle.cells.specs.Reading.{readFrom}
+use Rattle.card.specs.declared.card.Memory.{Memory}
 use Rattle.ticks.specs.declared.tick.Wires.{Wires}
 use Rattle.ticks.specs.Reading.{reads}
 
@@ -28,3 +29,10 @@ shiftedAt i w = not (Bool·beq (bitAt (w .outputs) i) (bitAt (w .outputs2) i)) |
 -- a connector's level, from whether it is push-pull, whether it is open-drain, what it drives and what is sampled
 abbrev pub levelIn : (push drain driven sample : Bool) → Bool
 levelIn push drain driven sample = (driven && (push || sample)) || (sample && not (push || drain))
+
+-- the cell words have no bit above the first n
+abbrev pub Fits : ℕ → Wires → Type 0
+Fits n w = (w .outputs < 2 ^ n) × (w .outputs2 < 2 ^ n) × (w .outputs3 < 2 ^ n)
+
+abbrev pub FitsMemory : ℕ → Memory → Type 0
+FitsMemory n m = (m .outputs < 2 ^ n) × (m .outputs2 < 2 ^ n) × (m .outputs3 < 2 ^ n)

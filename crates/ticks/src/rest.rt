@@ -1,17 +1,25 @@
 // Cards at rest: a tick would name no cell and change nothing.
+ghost use mathlib.Core.Bool.{true, _&&_};
 ghost use mathlib.Core.Path.{_≡_};
+ghost use Prim.Native.Nat.{_%_, _^_, _≤_, _<_};
+ghost use lib.Dec.{eqb};
 ghost use lib.ListN.{length};
 ghost use Rattle.words.specs.Bits.{bitAt};
-ghost use Rattle.card.specs.Address.{cellCount};
+ghost use Rattle.card.specs.Address.{cellRoom, cellsFor};
+ghost use Rattle.ticks.specs.Tick.{wiresOf};
 ghost use Rattle.ticks.specs.Rest.{steady, cellRests, allRest, Decides, AtRest};
-use crate::connectors::drive;
-use crate::connectors::effective;
 use crate::tick::Input;
 use crate::tick::Wires;
+use crate::tick::lines_in;
+use crate::tick::low;
+use crate::tick::wires_of;
 use crate::view::quarters;
 use crate::view::sees;
 use card::card::Card;
+use card::card::Memory;
 use card::limits::CELLS;
+use card::limits::EditedSet;
+use card::place::cells_for;
 use cells::cell::Cell;
 use cells::reading::address;
 use cells::reading::four;
@@ -46,11 +54,12 @@ fn rests(cell: Cell, view: u64) -> bool
     )
 }
 
-pub fn all_rest(cells: [Cell; CELLS], view: u64) -> bool
-    ensures { λ q. ⌜ q ≡ allRest cellCount (bitAt view) cells ⌝ }
-    ensures { λ q. ⌜ length cells ≡ cellCount ⌝ }
+pub fn all_rest(cells: [Cell; CELLS], view: u64, n: u8) -> bool
+    requires { ⌜ n ≤ cellRoom ⌝ }
+    ensures { λ q. ⌜ q ≡ allRest n (bitAt view) cells ⌝ }
+    ensures { λ q. ⌜ length cells ≡ cellRoom ⌝ }
 {
-    for i in 0..CELLS {
+    for i in 0..n as usize {
         if !rests(cells[i], view) {
             return false;
         }
@@ -58,33 +67,45 @@ pub fn all_rest(cells: [Cell; CELLS], view: u64) -> bool
     true
 }
 
-// Whether a quick tick with the input would name no cell and leave the card as it is. No tick is made: the last words are compared, the connectors
-// driven, and the cells with edge slots looked at.
-pub fn at_rest(card: Card, input: Input) -> bool
-    ensures { λ q. ⌜ Decides q (AtRest cellCount card input) ⌝ }
+// Whether the words of the last two ticks are the same, and the cell word one of n cells.
+fn holds_still(m: Memory, n: u8) -> bool
+    requires { ⌜ n ≤ cellRoom ⌝ }
+    ensures { λ q. ⌜ q ≡ (eqb (m .outputs) (m .outputs % 2 ^ n) && steady (wiresOf m (m .levels))) ⌝ }
 {
-    if input.code != card.trigger {
-        return true;
-    }
+    (m.outputs == low(m.outputs as EditedSet, n)) & unchanged(wires_of(m, m.levels))
+}
+
+// Whether the connectors and the cells rest too.
+fn rests_on(card: Card, input: Input, n: u8) -> bool
+    requires { ⌜ n ≤ cellRoom ⌝ }
+    requires { ⌜ input .code ≡ card .trigger ⌝ }
+    requires { ⌜ card .edited ≡ 0 ⌝ }
+    requires { ⌜ card .memory .outputs < 2 ^ n ⌝ }
+    requires { ⌜ steady (wiresOf (card .memory) (card .memory .levels)) ≡ true ⌝ }
+    ensures { λ q. ⌜ Decides q (AtRest n card input) ⌝ }
+{
     let m = card.memory;
-    let last = Wires {
-        levels: m.levels,
-        levels2: m.levels,
-        levels3: m.levels2,
-        outputs: m.outputs,
-        outputs2: m.outputs2,
-        outputs3: m.outputs3,
-    };
-    if (card.edited != 0) | !unchanged(last) {
-        return false;
-    }
-    let view = sees(0, m.outputs, m.outputs, m.levels);
     let connectors = card.connectors;
-    let sample = effective(input.sample, input.attached);
-    let l = drive(connectors, view, view, sample);
+    let l = lines_in(connectors, m, input);
     if (l.driven != m.driven) | (l.levels != m.levels) {
         return false;
     }
     let cells = card.cells;
-    all_rest(cells, view)
+    all_rest(cells, sees(0, m.outputs, m.outputs, m.levels), n)
+}
+
+// Whether a quick tick with the input would name no cell and leave the card as it is. No tick is made: the last words are compared, the connectors
+// driven, and the cells with edge slots looked at.
+pub fn at_rest(card: Card, input: Input) -> bool
+    ensures { λ q. ⌜ Decides q (AtRest (cellsFor (card .size)) card input) ⌝ }
+{
+    if input.code != card.trigger {
+        return true;
+    }
+    let n = cells_for(card.size);
+    let m = card.memory;
+    if (card.edited != 0) | !holds_still(m, n) {
+        return false;
+    }
+    rests_on(card, input, n)
 }

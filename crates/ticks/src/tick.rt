@@ -1,45 +1,42 @@
 // Ticks: full and quick.
 ghost use mathlib.Core.Bool.{Bool, true, false, not, _||_};
 ghost use mathlib.Core.Path.{_≡_};
-ghost use Prim.Native.Nat.{ℕ, _<_};
+ghost use Prim.Native.Nat.{ℕ, _%_, _^_, _≤_, _<_};
 ghost use lib.Dec.{eqb};
 ghost use Rattle.words.specs.Bits.{bitAt, withBit};
 ghost use Rattle.cells.specs.State.{stateOf};
 ghost use Rattle.cells.specs.Effect.{workedBy};
 ghost use Rattle.cells.specs.Wake.{wakes};
 ghost use Rattle.cells.specs.Work.{workOut};
-ghost use Rattle.card.specs.Address.{cellCount};
+ghost use Rattle.card.specs.Address.{cellRoom, cellsFor};
 ghost use Rattle.ticks.specs.Reading.{slotsRead};
 ghost use Rattle.ticks.specs.FastPath.{turnedTo, sleptAll};
 ghost use Rattle.ticks.specs.Levels.{effectiveSample};
 ghost use Rattle.ticks.specs.Tick;
-ghost use Rattle.ticks.specs.Tick.{turned, turnedIn, wiresOf, linesIn, ranWith};
-ghost use Rattle.ticks.specs.Words.{ReadsAs, MovesAs, shiftedAt};
+ghost use Rattle.ticks.specs.Tick.{turned, trimmed, wiresOf, linesIn, ranWith};
+ghost use Rattle.ticks.specs.Words.{ReadsAs, MovesAs, shiftedAt, FitsMemory};
 use crate::connectors::Lines;
 use crate::connectors::drive;
 use crate::connectors::effective;
 use crate::rest::all_rest;
 use crate::rest::unchanged;
+use crate::view::ALL;
 use crate::view::sees;
 use crate::view::words_moved;
 use crate::view::words_now;
 use card::card::Card;
 use card::card::Connector;
 use card::card::Memory;
-use card::limits::ALL_EDITED;
+use card::edits::all_edited;
 use card::limits::CELLS;
 use card::limits::CONNECTORS;
 use card::limits::CellWord;
 use card::limits::EditedSet;
+use card::place::cells_for;
 use cells::cell::Cell;
 use cells::reading::QUARTERS;
 use cells::reading::address;
 use cells::work::Effect;
-
-// The set of all cells, and how many sets there are.
-const ALL_CELLS: CellWord = ALL_EDITED as CellWord;
-
-const CELL_SETS: EditedSet = ALL_EDITED + 1;
 
 // What comes in with a tick: the code of its clock, the word sampled at the connectors, and which of them have something attached.
 #[repr(C)]
@@ -129,15 +126,33 @@ fn worked(cell: Cell, q: &[u64; QUARTERS]) -> Effect
     )
 }
 
-// The cells that are worked out in any case: all in a full tick, and those that were edited.
-fn due(full: bool, edited: EditedSet) -> CellWord
-    ensures { λ r. ⌜ ((i : ℕ) → i < cellCount → bitAt r i ≡ (full || bitAt edited i)) ⌝ }
+// The first n bits of a word.
+pub fn low(w: EditedSet, n: u8) -> CellWord
+    requires { ⌜ n ≤ cellRoom ⌝ }
+    ensures { λ r. ⌜ r ≡ w % 2 ^ n ⌝ }
 {
-    if full {
-        ALL_CELLS
-    } else {
-        (edited % CELL_SETS) as CellWord
-    }
+    (w & all_edited(n)) as CellWord
+}
+
+// The memory as a card of n cells sees it.
+pub fn seen_memory(m: Memory, n: u8) -> Memory
+    requires { ⌜ n ≤ cellRoom ⌝ }
+    ensures { λ r. ⌜ r ≡ trimmed n m ⌝ }
+{
+    let mut next = m;
+    next.outputs = low(m.outputs as EditedSet, n);
+    next.outputs2 = low(m.outputs2 as EditedSet, n);
+    next.outputs3 = low(m.outputs3 as EditedSet, n);
+    next
+}
+
+// The cells that are worked out in any case: all in a full tick, and those that were edited.
+fn due(full: bool, edited: EditedSet, n: u8) -> CellWord
+    requires { ⌜ n ≤ cellRoom ⌝ }
+    ensures { λ r. ⌜ ((i : ℕ) → i < n → bitAt r i ≡ (full || bitAt edited i)) ⌝ }
+    ensures { λ r. ⌜ r < 2 ^ n ⌝ }
+{
+    if full { low(ALL, n) } else { low(edited, n) }
 }
 
 // The cells whose output changed in one of the last two ticks.
@@ -149,14 +164,14 @@ fn shifted(w: Wires) -> CellWord
 
 // A word with the bit of cell i set, and with it flipped.
 fn joined(w: CellWord, i: u32) -> CellWord
-    requires { ⌜ i < cellCount ⌝ }
+    requires { ⌜ i < cellRoom ⌝ }
     ensures { λ r. ⌜ r ≡ withBit w i true ⌝ }
 {
     w | (1 << i)
 }
 
 fn flipped(w: CellWord, i: u32) -> CellWord
-    requires { ⌜ i < cellCount ⌝ }
+    requires { ⌜ i < cellRoom ⌝ }
     ensures { λ r. ⌜ r ≡ withBit w i (not (bitAt w i)) ⌝ }
 {
     w ^ (1 << i)
@@ -168,8 +183,10 @@ fn flipped(w: CellWord, i: u32) -> CellWord
 // sleeps unless an edge slot of it is high all the same.
 
 // Whether a quick tick leaves every cell as it is. It may say no where a closer look would say yes.
-fn is_quiet(cells: [Cell; CELLS], edited: EditedSet, w: Wires) -> bool
-    ensures { λ q. ⌜ (q ≡ true → turned cellCount false cells edited w ≡ sleptAll cells (w .outputs)) ⌝ }
+fn is_quiet(cells: [Cell; CELLS], edited: EditedSet, w: Wires, n: u8) -> bool
+    requires { ⌜ n ≤ cellRoom ⌝ }
+    requires { ⌜ w .outputs < 2 ^ n ⌝ }
+    ensures { λ q. ⌜ (q ≡ true → turned n false cells edited w ≡ sleptAll cells (w .outputs)) ⌝ }
 {
     if edited != 0 {
         return false;
@@ -177,7 +194,7 @@ fn is_quiet(cells: [Cell; CELLS], edited: EditedSet, w: Wires) -> bool
     if !unchanged(w) {
         return false;
     }
-    all_rest(cells, sees(0, w.outputs, w.outputs, w.levels))
+    all_rest(cells, sees(0, w.outputs, w.outputs, w.levels), n)
 }
 
 // ---- a tick
@@ -185,8 +202,8 @@ fn is_quiet(cells: [Cell; CELLS], edited: EditedSet, w: Wires) -> bool
 // The two kinds stand side by side, since a card in a value that branches meet in is copied once more.
 
 // The connectors, driven from the last tick's words, and the levels of what comes in.
-fn lines_in(connectors: [Connector; CONNECTORS], m: Memory, input: Input) -> Lines
-    ensures { λ l. ⌜ l ≡ linesIn cellCount m connectors (effectiveSample (input .sample) (input .attached)) ⌝ }
+pub fn lines_in(connectors: [Connector; CONNECTORS], m: Memory, input: Input) -> Lines
+    ensures { λ l. ⌜ ((n : ℕ) → n ≤ cellRoom → FitsMemory n m → l ≡ linesIn n m connectors (effectiveSample (input .sample) (input .attached))) ⌝ }
 {
     let now = sees(0, m.outputs, m.outputs, m.levels);
     let before = sees(0, m.outputs2, m.outputs2, m.levels2);
@@ -208,11 +225,10 @@ pub fn wires_of(m: Memory, levels: u16) -> Wires
     }
 }
 
-// The card after a tick that ran, and its answer. The cells are turned already.
-fn ran_with(card: Card, l: Lines, outputs: CellWord, woken: CellWord) -> Ticked
-    ensures { λ r. ⌜ r ≡ ranWith card l (turnedTo (card .cells) outputs woken) ⌝ }
+// The card after a tick that ran, and its answer. The cells are turned already, and the memory m is moved on.
+fn ran_with(card: Card, m: Memory, l: Lines, outputs: CellWord, woken: CellWord) -> Ticked
+    ensures { λ r. ⌜ r ≡ ranWith m card l (turnedTo (card .cells) outputs woken) ⌝ }
 {
-    let m = card.memory;
     let memory = Memory {
         driven: l.driven,
         outputs: outputs,
@@ -229,7 +245,7 @@ fn ran_with(card: Card, l: Lines, outputs: CellWord, woken: CellWord) -> Ticked
         driven: l.driven,
         cells: outputs,
         woken: woken,
-        count: u16::count_ones(woken),
+        count: u32::count_ones(woken),
     };
     Ticked {
         card: next,
@@ -240,17 +256,19 @@ fn ran_with(card: Card, l: Lines, outputs: CellWord, woken: CellWord) -> Ticked
 // A tick that runs: the turns of all cells, in order. The woken set starts as the cells that are due, and the outputs as those of the last tick, so
 // a cell that sleeps changes neither. The words for the next reader are made anew only where readers above the cell see something else of it, in
 // this tick or the last two, than readers up to it do.
-fn turn_each(full: bool, card: Card, l: Lines) -> Ticked
-    ensures { λ t. ⌜ t ≡ ranWith card l (turnedIn cellCount full card (l .levels)) ⌝ }
+fn turn_each(full: bool, card: Card, m: Memory, l: Lines, n: u8) -> Ticked
+    requires { ⌜ n ≤ cellRoom ⌝ }
+    requires { ⌜ FitsMemory n m ⌝ }
+    ensures { λ t. ⌜ t ≡ ranWith m card l (turned n full (card .cells) (card .edited) (wiresOf m (l .levels))) ⌝ }
 {
-    let w = wires_of(card.memory, l.levels);
+    let w = wires_of(m, l.levels);
     let shifted = shifted(w);
     let mut next = card;
     let mut outputs = w.outputs;
-    let mut woken = due(full, card.edited);
+    let mut woken = due(full, card.edited, n);
     let mut q = words_now(0, outputs, w);
     let mut d = words_moved(0, outputs, w);
-    for i in 0..CELLS as u32 {
+    for i in 0..n as u32 {
         let at = i as usize;
         let mut woke = words::bit(woken as u64, i);
         if !woke {
@@ -303,7 +321,7 @@ fn turn_each(full: bool, card: Card, l: Lines) -> Ticked
             d = words_moved(i + 1, outputs, w);
         }
     }
-    ran_with(next, l, outputs, woken)
+    ran_with(next, m, l, outputs, woken)
 }
 
 // Whether a clock is the card's trigger source.
@@ -332,30 +350,32 @@ fn idle(card: Card) -> Ticked
 
 // Every cell is worked out.
 pub fn full_tick(card: Card, input: Input) -> Ticked
-    ensures { λ t. ⌜ t ≡ Tick.tick cellCount true card input ⌝ }
+    ensures { λ t. ⌜ t ≡ Tick.tick (cellsFor (card .size)) true card input ⌝ }
 {
     if !is_own(input.code, card.trigger) {
         return idle(card);
     }
-    let m = card.memory;
+    let n = cells_for(card.size);
+    let m = seen_memory(card.memory, n);
     let connectors = card.connectors;
     let l = lines_in(connectors, m, input);
-    turn_each(true, card, l)
+    turn_each(true, card, m, l, n)
 }
 
 // The cells that the waking rules name are worked out.
 pub fn quick_tick(card: Card, input: Input) -> Ticked
-    ensures { λ t. ⌜ t ≡ Tick.tick cellCount false card input ⌝ }
+    ensures { λ t. ⌜ t ≡ Tick.tick (cellsFor (card .size)) false card input ⌝ }
 {
     if !is_own(input.code, card.trigger) {
         return idle(card);
     }
-    let m = card.memory;
+    let n = cells_for(card.size);
+    let m = seen_memory(card.memory, n);
     let connectors = card.connectors;
     let l = lines_in(connectors, m, input);
     let cells = card.cells;
-    if is_quiet(cells, card.edited, wires_of(m, l.levels)) {
-        return ran_with(card, l, m.outputs, 0);
+    if is_quiet(cells, card.edited, wires_of(m, l.levels), n) {
+        return ran_with(card, m, l, m.outputs, 0);
     }
-    turn_each(false, card, l)
+    turn_each(false, card, m, l, n)
 }

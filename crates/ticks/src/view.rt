@@ -1,19 +1,19 @@
 // What a reader sees at each base, as a word with a bit for each base, and the words that addresses are read from.
 ghost use mathlib.Core.Path.{_≡_};
-ghost use Prim.Native.Nat.{_<_};
+ghost use Prim.Native.Nat.{ℕ, _^_, _≤_, _<_};
 ghost use Rattle.words.specs.Bits.{bitAt, wordOf};
-ghost use Rattle.card.specs.Address.{cellCount};
+ghost use Rattle.card.specs.Address.{cellRoom};
 ghost use Rattle.ticks.specs.Reading.{view};
-ghost use Rattle.ticks.specs.Words.{ReadsAs, MovesAs, Differ};
+ghost use Rattle.ticks.specs.Words.{ReadsAs, MovesAs, Differ, Fits};
 ghost use Rattle.ticks.specs.Tick.{seesNow, sawLast, sawEarlier};
 use crate::tick::Wires;
 use card::limits::CellWord;
 use cells::reading::QUARTERS;
 
 // The view of a reader in position i: of the cells below i the bits of `below`, of the others those of `others`.
-pub fn sees(i: u32, below: u16, others: u16, levels: u16) -> u64
+pub fn sees(i: u32, below: CellWord, others: CellWord, levels: u16) -> u64
     requires { ⌜ i < 64 ⌝ }
-    ensures { λ w. ⌜ w ≡ wordOf (view cellCount i below others levels) 64 ⌝ }
+    ensures { λ w. ⌜ ((n : ℕ) → n ≤ cellRoom → below < 2 ^ n → others < 2 ^ n → w ≡ wordOf (view n i below others levels) 64) ⌝ }
 {
     let mask = (1 << i) - 1;
     let outside = others as u64;
@@ -42,7 +42,7 @@ fn differing(a: [u64; QUARTERS], b: [u64; QUARTERS]) -> [u64; QUARTERS]
 // What a reader in position i reads in this tick, below which this tick's outputs are known.
 pub fn words_now(i: u32, below: CellWord, w: Wires) -> [u64; QUARTERS]
     requires { ⌜ i < 64 ⌝ }
-    ensures { λ q. ⌜ ReadsAs q (seesNow cellCount i w below) (sawLast cellCount i w) ⌝ }
+    ensures { λ q. ⌜ ((n : ℕ) → n ≤ cellRoom → below < 2 ^ n → Fits n w → ReadsAs q (seesNow n i w below) (sawLast n i w)) ⌝ }
 {
     let now = sees(i, below, w.outputs, w.levels);
     let before = sees(i, w.outputs, w.outputs2, w.levels2);
@@ -52,7 +52,7 @@ pub fn words_now(i: u32, below: CellWord, w: Wires) -> [u64; QUARTERS]
 // What it read in the last tick that ran.
 pub fn words_last(i: u32, w: Wires) -> [u64; QUARTERS]
     requires { ⌜ i < 64 ⌝ }
-    ensures { λ q. ⌜ ReadsAs q (sawLast cellCount i w) (sawEarlier cellCount i w) ⌝ }
+    ensures { λ q. ⌜ ((n : ℕ) → n ≤ cellRoom → Fits n w → ReadsAs q (sawLast n i w) (sawEarlier n i w)) ⌝ }
 {
     let last = sees(i, w.outputs, w.outputs2, w.levels2);
     let earlier = sees(i, w.outputs2, w.outputs3, w.levels3);
@@ -62,7 +62,7 @@ pub fn words_last(i: u32, w: Wires) -> [u64; QUARTERS]
 // The addresses that it reads otherwise than in the last tick that ran.
 pub fn words_moved(i: u32, below: CellWord, w: Wires) -> [u64; QUARTERS]
     requires { ⌜ i < 64 ⌝ }
-    ensures { λ d. ⌜ MovesAs d (seesNow cellCount i w below) (sawLast cellCount i w) (sawEarlier cellCount i w) ⌝ }
+    ensures { λ d. ⌜ ((n : ℕ) → n ≤ cellRoom → below < 2 ^ n → Fits n w → MovesAs d (seesNow n i w below) (sawLast n i w) (sawEarlier n i w)) ⌝ }
 {
     let now = words_now(i, below, w);
     let last = words_last(i, w);

@@ -3,7 +3,7 @@ ghost use mathlib.Core.Bool.{true, false};
 ghost use mathlib.Core.Path.{_≡_};
 ghost use Prim.Native.Nat.{_≤_};
 ghost use lib.ListN.{length};
-ghost use Rattle.card.specs.Address.{cellCount};
+ghost use Rattle.card.specs.Address.{cellCount, cellRoom, cellsFor};
 ghost use Rattle.card.specs.Fresh;
 ghost use Rattle.ticks.specs.Rest.{Decides, AtRest};
 ghost use Rattle.ticks.specs.Tick.{tick};
@@ -12,6 +12,7 @@ ghost use Rattle.convert.specs.Convert.{convertNumber, convertLength, converted
 ghost use Rattle.lines.specs.Line.{shortestReply, lineResult, resultOf};
 ghost use Rattle.printed.specs.Print.{printNumber, printLength, printedTo};
 use card::card::Card;
+use card::limits::LARGE;
 use convert::Converted;
 use lines::line::Answered;
 use printed::print::Printed;
@@ -19,7 +20,7 @@ use saved::record::Loaded;
 use ticks::tick::Input;
 use ticks::tick::Ticked;
 
-// A card as it powers up.
+// A card of sixteen cells as it powers up.
 #[no_mangle]
 pub extern "C" fn trigger_fresh() -> Card
     ensures { λ c. ⌜ c ≡ Fresh.fresh ⌝ }
@@ -27,10 +28,18 @@ pub extern "C" fn trigger_fresh() -> Card
     card::card::fresh()
 }
 
+// A card of thirty-two cells as it powers up.
+#[no_mangle]
+pub extern "C" fn trigger_fresh_large() -> Card
+    ensures { λ c. ⌜ c ≡ Fresh.freshOf cellRoom ⌝ }
+{
+    card::card::fresh_of(LARGE)
+}
+
 // Every cell is worked out.
 #[no_mangle]
 pub extern "C" fn trigger_full_tick(card: Card, input: Input) -> Ticked
-    ensures { λ t. ⌜ t ≡ tick cellCount true card input ⌝ }
+    ensures { λ t. ⌜ t ≡ tick (cellsFor (card .size)) true card input ⌝ }
 {
     ticks::tick::full_tick(card, input)
 }
@@ -38,7 +47,7 @@ pub extern "C" fn trigger_full_tick(card: Card, input: Input) -> Ticked
 // The cells that the waking rules name are worked out.
 #[no_mangle]
 pub extern "C" fn trigger_quick_tick(card: Card, input: Input) -> Ticked
-    ensures { λ t. ⌜ t ≡ tick cellCount false card input ⌝ }
+    ensures { λ t. ⌜ t ≡ tick (cellsFor (card .size)) false card input ⌝ }
 {
     ticks::tick::quick_tick(card, input)
 }
@@ -46,7 +55,7 @@ pub extern "C" fn trigger_quick_tick(card: Card, input: Input) -> Ticked
 // Whether a quick tick with the input would name no cell and leave the card as it is. Then every tick with it does, and the clock may stop.
 #[no_mangle]
 pub extern "C" fn trigger_at_rest(card: Card, input: Input) -> bool
-    ensures { λ q. ⌜ Decides q (AtRest cellCount card input) ⌝ }
+    ensures { λ q. ⌜ Decides q (AtRest (cellsFor (card .size)) card input) ⌝ }
 {
     ticks::rest::at_rest(card, input)
 }
@@ -54,8 +63,8 @@ pub extern "C" fn trigger_at_rest(card: Card, input: Input) -> bool
 // A load of any bytes: the card powers up with them, and a refused load leaves it as it was.
 #[no_mangle]
 pub extern "C" fn trigger_load(card: Card, bytes: &[u8]) -> Loaded
-    ensures { λ r. ⌜ r .card ≡ loaded cellCount card (now (bytes .entry)) ⌝ }
-    ensures { λ r. ⌜ r .k ≡ loadNumber cellCount (now (bytes .entry)) ⌝ }
+    ensures { λ r. ⌜ r .card ≡ loaded (cellsFor (card .size)) card (now (bytes .entry)) ⌝ }
+    ensures { λ r. ⌜ r .k ≡ loadNumber (cellsFor (card .size)) (now (bytes .entry)) ⌝ }
 {
     saved::record::load(card, bytes)
 }
@@ -68,7 +77,7 @@ pub extern "C" fn trigger_line(
     reply: &mut [u8],
     store: &mut [u8],
 ) -> Answered
-    ensures { λ r. ⌜ resultOf r (now (reply .exit)) (now (store .exit)) ≡ lineResult cellCount card (now (text .entry)) (now (reply .entry)) (now (store .entry)) ⌝ }
+    ensures { λ r. ⌜ resultOf r (now (reply .exit)) (now (store .exit)) ≡ lineResult (cellsFor (card .size)) card (now (text .entry)) (now (reply .entry)) (now (store .entry)) ⌝ }
     ensures { λ r. ⌜ r .len ≤ shortestReply ⌝ }
 {
     lines::line::line(card, text, reply, store)
@@ -77,9 +86,9 @@ pub extern "C" fn trigger_line(
 // The settings of a card as lines, each ended by LF, written to the front of the buffer. Any card prints; 16 where the text is longer than the buffer.
 #[no_mangle]
 pub extern "C" fn trigger_print(card: Card, buffer: &mut [u8]) -> Printed
-    ensures { λ r. ⌜ r .k ≡ printNumber cellCount card (length (now (buffer .entry))) ⌝ }
-    ensures { λ r. ⌜ r .len ≡ printLength cellCount card (length (now (buffer .entry))) ⌝ }
-    ensures { λ _. ⌜ now (buffer .exit) ≡ printedTo cellCount card (now (buffer .entry)) ⌝ }
+    ensures { λ r. ⌜ r .k ≡ printNumber (cellsFor (card .size)) card (length (now (buffer .entry))) ⌝ }
+    ensures { λ r. ⌜ r .len ≡ printLength (cellsFor (card .size)) card (length (now (buffer .entry))) ⌝ }
+    ensures { λ _. ⌜ now (buffer .exit) ≡ printedTo (cellsFor (card .size)) card (now (buffer .entry)) ⌝ }
     ensures { λ r. ⌜ r .len ≤ length (now (buffer .exit)) ⌝ }
 {
     printed::print::print(card, buffer)

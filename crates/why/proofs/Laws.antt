@@ -1,6 +1,6 @@
 -- The reasons of a tick are those of the cells that the rules name in it, and after a quick tick those of the woken set.
-use Prim.Native.Nat.{ℕ, _<_}
-use mathlib.Core.Path.{_≡_, sym, ap, _∙_}
+use Prim.Native.Nat.{ℕ, _^_, _<_}
+use mathlib.Core.Path.{_≡_, refl, sym, ap, subst, _∙_}
 use mathlib.Core.Bool.{Bool, true, false, cond}
 use mathlib.Core.List.{List}
 use native.Mathlib.Nat.{le-of-lt}
@@ -10,20 +10,24 @@ use lib.Pow.{pow-pos}
 use borrow.Author.Tests.{eq-eqb, ne-eqb}
 use Rattle.words.specs.Bits.{bitAt, wordOf}
 use Rattle.words.specs.Listed.{listed}
-use Rattle.words.proofs.Laws.{bit-zero, built-same, built-of-bits}
+use Rattle.words.proofs.Laws.{bit-zero, built-same, built-of-bits, built-fits}
 use Rattle.words.proofs.Listed.{listed-at, listed-same}
 use Rattle.cells.specs.declared.table.Slots.{Slots}
 use Rattle.cells.specs.declared.reasons.Reasons.{Reasons}
 use Rattle.cells.specs.State.{stateOf}
 use Rattle.cells.specs.Reasons.{reasonsOf, anyReason}
 use Rattle.cells.proofs.Named.{reason-named}
+use Rattle.cells.specs.declared.cell.Cell.{Cell}
 use Rattle.card.specs.declared.card.Card.{Card}
+use Rattle.card.specs.declared.card.Memory.{Memory}
 use Rattle.card.specs.Fresh.{noCell}
 use Rattle.ticks.specs.declared.tick.Input.{Input}
 use Rattle.ticks.specs.declared.tick.Wires.{Wires}
 use Rattle.ticks.specs.declared.tick.Ticked.{Ticked}
-use Rattle.ticks.specs.Tick.{readLast, named, outputsBelow, wokeAt, turned, wiresOf, lines, ticked, idle, tick}
+use Rattle.ticks.specs.Tick.{readLast, named, outputsBelow, wokeAt, turned, trimmed, wiresOf, lines, ticked, idle, tick}
 use Rattle.ticks.proofs.Sleep.{read-whole}
+use Rattle.ticks.proofs.Ticks.{outputs-built}
+use Rattle.ticks.proofs.Trim.{now-trim, last-trim}
 use Rattle.ticks.proofs.Turns.{turn-woke}
 use Rattle.why.specs.Reasons.{reasonsAt, reasonsIn, noReasons, tickReasons}
 
@@ -61,6 +65,35 @@ module _ (n : ℕ) (full : Bool) (c : Card) (input : Input) where
       ∙ ap by gave
       ∙ listed-same _ (reasonsIn n full c input) n (whole-word n full c input)
       ∙ rw ran
+
+  -- and by the words cut to n bits
+  trimmed-reasons : (levels i below : ℕ) (cell : Cell)
+      → reasonsAt n cell i (c .edited) (wiresOf (trimmed n (c .memory)) levels) below ≡ reasonsAt n cell i (c .edited) (wiresOf (c .memory) levels) below
+  unfolding reasonsAt
+  trimmed-reasons levels i below cell =
+      let now = now-trim n (c .memory) levels i below (cell .slots) in
+      let last = last-trim n (c .memory) levels i (cell .slots) in
+      λ k. reasonsOf (cell .kind) (stateOf cell) (bitAt (c .edited) i) (now k) (last k)
+
+  pub ran-trimmed : (t : Ticked) (m : Memory) (w : Wires) → input .code ≡ c .trigger → t ≡ tick n full c input → m ≡ trimmed n (c .memory)
+      → w ≡ wiresOf m (t .card .memory .levels)
+      → listed (λ i. reasonsAt n (getD (c .cells) i noCell) i (c .edited) w (t .answer .cells)) n ≡ tickReasons n full c input
+  ran-trimmed t m w own et em ew =
+      let levels = t .card .memory .levels in
+      let below = t .answer .cells in
+      ap (λ (v : Wires). listed (λ i. reasonsAt n (getD (c .cells) i noCell) i (c .edited) v below) n) (ew ∙ ap (λ (x : Memory). wiresOf x levels) em)
+      ∙ listed-same _ (λ i. reasonsAt n (getD (c .cells) i noCell) i (c .edited) (wiresOf (c .memory) levels) below) n
+      (λ i h. trimmed-reasons levels i below (getD (c .cells) i noCell))
+      ∙ ran-reasons t (wiresOf (c .memory) levels) own et refl
+
+  -- the cell word of such a tick has n bits
+  pub ran-fits : (t : Ticked) → input .code ≡ c .trigger → t ≡ tick n full c input → t .answer .cells < 2 ^ n
+  unfolding tick turned
+  ran-fits t own et =
+      let ran = eq-eqb (input .code) (c .trigger) own in
+      let gave : t ≡ ticked n full c input = et ∙ rw ran in
+      let w = wiresOf (c .memory) (lines n c input .levels) in
+      subst (λ (x : Ticked). x .answer .cells < 2 ^ n) (sym gave) (built-fits _ n _ (outputs-built n full (c .cells) (c .edited) w n))
 
 -- ---- a reason exactly where the rules name the cell
 

@@ -1,16 +1,19 @@
 // Why the cells of a card wake in a tick.
+ghost use mathlib.Core.List.{_++_};
 ghost use mathlib.Core.Path.{_≡_};
-ghost use Prim.Native.Nat.{_<_};
-ghost use lib.ListN.{getD, replicate};
+ghost use Prim.Native.Nat.{_^_, _<_, _≤_};
+ghost use lib.ListN.{getD, drop, replicate};
 ghost use Rattle.words.specs.Listed.{listed};
-ghost use Rattle.card.specs.Address.{cellCount};
+ghost use Rattle.card.specs.Address.{cellRoom, cellsFor};
 ghost use Rattle.card.specs.Fresh.{noCell};
 ghost use Rattle.ticks.specs.Tick;
+ghost use Rattle.ticks.specs.Words.{Fits};
 ghost use Rattle.why.specs.Reasons.{reasonsAt, noReasons, tickReasons};
 use card::card::Card;
 use card::limits::CELLS;
 use card::limits::CellWord;
 use card::limits::EditedSet;
+use card::place::cells_for;
 use cells::cell::Cell;
 use cells::cell::state_of;
 use cells::reading::address;
@@ -23,14 +26,18 @@ use ticks::tick::Ticked;
 use ticks::tick::Wires;
 use ticks::tick::full_tick;
 use ticks::tick::quick_tick;
+use ticks::tick::seen_memory;
 use ticks::tick::wires_of;
 use ticks::view::words_last;
 use ticks::view::words_now;
 
 // Why cell i wakes, with what it reads in the tick and read in the last one.
-fn reasons_at(cell: Cell, i: u32, edited: EditedSet, w: Wires, below: CellWord) -> Reasons
-    requires { ⌜ i < cellCount ⌝ }
-    ensures { λ r. ⌜ r ≡ reasonsAt cellCount cell i edited w below ⌝ }
+fn reasons_at(cell: Cell, i: u32, edited: EditedSet, w: Wires, below: CellWord, n: u8) -> Reasons
+    requires { ⌜ n ≤ cellRoom ⌝ }
+    requires { ⌜ i < n ⌝ }
+    requires { ⌜ below < 2 ^ n ⌝ }
+    requires { ⌜ Fits n w ⌝ }
+    ensures { λ r. ⌜ r ≡ reasonsAt n cell i edited w below ⌝ }
 {
     let q = words_now(i, below, w);
     let p = words_last(i, w);
@@ -47,7 +54,7 @@ fn reasons_at(cell: Cell, i: u32, edited: EditedSet, w: Wires, below: CellWord) 
 
 // No cell has a reason.
 fn none() -> [Reasons; CELLS]
-    ensures { λ r. ⌜ r ≡ replicate cellCount noReasons ⌝ }
+    ensures { λ r. ⌜ r ≡ replicate cellRoom noReasons ⌝ }
 {
     let low = Slots {
         x: false,
@@ -66,27 +73,31 @@ fn none() -> [Reasons; CELLS]
     [no; CELLS]
 }
 
-// Why each cell wakes.
+// Why each of the first n cells wakes.
 fn each(
     cells: [Cell; CELLS],
     edited: EditedSet,
     w: Wires,
     below: CellWord,
     blank: [Reasons; CELLS],
+    n: u8,
 ) -> [Reasons; CELLS]
-    ensures { λ r. ⌜ r ≡ listed (λ i. reasonsAt cellCount (getD cells i noCell) i edited w below) cellCount ⌝ }
+    requires { ⌜ n ≤ cellRoom ⌝ }
+    requires { ⌜ below < 2 ^ n ⌝ }
+    requires { ⌜ Fits n w ⌝ }
+    ensures { λ r. ⌜ r ≡ listed (λ i. reasonsAt n (getD cells i noCell) i edited w below) n ++ drop n blank ⌝ }
 {
     let mut next = blank;
-    for i in 0..CELLS as u32 {
+    for i in 0..n as u32 {
         let at = i as usize;
-        let r = reasons_at(cells[at], i, edited, w, below);
+        let r = reasons_at(cells[at], i, edited, w, below, n);
         next[at] = r;
     }
     next
 }
 
 fn ticked(card: Card, input: Input, full: bool) -> Ticked
-    ensures { λ t. ⌜ t ≡ Tick.tick cellCount full card input ⌝ }
+    ensures { λ t. ⌜ t ≡ Tick.tick (cellsFor (card .size)) full card input ⌝ }
 {
     if full {
         return full_tick(card, input);
@@ -95,20 +106,21 @@ fn ticked(card: Card, input: Input, full: bool) -> Ticked
 }
 
 // Why each cell would wake in a tick with the input. The card is not changed: the tick is made only for its answer, whose cell word says what each
-// reader sees of the cells below it.
+// reader sees of the cells below it. Behind the cells of the card there are none.
 pub fn reasons(card: Card, input: Input, full: bool) -> [Reasons; CELLS]
-    ensures { λ r. ⌜ r ≡ tickReasons cellCount full card input ⌝ }
+    ensures { λ r. ⌜ r ≡ tickReasons (cellsFor (card .size)) full card input ++ drop (cellsFor (card .size)) (replicate cellRoom noReasons) ⌝ }
 {
     let blank = none();
     if input.code != card.trigger {
         return blank;
     }
+    let n = cells_for(card.size);
     let t = ticked(card, input, full);
     let answer = t.answer;
     let after = t.card;
     let m = after.memory;
-    let before = card.memory;
+    let before = seen_memory(card.memory, n);
     let w = wires_of(before, m.levels);
     let cells = card.cells;
-    each(cells, card.edited, w, answer.cells, blank)
+    each(cells, card.edited, w, answer.cells, blank, n)
 }

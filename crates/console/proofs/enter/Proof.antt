@@ -3,6 +3,7 @@ use Prim.Native.Nat.{ℕ}
 use mathlib.Core.Path.{refl, ap, _∙_}
 use lib.ListN.{length}
 use lib.Seq.{sets}
+use Rattle.card.specs.Address.{cellsFor}
 use Rattle.ticks.specs.declared.tick.Ticked.{Ticked}
 use Rattle.console.specs.Console.{tickText, loadText, entered}
 use borrow.Author.Needs.{needs}
@@ -25,15 +26,17 @@ returns : tie.Need-returns
 unfolding entered
 returns c =
     let p = c .before .before .before .before .before .before in
-    let out = p .before .before .before .before .before .before .args .out .now in
+    let a = p .before .before .before .before .before .before .args in
+    let out = a .out .now in
+    let n = cellsFor (a .card .size) in
     let done = p .do-tick .ensures .0 in
     rw (← p .before .before .tick-line .ensures, p .before .if1 .taken) (
       ap (λ (r : Ticked). r .card) done,
       (
         refl,
         (
-          c .before .before .put-tick .ensures .0 ∙ ap (λ (r : Ticked). sets out 0 (tickText (r .answer))) done,
-          (c .before .before .put-tick .ensures .1 .0 ∙ ap (λ (r : Ticked). length (tickText (r .answer))) done, c .before .before .put-tick .ensures .1 .1),
+          c .before .before .put-tick .ensures .0 ∙ ap (λ (r : Ticked). sets out 0 (tickText n (r .answer))) done,
+          (c .before .before .put-tick .ensures .1 .0 ∙ ap (λ (r : Ticked). length (tickText n (r .answer))) done, c .before .before .put-tick .ensures .1 .1),
         ),
       ),
     )

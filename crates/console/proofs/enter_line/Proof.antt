@@ -6,7 +6,7 @@ use native.Mathlib.Omega.{arith}
 use lib.ListN.{length, take, replicate}
 use lib.Seq.{sets}
 use Rattle.text.proofs.Stores.{front}
-use Rattle.card.specs.Address.{cellCount}
+use Rattle.card.specs.Address.{cellsFor}
 use Rattle.lines.specs.Line.{LineResult, shortestReply, lineReply, replyAfter}
 use Rattle.console.specs.Console.{plainReply}
 use borrow.Author.Needs.{needs}
@@ -43,7 +43,7 @@ returns c =
     let l = c .before .before .before .before .before .before .before .before .before .before in
     let a = l .before .before .before .before .before .before .args in
     let d = l .line .ensures .0 in
-    let reply = lineReply cellCount (a .card) (a .text .now) shortestReply (length (a .store .now)) in
+    let reply = lineReply (cellsFor (a .card .size)) (a .card) (a .text .now) shortestReply (length (a .store .now)) in
     let len = ap (λ (r : LineResult). r .len) d in
     let short = l .line .ensures .1 in
     let buffer = ap (λ (r : LineResult). r .reply) d in

@@ -3,11 +3,12 @@ use mathlib.Core.List.{[], _∷_}
 use native.Mathlib.Omega.{arith}
 use lib.Dec.{lit≤}
 use borrow.Author.Tests.{not-true, not-false}
-use Rattle.text.specs.Decimal.{decimal, maxDigits}
+use Rattle.card.specs.Address.{cellsFor}
+use Rattle.text.specs.Decimal.{decimal}
 use Rattle.text.proofs.DecimalLaws.{decimal-length}
 use Rattle.text.proofs.Stores.{stored-first, behind, six}
 use Rattle.console.proofs.Chains.{word-behind, within, tick-short}
-use Rattle.console.specs.Console.{word, tickText}
+use Rattle.console.specs.Console.{word, cellWord, tickText}
 use borrow.Author.Needs.{needs}
 use Rattle.console.proofs.put_tick.Statement.{statement}
 use Rattle.console.proofs.put_tick.Tie as tie
@@ -24,8 +25,9 @@ same-length c = search needs
 returns : tie.Need-returns
 unfolding tickText
 returns c =
-    let a = c .before .before .before .before .before .before .before .before .args .a in
-    within (rw (not-true (a .ran) (c .before .before .before .before .before .if1 .taken)) (c .before .before .copy .ensures)) (tick-short a (search needs))
+    let s = c .before .before .before .before .before .before .before .before in
+    let a = s .args .a in
+    within (rw (not-true (a .ran) (c .before .before .before .before .before .if1 .taken)) (c .before .before .copy .ensures)) (tick-short (cellsFor (s .args .size)) a (search needs))
 
 slice-aggregate-copy-2 : tie.Need-slice-aggregate-copy-2
 slice-aggregate-copy-2 c = search needs
@@ -39,17 +41,17 @@ slice-aggregate-put-word c = search needs
 put-word-requires : tie.Need-put-word-requires
 put-word-requires c κs = search needs
 
-slice-aggregate-put-word-2 : tie.Need-slice-aggregate-put-word-2
-slice-aggregate-put-word-2 c = search needs
+slice-aggregate-put-cells : tie.Need-slice-aggregate-put-cells
+slice-aggregate-put-cells c = search needs
 
-put-word-requires-2 : tie.Need-put-word-requires-2
-put-word-requires-2 c κs = search needs
+put-cells-requires : tie.Need-put-cells-requires
+put-cells-requires c κs = search needs
 
-slice-aggregate-put-word-3 : tie.Need-slice-aggregate-put-word-3
-slice-aggregate-put-word-3 c = search needs
+slice-aggregate-put-cells-2 : tie.Need-slice-aggregate-put-cells-2
+slice-aggregate-put-cells-2 c = search needs
 
-put-word-requires-3 : tie.Need-put-word-requires-3
-put-word-requires-3 c κs = search needs
+put-cells-requires-2 : tie.Need-put-cells-requires-2
+put-cells-requires-2 c κs = search needs
 
 put-decimal-requires : tie.Need-put-decimal-requires
 put-decimal-requires c κs = search needs
@@ -67,13 +69,13 @@ copy-requires-3 c κs =
     let s = t .before .before .before .before .before .before in
     omega (
       arith,
-      decimal-length (s .args .a .count) maxDigits (lit≤ tt) (search needs),
+      decimal-length (s .args .a .count) 2 (lit≤ tt) (s .pre .1),
       d .put-decimal .ensures .1,
       d .put-decimal .kept .0,
-      w3 .put-word3 .ensures .1,
-      w3 .put-word3 .kept .0,
-      w2 .put-word2 .ensures .1,
-      w2 .put-word2 .kept .0,
+      w3 .put-cells2 .ensures .1,
+      w3 .put-cells2 .kept .0,
+      w2 .put-cells .ensures .1,
+      w2 .put-cells .kept .0,
       w1 .put-word .ensures .1,
       w1 .put-word .kept .0,
       t .copy2 .ensures .1,
@@ -95,14 +97,15 @@ returns-2 c =
     let ran = t .before .before .before in
     let s = ran .before .before .before in
     let a = s .args .a in
+    let n = cellsFor (s .args .size) in
     let head = stored-first (s .args .out .now) (84 ∷ 32 ∷ []) (t .copy2 .ensures) in
     let driven = word-behind head (a .driven) (w1 .put-word .ensures) in
-    let cells = word-behind driven (a .cells) (w2 .put-word2 .ensures) in
-    let woken = word-behind cells (a .woken) (w3 .put-word3 .ensures) in
+    let cells = behind driven (cellWord n (a .cells)) (w2 .put-cells .ensures .0) in
+    let woken = behind cells (cellWord n (a .woken)) (w3 .put-cells2 .ensures .0) in
     let count = behind woken (decimal (a .count)) (d .put-decimal .ensures) in
     let all = behind count (10 ∷ []) (c .before .before .copy3 .ensures) in
-    let parts = six (84 ∷ 32 ∷ []) (word (a .driven)) (word (a .cells)) (word (a .woken)) (decimal (a .count)) (10 ∷ []) all in
-    within (rw (not-false (a .ran) (ran .if1 .left)) parts) (tick-short a (s .pre .1))
+    let parts = six (84 ∷ 32 ∷ []) (word (a .driven)) (cellWord n (a .cells)) (cellWord n (a .woken)) (decimal (a .count)) (10 ∷ []) all in
+    within (rw (not-false (a .ran) (ran .if1 .left)) parts) (tick-short n a (s .pre .1))
 
 pub put-tick-spec : {M : Type 1} → statement M
 put-tick-spec =
@@ -116,10 +119,10 @@ put-tick-spec =
     copy-requires-2
     slice-aggregate-put-word
     put-word-requires
-    slice-aggregate-put-word-2
-    put-word-requires-2
-    slice-aggregate-put-word-3
-    put-word-requires-3
+    slice-aggregate-put-cells
+    put-cells-requires
+    slice-aggregate-put-cells-2
+    put-cells-requires-2
     put-decimal-requires
     slice-aggregate-copy-3
     copy-requires-3

@@ -4,7 +4,7 @@ use mathlib.Core.Path.{_≡_, refl, ap, _∙_}
 use native.Mathlib.Omega.{arith}
 use lib.ListN.{take}
 use borrow.Author.Needs.{needs}
-use Rattle.card.specs.Address.{cellCount}
+use Rattle.card.specs.Address.{cellRoom}
 use Rattle.card.specs.Fresh.{noCell}
 use Rattle.card.specs.Valid.{every}
 use Rattle.card.proofs.Settings.{tested-next}
@@ -73,7 +73,7 @@ unfolding narrowCell
 all-narrow-returns-2 t c =
     let a = c .before .before .before .before .args in
     let one : (a .n - 1) + 1 ≡ a .n = omega arith in
-    tested-next narrowCell cellCount (a .n - 1) (a .t1) noCell _ _ (omega arith, c .before .before .all-narrow .ensures) (omega arith) (search needs) refl .1
+    tested-next narrowCell cellRoom (a .n - 1) (a .t1) noCell _ _ (omega arith, c .before .before .all-narrow .ensures) (omega arith) (search needs) refl .1
     ∙ ap (λ (k : ℕ). every narrowCell (take k (a .t1))) one
 
 pub +all-narrow-spec : {M : Type 1} → statement M

@@ -1,6 +1,7 @@
 -- `loads::answer_conversion` meets its contract: the number decides what is printed, and the result stands at the buffer's front.
 use Prim.Native.Nat.{_-_}
 use mathlib.Core.Path.{_≡_, sym, ap, _∙_}
+use native.Mathlib.Nat.{le-refl}
 use native.Mathlib.Omega.{arith}
 use lib.Dec.{lit<}
 use lib.ListN.{length, take}
@@ -76,7 +77,7 @@ returns-2 c =
     let zero : convertNumber cellCount (length buffer) bytes ≡ 0 = sym (done .ensures .0) ∙ good .if1 .left in
     let n = done .result .len in
     let whole : n - 0 ≡ n = omega arith in
-    let front = conversion cellCount (lit< tt) .kept bytes buffer .result zero in
+    let front = conversion cellCount (lit< tt) (le-refl cellCount) .kept bytes buffer .result zero in
     let result = (λ i. take ((whole ∙ done .ensures .1 .0) i) (done .ensures .1 .1 .0 i)) ∙ front in
     let text = conversion-accepted (length buffer) bytes _ zero result in
     (put .0 ∙ ap (sets (a .out .now) 0) text, (put .1 .0 ∙ ap length text, put .1 .1))

@@ -8,7 +8,7 @@ use Rattle.loads.proofs.is_conversion.Tie as tie
 
 returns : tie.Need-returns
 unfolding isConversion
-returns c = rw (no-blank (c .before .before .args .row .now) (omega arith))
+returns c = rw (no-blank (c .before .before .args .row .now) 4 (omega arith))
 
 hex4-at-requires : tie.Need-hex4-at-requires
 hex4-at-requires c κs = search needs
@@ -30,7 +30,7 @@ unfolding isConversion
 returns-2 c =
     let hex = c .before .before .before .before .before .hex4-at in
     let row = c .before .before .before .before .before .before .before .before .args .row .now in
-    rw (hex .ensures, c .is-row .ensures, rest-of row)
+    rw (hex .ensures, c .is-row .ensures, rest-of 5 row)
 
 pub is-conversion-spec : {M : Type 1} → statement M
 is-conversion-spec =

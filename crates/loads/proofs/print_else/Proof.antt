@@ -24,11 +24,8 @@ long e = conversion-long (e .before .before .before .before .args .row .now) (is
 is-conversion-requires : tie.Need-is-conversion-requires
 is-conversion-requires c κs = search needs
 
-slice-aggregate-copy : tie.Need-slice-aggregate-copy
-slice-aggregate-copy c = search needs
-
-copy-requires : tie.Need-copy-requires
-copy-requires c κs = search needs
+print-last-requires : tie.Need-print-last-requires
+print-last-requires c κs = search needs
 
 same-length : tie.Need-same-length
 same-length c = search needs
@@ -36,10 +33,10 @@ same-length c = search needs
 returns : tie.Need-returns
 unfolding printedElse
 returns c =
-    let put = c .before .before .copy .ensures in
-    let bad = c .before .before .before .before .before in
+    let put = c .before .before .print-last .ensures in
+    let bad = c .before .before .before .before in
     let none = sym (bad .before .is-conversion .ensures) ∙ not-true _ (bad .if1 .taken) in
-    (rw none (put .0), (rw none (put .1), search needs))
+    (rw none (put .0), (rw none (put .1 .0), put .1 .1))
 
 hex4-at-requires : tie.Need-hex4-at-requires
 hex4-at-requires c κs = omega (arith, long c)
@@ -62,7 +59,7 @@ slice-aggregate-bytes-in c = search needs
 bytes-in-requires : tie.Need-bytes-in-requires
 bytes-in-requires c κs =
     let row = c .before .before .before .before .before .before .before .before .args .row .now in
-    (ap isRow (rest-of row) ∙ conversion-record row (is-one (c .before .before .before .before)), search needs)
+    (ap isRow (rest-of 5 row) ∙ conversion-record row (is-one (c .before .before .before .before)), search needs)
 
 sub-answer-conversion : tie.Need-sub-answer-conversion
 sub-answer-conversion c = search needs
@@ -108,7 +105,7 @@ returns-2 c =
     length-take-le (v - 0) buffer (omega (arith, most, value)) ∙ omega (arith, value) in
     let n = read .bytes-in .result in
     let whole : n - 0 ≡ n = omega arith in
-    let bytes = ap (λ (k : ℕ). take k (read .bytes-in .last .1 .0)) whole ∙ read .bytes-in .ensures .0 ∙ ap bytesIn (rest-of row) in
+    let bytes = ap (λ (k : ℕ). take k (read .bytes-in .last .1 .0)) whole ∙ read .bytes-in .ensures .0 ∙ ap bytesIn (rest-of 5 row) in
     let text = ap₂ conversionText room bytes in
     rw (is-one one) (put .0 ∙ ap (sets (a .out .now) 0) text, (put .1 .0 ∙ ap length text, put .1 .1))
 
@@ -117,8 +114,7 @@ print-else-spec =
     tie.close
     (tie.spec
     is-conversion-requires
-    slice-aggregate-copy
-    copy-requires
+    print-last-requires
     same-length
     returns
     hex4-at-requires

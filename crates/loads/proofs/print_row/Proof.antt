@@ -5,6 +5,7 @@ use native.Mathlib.Omega.{arith}
 use lib.ListN.{length, take}
 use lib.Seq.{sets}
 use borrow.Author.Tests.{not-true, not-false}
+use Rattle.card.specs.Address.{cellCount, cellsFor}
 use Rattle.loads.specs.Rows.{answerTo, printed}
 use borrow.Author.Needs.{needs}
 use Rattle.loads.proofs.print_row.Statement.{statement}
@@ -49,7 +50,7 @@ same-length-2 : tie.Need-same-length-2
 same-length-2 c = search needs
 
 returns-2 : tie.Need-returns-2
-unfolding printed
+unfolding printed cellsFor
 returns-2 c =
     let put = c .before .before .answer .ensures in
     let read = c .before .before .before .before .before .before .before in
@@ -58,7 +59,7 @@ returns-2 c =
     let ok = sym (good .before .is-row .ensures) ∙ not-false _ (good .if1 .left) in
     let n = read .bytes-in .result in
     let whole : n - 0 ≡ n = omega arith in
-    let text = ap answerTo (ap (λ (k : ℕ). take k (read .bytes-in .last .1 .0)) whole ∙ read .bytes-in .ensures .0) in
+    let text = ap (answerTo cellCount) (ap (λ (k : ℕ). take k (read .bytes-in .last .1 .0)) whole ∙ read .bytes-in .ensures .0) in
     (rw ok (put .0 ∙ ap (sets (a .out .now) 0) text), (rw ok (put .1 .0 ∙ ap length text), put .1 .1))
 
 pub print-row-spec : {M : Type 1} → statement M

@@ -1,9 +1,10 @@
 -- `loads::put_accepted` meets its contract: the card is saved, and its record printed.
-use mathlib.Core.Path.{refl, _∙_}
-use lib.ListN.{replicate}
-use Rattle.card.specs.Address.{cellCount}
-use Rattle.saved.specs.Record.{configWidth}
-use Rattle.saved.proofs.Records.{saved-whole}
+use Prim.Native.Nat.{ℕ, _-_}
+use mathlib.Core.Path.{_≡_, ap₂, _∙_}
+use mathlib.Core.List.{List}
+use native.Mathlib.Omega.{arith}
+use lib.ListN.{take}
+use Rattle.loads.specs.Rows.{savedFront}
 use Rattle.loads.proofs.Rows.{accepted-stored}
 use borrow.Author.Needs.{needs}
 use Rattle.loads.proofs.put_accepted.Statement.{statement}
@@ -15,14 +16,23 @@ slice-aggregate-save c = search needs
 save-requires : tie.Need-save-requires
 save-requires c κs = search needs
 
+front-length-requires : tie.Need-front-length-requires
+front-length-requires c κs = search needs
+
 slice-aggregate-copy : tie.Need-slice-aggregate-copy
 slice-aggregate-copy c = search needs
 
 copy-requires : tie.Need-copy-requires
 copy-requires c κs = search needs
 
-slice-aggregate-put-hex : tie.Need-slice-aggregate-put-hex
-slice-aggregate-put-hex c = search needs
+sub-put-hex : tie.Need-sub-put-hex
+sub-put-hex c = search needs
+
+part-put-hex-start : tie.Need-part-put-hex-start
+part-put-hex-start c = search needs
+
+part-put-hex-end : tie.Need-part-put-hex-end
+part-put-hex-end c = search needs
 
 put-hex-requires : tie.Need-put-hex-requires
 put-hex-requires c κs = search needs
@@ -37,15 +47,19 @@ same-length : tie.Need-same-length
 same-length c = search needs
 
 returns : tie.Need-returns
+unfolding savedFront
 returns c =
     let h = c .before .before .before .before .before .before .before in
-    let f = h .before .before .before .before .before in
-    let s = f .before .before .before .before in
+    let f = h .before .before .before .before .before .before in
+    let l = f .before .before .before in
+    let s = l .before .before in
     let a = s .before .before .before in
     let first = f .copy .ensures in
     let hex = h .put-hex .ensures in
     let last = c .before .before .copy2 .ensures in
-    let saved = s .save .ensures .0 ∙ saved-whole cellCount configWidth (a .args .card) (replicate 308 0) (a .pre .1) refl in
+    let n = l .front-length .result in
+    let whole : n - 0 ≡ n = omega arith in
+    let saved = ap₂ (λ (m : ℕ) (b : List ℕ). take m b) (whole ∙ l .front-length .ensures .0) (s .save .ensures .0) in
     let all = accepted-stored (a .args .out .now) _ _ _ _ _ _ _ _ saved (first .0) (first .1) (hex .0) (hex .1 .0) (last .0) (last .1) in
     (all .0, (all .1, search needs))
 
@@ -55,9 +69,12 @@ put-accepted-spec =
     (tie.spec
     slice-aggregate-save
     save-requires
+    front-length-requires
     slice-aggregate-copy
     copy-requires
-    slice-aggregate-put-hex
+    sub-put-hex
+    part-put-hex-start
+    part-put-hex-end
     put-hex-requires
     slice-aggregate-copy-2
     copy-requires-2

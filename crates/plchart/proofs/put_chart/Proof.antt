@@ -4,7 +4,7 @@ use mathlib.Core.Path.{_≡_, subst, _∙_}
 use native.Mathlib.Nat.{zero-add}
 use native.Mathlib.Omega.{arith}
 use Rattle.text.proofs.Stores.{Placed}
-use Rattle.card.specs.Address.{cellCount, addressCount}
+use Rattle.card.specs.Address.{cellCount, cellsFor, addressCount}
 use Rattle.plchart.specs.Rows.{rowsBelow}
 use Rattle.plchart.proofs.RowLaws.{Written, written-none, written-next}
 use borrow.Author.Needs.{needs}
@@ -42,6 +42,7 @@ loop-less : tie.Need-loop-less Inv-loop μ-loop
 loop-less c = search needs
 
 loop-again : tie.Need-loop-again Inv-loop μ-loop
+unfolding cellsFor
 loop-again c =
     let e = c .before .before in
     let l = e .before .before .before .loop in

@@ -18,7 +18,10 @@ enter-requires : tie.Need-enter-requires
 enter-requires c κs = search needs
 
 add-t12 : tie.Need-add-t12
-add-t12 c = search needs
+add-t12 c =
+    let n = c .before .before .before .before .before .before in
+    let start = n .before .before .before .before .before .before .before in
+    omega (arith, n .enter .ensures .1 .1 .1 .1, start .pre)
 
 same-length : tie.Need-same-length
 same-length c = search needs

@@ -19,9 +19,6 @@ Inv-loop input shows block₀ out₀ line₀ store₀ r₀ block out line store 
 abbrev μ-loop : tie.MeasureT-loop
 μ-loop input shows block₀ out₀ line₀ store₀ r₀ block out line store r = r .left
 
-large-buffer-requires : tie.Need-large-buffer-requires Inv-loop μ-loop
-large-buffer-requires c κs = search needs
-
 start-requires : tie.Need-start-requires Inv-loop μ-loop
 start-requires c κs = search needs
 
@@ -89,7 +86,6 @@ run-with-spec =
     (tie.spec
     Inv-loop
     μ-loop
-    large-buffer-requires
     start-requires
     loop-holds
     turn-requires

@@ -5,7 +5,6 @@ use mathlib.Core.Path.{_≡_, sym, ap, _∙_}
 use native.Mathlib.Omega.{arith}
 use lib.ListN.{length, take, getD}
 use Rattle.console.specs.Console.{longestPrint}
-use Rattle.card.specs.Address.{cellCount}
 use Rattle.runner.specs.Run.{part, takesAll, keptOf, stateOf, ended, longer}
 use Rattle.runner.proofs.Runs.{inBlock, first-line, next-line}
 use borrow.Author.Needs.{needs}
@@ -19,7 +18,7 @@ Inv-loop block n line store₀ out₀ s₀ start₀ end₀ store out s start end
     × (end ≤ n)
     × (end < n → getD block end 0 ≡ 10)
     × (s .used ≤ s₀ .used + longestPrint * (start - s₀ .len))
-    × (inBlock s block store out start end ≡ takesAll cellCount (stateOf s₀ store₀ block out₀) (part (s₀ .len) end block))
+    × (inBlock s block store out start end ≡ takesAll (stateOf s₀ store₀ block out₀) (part (s₀ .len) end block))
 
 abbrev μ-loop : tie.MeasureT-loop
 μ-loop block n line store₀ out₀ s₀ start₀ end₀ store out s start end = n - end
@@ -36,7 +35,7 @@ loop-holds c =
       f .1 .0,
       f .1 .1 .1,
       omega arith,
-      first-line cellCount (a .state) (a .block .now) (a .store .now) (a .out .now) (c .line-end .result) (f .0) (f .1 .1 .0),
+      first-line (a .state) (a .block .now) (a .store .now) (a .out .now) (c .line-end .result) (f .0) (f .1 .1 .0),
     )
 
 sub-enter : tie.Need-sub-enter Inv-loop μ-loop
@@ -76,14 +75,14 @@ loop-again c =
     let fits : next ≤ length (a .block .now) = omega (arith, within, o .pre .1 .0) in
     let rest = part (l .end + 1) next (a .block .now) in
     let last = w .enter .last .1 .1 in
-    let left : inBlock (w .enter .result) (a .block .now) (last .0) (last .1 .0) (l .end + 1) next ≡ longer (ended cellCount x) rest =
+    let left : inBlock (w .enter .result) (a .block .now) (last .0) (last .1 .0) (l .end + 1) next ≡ longer (ended x) rest =
     λ i. record { card = e .0 i; store = e .1 .0 i; line = rest; printed = e .1 .1 .0 i } in (
       f .0,
       omega (arith, behind, l .inv .1),
       f .1 .0,
       f .1 .1 .1,
       omega (arith, e .1 .1 .1, l .inv .0, l .inv .1, l .inv .4),
-      left ∙ next-line cellCount _ x (a .block .now) (a .state .len) (l .end) next (l .inv .1) (omega (arith, behind)) fits lf (f .1 .1 .0) (l .inv .5),
+      left ∙ next-line _ x (a .block .now) (a .state .len) (l .end) next (l .inv .1) (omega (arith, behind)) fits lf (f .1 .1 .0) (l .inv .5),
     )
 
 sub-keep : tie.Need-sub-keep Inv-loop μ-loop
@@ -106,7 +105,7 @@ returns c =
     let over : l .end ≡ a .n = omega (arith, l .inv .2, c .before .before .before .before .loop-test .left) in
     let x₀ = stateOf (a .state) (a .store .now) (a .block .now) (a .out .now) in
     let x = ap keptOf (ap (inBlock (l .s) (a .block .now) (l .store) (l .out) (l .start)) (sym over) ∙ l .inv .5) in
-    let bytes = ap (λ (n : ℕ). keptOf (takesAll cellCount x₀ (part (a .state .len) n (a .block .now)))) over in
+    let bytes = ap (λ (n : ℕ). keptOf (takesAll x₀ (part (a .state .len) n (a .block .now)))) over in
     let line : stateOf (record { card = l .s .card; len = c .keep .result; used = l .s .used }) (l .store) (c .keep .last .0) (l .out)
     ≡ keptOf (inBlock (l .s) (a .block .now) (l .store) (l .out) (l .start) (a .n)) =
     λ i. record { card = l .s .card; store = l .store; line = k .0 i; printed = take (l .s .used) (l .out) } in

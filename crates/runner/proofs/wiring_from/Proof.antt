@@ -2,8 +2,7 @@
 use mathlib.Core.Path.{ap, _∙_}
 use lib.ListN.{length}
 use Rattle.card.specs.declared.card.Card.{Card}
-use Rattle.card.specs.Address.{cellCount}
-use Rattle.printed.specs.Print.{printLength, printedTo}
+use Rattle.runner.specs.Run.{printedNow, printedSize}
 use borrow.Author.Needs.{needs}
 use Rattle.runner.proofs.wiring_from.Statement.{statement}
 use Rattle.runner.proofs.wiring_from.Tie as tie
@@ -23,8 +22,8 @@ returns c =
     let before = r .before .before .args .buffer .now in
     let p = c .before .before .print .ensures in
     let ran = r .run-with .ensures .0 in
-    let text = p .1 .1 .0 ∙ ap (λ (d : Card). printedTo cellCount d before) (ran .1 .card) in
-    let size = p .1 .0 ∙ ap (λ (d : Card). printLength cellCount d (length before)) (ran .1 .card) in
+    let text = p .1 .1 .0 ∙ ap (λ (d : Card). printedNow d before) (ran .1 .card) in
+    let size = p .1 .0 ∙ ap (λ (d : Card). printedSize d (length before)) (ran .1 .card) in
     ((ran .0, record { text = text; size = size }), p .1 .1 .1)
 
 pub wiring-from-spec : {M : Type 1} → statement M

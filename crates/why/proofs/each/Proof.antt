@@ -6,24 +6,23 @@ use native.Mathlib.Omega.{arith}
 use lib.ListN.{drop, getD}
 use borrow.Author.Needs.{needs}
 use Rattle.words.specs.Listed.{listed}
-use Rattle.words.proofs.Listed.{listed-next, listed-done}
+use Rattle.words.proofs.Listed.{listed-next}
 use Rattle.cells.specs.declared.cell.Cell.{Cell}
 use Rattle.cells.specs.declared.reasons.Reasons.{Reasons}
-use Rattle.card.specs.Address.{cellCount}
 use Rattle.card.specs.Fresh.{noCell}
 use Rattle.ticks.specs.declared.tick.Wires.{Wires}
 use Rattle.why.specs.Reasons.{reasonsAt, noReasons}
 use Rattle.why.proofs.each.Statement.{statement}
 use Rattle.why.proofs.each.Tie as tie
 
-abbrev at : List Cell → ℕ → Wires → ℕ → ℕ → Reasons
-at cells edited w below i = reasonsAt cellCount (getD cells i noCell) i edited w below
+abbrev at : ℕ → List Cell → ℕ → Wires → ℕ → ℕ → Reasons
+at n cells edited w below i = reasonsAt n (getD cells i noCell) i edited w below
 
 abbrev Inv-loop : tie.InvT-loop
-Inv-loop edited w below cells next₀ i₀ next i = (i ≤ cellCount) × (next ≡ listed (at cells edited w below) i ++ drop i next₀)
+Inv-loop edited w below n cells next₀ e i₀ next i = (i ≤ n) × (next ≡ listed (at n cells edited w below) i ++ drop i next₀)
 
 abbrev μ-loop : tie.MeasureT-loop
-μ-loop edited w below cells next₀ i₀ next i = cellCount - i
+μ-loop edited w below n cells next₀ e i₀ next i = n - i
 
 loop-holds : tie.Need-loop-holds Inv-loop μ-loop
 unfolding listed
@@ -57,15 +56,15 @@ loop-again : tie.Need-loop-again Inv-loop μ-loop
 loop-again c =
     let a = c .before .before .before .before .args in
     let l = c .before .before .before .loop in
-    let f = at (a .t1) (a .edited) (a .w) (a .below) in
+    let f = at (a .n) (a .t1) (a .edited) (a .w) (a .below) in
     (omega arith, listed-next f (l .i) (a .blank) (l .next) _ noReasons (l .inv .1) (c .reasons-at .ensures) (search needs))
 
 returns : tie.Need-returns Inv-loop μ-loop
 returns c =
     let a = c .before .before .args in
     let l = c .before .loop in
-    let end : l .i ≡ cellCount = omega arith in
-    listed-done (at (a .t1) (a .edited) (a .w) (a .below)) cellCount (a .blank) (l .next) (rw end at (l .inv .1)) (search needs)
+    let end : l .i ≡ a .n = omega arith in
+    rw end at (l .inv .1)
 
 pub each-spec : {M : Type 1} → statement M
 each-spec =

@@ -1,10 +1,31 @@
--- `why::reasons` meets its contract: idle ticks have none; of one that runs the words are those of the tick.
-use mathlib.Core.Path.{_∙_}
-use Rattle.card.specs.Address.{cellCount}
-use Rattle.why.proofs.Laws.{idle-none, ran-reasons}
+-- `why::reasons` meets its contract: idle ticks have none; of one that runs the words are those of the tick, cut to the card's cells.
+use Prim.Native.Nat.{ℕ}
+use mathlib.Core.Path.{_≡_, refl, sym, ap, ap₂, subst, _∙_}
+use mathlib.Core.Bool.{Bool, true, false, cond}
+use mathlib.Core.List.{List, _++_}
+use lib.Dec.{eqb}
+use lib.ListN.{drop, replicate}
+use Rattle.cells.specs.declared.reasons.Reasons.{Reasons}
+use Rattle.card.specs.declared.card.Memory.{Memory}
+use Rattle.card.specs.Address.{cellCount, cellRoom, cellsFor}
+use Rattle.ticks.specs.declared.tick.Wires.{Wires}
+use Rattle.ticks.specs.Tick.{tick, wiresOf}
+use Rattle.ticks.specs.Words.{Fits, FitsMemory}
+use Rattle.ticks.proofs.Trim.{trim-fits}
+use Rattle.why.specs.Reasons.{noReasons, tickReasons}
+use Rattle.why.proofs.Laws.{idle-none, ran-trimmed, ran-fits}
 use borrow.Author.Needs.{needs}
 use Rattle.why.proofs.reasons.Statement.{statement}
 use Rattle.why.proofs.reasons.Tie as tie
+
+-- the room is filled, whichever size
+filled : (size : ℕ) (x : Reasons) → replicate cellRoom x ≡ replicate (cellsFor size) x ++ drop (cellsFor size) (replicate cellRoom x)
+unfolding cellsFor
+filled size x = go (eqb size cellRoom)
+  where
+    go : (b : Bool) → let n = cond b cellRoom cellCount in replicate cellRoom x ≡ replicate n x ++ drop n (replicate cellRoom x)
+    go true = refl
+    go false = refl
 
 none-requires : tie.Need-none-requires
 none-requires c κs = search needs
@@ -13,27 +34,60 @@ returns : tie.Need-returns
 returns c =
     let n = c .before .before .before in
     let a = n .before .args in
-    n .none .ensures ∙ idle-none cellCount (a .full) (a .card) (a .input) (c .if1 .taken)
+    let size = a .card .size in
+    n .none .ensures ∙ filled size noReasons
+    ∙ ap (λ (l : List Reasons). l ++ drop (cellsFor size) (replicate cellRoom noReasons)) (idle-none (cellsFor size) (a .full) (a .card) (a .input) (c .if1 .taken))
+
+cells-for-requires : tie.Need-cells-for-requires
+cells-for-requires c κs = search needs
 
 ticked-requires : tie.Need-ticked-requires
 ticked-requires c κs = search needs
+
+seen-memory-requires : tie.Need-seen-memory-requires
+seen-memory-requires c κs = search needs
 
 wires-of-requires : tie.Need-wires-of-requires
 wires-of-requires c κs = search needs
 
 each-requires : tie.Need-each-requires
-each-requires c κs = search needs
+each-requires c κs =
+    let w = c .before in
+    let s = w .before in
+    let t = s .before .before .before .before in
+    let z = t .before in
+    let e = z .before in
+    let a = e .before .before .before .before .args in
+    let n = z .cells-for .result in
+    let sized = z .cells-for .ensures .0 in
+    let fits = subst (λ (v : Memory). FitsMemory n v) (sym (s .seen-memory .ensures)) (trim-fits n (a .card .memory)) in
+    let tick-is = t .ticked .ensures ∙ ap (λ (m : ℕ). tick m (a .full) (a .card) (a .input)) (sym sized) in (
+      z .cells-for .ensures .1,
+      (
+        ran-fits n (a .full) (a .card) (a .input) (t .ticked .result) (e .if1 .left) tick-is,
+        subst (λ (v : Wires). Fits n v) (sym (w .wires-of .ensures)) fits,
+      ),
+    )
 
 returns-2 : tie.Need-returns-2
 returns-2 c =
     let w = c .before .before in
-    let t = w .before .before .before .before .before in
-    let e = t .before in
-    let a = e .before .before .before .before .args in
+    let s = w .before in
+    let t = s .before .before .before .before in
+    let z = t .before in
+    let e = z .before in
+    let b = e .before .before .before in
+    let a = b .before .args in
+    let n = z .cells-for .result in
+    let sized = z .cells-for .ensures .0 in
+    let tick-is = t .ticked .ensures ∙ ap (λ (m : ℕ). tick m (a .full) (a .card) (a .input)) (sym sized) in
+    let found = ran-trimmed n (a .full) (a .card) (a .input) (t .ticked .result) (s .seen-memory .result) (w .wires-of .result) (e .if1 .left) tick-is
+    (s .seen-memory .ensures) (w .wires-of .ensures) in
     c .each .ensures
-    ∙ ran-reasons cellCount (a .full) (a .card) (a .input) (t .ticked .result) (w .wires-of .result) (e .if1 .left) (t .ticked .ensures) (w .wires-of .ensures)
+    ∙ ap₂ (λ (l : List Reasons) (blank : List Reasons). l ++ drop n blank) found (b .none .ensures)
+    ∙ ap (λ (m : ℕ). tickReasons m (a .full) (a .card) (a .input) ++ drop m (replicate cellRoom noReasons)) sized
 
 pub reasons-spec : {M : Type 1} → statement M
 reasons-spec =
     tie.close
-    (tie.spec none-requires returns ticked-requires wires-of-requires each-requires returns-2)
+    (tie.spec none-requires returns cells-for-requires ticked-requires seen-memory-requires wires-of-requires each-requires returns-2)

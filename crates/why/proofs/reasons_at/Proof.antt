@@ -4,7 +4,6 @@ use mathlib.Core.Path.{ap, ap₂, _∙_}
 use mathlib.Core.Bool.{Bool}
 use Rattle.cells.specs.declared.table.Slots.{Slots}
 use Rattle.cells.specs.Reasons.{reasonsOf}
-use Rattle.card.specs.Address.{cellCount}
 use Rattle.ticks.specs.Tick.{seesNow, sawLast, sawEarlier, readNow, readLast}
 use Rattle.ticks.proofs.Words.{Holds, slots-as}
 use Rattle.why.specs.Reasons.{reasonsAt}
@@ -64,10 +63,12 @@ returns c =
     let b = s .before .before .before .before .before in
     let d = b .before in
     let o = d .before .before .before .before .before in
-    let a = o .before .before .args in
+    let start = o .before .before in
+    let a = start .args in
+    let pre = start .pre in
     let cell = a .cell in
-    let now = seesNow cellCount (a .i) (a .w) (a .below) in
-    let last = sawLast cellCount (a .i) (a .w) in
+    let now = seesNow (a .n) (a .i) (a .w) (a .below) in
+    let last = sawLast (a .n) (a .i) (a .w) in
     let held : Holds (cell .slots) _ _ _ _ =
     record {
       at-x = d .before .before .before .address .ensures;
@@ -75,9 +76,9 @@ returns c =
       at-z = d .before .address3 .ensures;
       at-f = d .address4 .ensures;
     } in
-    let reads = s .before .before .before .four .ensures ∙ slots-as now last _ (cell .slots) _ _ _ _ (o .before .words-now .ensures) held in
+    let reads = s .before .before .before .four .ensures ∙ slots-as now last _ (cell .slots) _ _ _ _ (o .before .words-now .ensures (a .n) (pre .0) (pre .1 .1 .0) (pre .1 .1 .1)) held in
     let read = s .before .four2 .ensures
-    ∙ slots-as last (sawEarlier cellCount (a .i) (a .w)) _ (cell .slots) _ _ _ _ (o .words-last .ensures) held in
+    ∙ slots-as last (sawEarlier (a .n) (a .i) (a .w)) _ (cell .slots) _ _ _ _ (o .words-last .ensures (a .n) (pre .0) (pre .1 .1 .1)) held in
     c .reasons-of .ensures
     ∙ (λ k. reasonsOf (cell .kind) (s .state-of .ensures k) (b .bit .ensures k) (reads k) (read k))
 

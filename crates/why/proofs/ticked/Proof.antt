@@ -1,7 +1,7 @@
 -- `why::ticked` meets its contract: the tick of either kind is that of the definition.
 use mathlib.Core.Path.{sym, ap, _∙_}
 use mathlib.Core.Bool.{Bool}
-use Rattle.card.specs.Address.{cellCount}
+use Rattle.card.specs.Address.{cellsFor}
 use Rattle.ticks.specs.Tick.{tick}
 use borrow.Author.Needs.{needs}
 use Rattle.why.proofs.ticked.Statement.{statement}
@@ -13,7 +13,7 @@ full-tick-requires c κs = search needs
 returns : tie.Need-returns
 returns c =
     let a = c .before .before .args in
-    c .full-tick .ensures ∙ ap (λ (full : Bool). tick cellCount full (a .card) (a .input)) (sym (c .before .if1 .taken))
+    c .full-tick .ensures ∙ ap (λ (full : Bool). tick (cellsFor (a .card .size)) full (a .card) (a .input)) (sym (c .before .if1 .taken))
 
 quick-tick-requires : tie.Need-quick-tick-requires
 quick-tick-requires c κs = search needs
@@ -21,7 +21,7 @@ quick-tick-requires c κs = search needs
 returns-2 : tie.Need-returns-2
 returns-2 c =
     let a = c .before .before .args in
-    c .quick-tick .ensures ∙ ap (λ (full : Bool). tick cellCount full (a .card) (a .input)) (sym (c .before .if1 .left))
+    c .quick-tick .ensures ∙ ap (λ (full : Bool). tick (cellsFor (a .card .size)) full (a .card) (a .input)) (sym (c .before .if1 .left))
 
 pub ticked-spec : {M : Type 1} → statement M
 ticked-spec = tie.close (tie.spec full-tick-requires returns quick-tick-requires returns-2)

@@ -1,15 +1,16 @@
--- `card::card::fresh` meets its contract: a card that powers up with the fresh settings.
+-- `card::card::fresh` meets its contract: a small card.
 use borrow.Author.Needs.{needs}
+use Rattle.card.specs.Address.{cellsFor}
 use Rattle.card.specs.Fresh
 use Rattle.card.proofs.card.fresh.Statement.{statement}
 use Rattle.card.proofs.card.fresh.Tie as tie
 
-started-requires : tie.Need-started-requires
-started-requires c κs = search needs
+fresh-of-requires : tie.Need-fresh-of-requires
+fresh-of-requires c κs = search needs
 
 returns : tie.Need-returns
-unfolding Fresh.fresh
-returns c = c .started .ensures
+unfolding Fresh.fresh cellsFor
+returns c = c .fresh-of .ensures
 
 pub fresh-spec : {M : Type 1} → statement M
-fresh-spec = tie.close (tie.spec started-requires returns)
+fresh-spec = tie.close (tie.spec fresh-of-requires returns)

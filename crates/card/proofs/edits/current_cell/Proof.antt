@@ -1,9 +1,9 @@
 -- `card::edits::current_cell` meets its contract: the test is whether the pointer stands at one.
 use mathlib.Core.Path.{sym, _∙_}
 use native.Mathlib.Omega.{arith}
-use Rattle.card.specs.Address.{cellCount, firstCell}
+use Rattle.card.specs.Address.{firstCell}
 use Rattle.card.specs.Edits.{currentCell}
-use Rattle.card.proofs.Places.{among-bounds}
+use Rattle.card.proofs.Places.{among-bounds, cells-most}
 use borrow.Author.Needs.{needs}
 use Rattle.card.proofs.edits.current_cell.Statement.{statement}
 use Rattle.card.proofs.edits.current_cell.Tie as tie
@@ -15,7 +15,7 @@ is-cell-requires : tie.Need-is-cell-requires
 is-cell-requires c κs = search needs
 
 sub-at : tie.Need-sub-at
-sub-at c = among-bounds firstCell cellCount _ (sym (c .before .is-cell .ensures) ∙ c .if1 .taken) .0
+sub-at c = among-bounds firstCell _ _ (sym (c .before .is-cell .ensures) ∙ c .if1 .taken) .0
 
 cast-at : tie.Need-cast-at
 cast-at c = search needs
@@ -26,7 +26,7 @@ mul-result c = search needs
 element-copy-out-result : tie.Need-element-copy-out-result
 element-copy-out-result c =
     let here = sym (c .before .is-cell .ensures) ∙ c .if1 .taken in
-    omega (arith, among-bounds firstCell cellCount (c .before .before .args .t1 .pointer) here)
+    omega (arith, among-bounds firstCell _ (c .before .before .args .t1 .pointer) here, cells-most (c .before .before .args .t1 .size))
 
 returns : tie.Need-returns
 unfolding currentCell

@@ -1,9 +1,9 @@
 -- `card::edits::put_cell` meets its contract: one element is replaced, and its bit of the edits set, where the pointer stands at a cell.
 use mathlib.Core.Path.{sym, _∙_}
 use native.Mathlib.Omega.{arith}
-use Rattle.card.specs.Address.{cellCount, firstCell}
+use Rattle.card.specs.Address.{firstCell}
 use Rattle.card.specs.Edits.{putCell}
-use Rattle.card.proofs.Places.{among-bounds}
+use Rattle.card.proofs.Places.{among-bounds, cells-most}
 use borrow.Author.Needs.{needs}
 use Rattle.card.proofs.edits.put_cell.Statement.{statement}
 use Rattle.card.proofs.edits.put_cell.Tie as tie
@@ -15,7 +15,7 @@ is-cell-requires : tie.Need-is-cell-requires
 is-cell-requires c κs = search needs
 
 sub-i : tie.Need-sub-i
-sub-i c = among-bounds firstCell cellCount _ (sym (c .before .is-cell .ensures) ∙ c .if1 .taken) .0
+sub-i c = among-bounds firstCell _ _ (sym (c .before .is-cell .ensures) ∙ c .if1 .taken) .0
 
 cast-i : tie.Need-cast-i
 cast-i c = search needs
@@ -29,12 +29,12 @@ mul-cell c = search needs
 element-set-from-cell : tie.Need-element-set-from-cell
 element-set-from-cell c =
     let here = sym (c .before .is-cell .ensures) ∙ c .if1 .taken in
-    omega (arith, among-bounds firstCell cellCount (c .before .before .args .card .pointer) here)
+    omega (arith, among-bounds firstCell _ (c .before .before .args .card .pointer) here, cells-most (c .before .before .args .card .size))
 
 with-set-requires : tie.Need-with-set-requires
 with-set-requires c κs =
     let here = sym (c .before .is-cell .ensures) ∙ c .if1 .taken in
-    omega (arith, among-bounds firstCell cellCount (c .before .before .args .card .pointer) here)
+    omega (arith, among-bounds firstCell _ (c .before .before .args .card .pointer) here, cells-most (c .before .before .args .card .size))
 
 returns : tie.Need-returns
 unfolding putCell

@@ -3,18 +3,19 @@ use mathlib.Core.Path.{sym, _∙_, ap}
 use mathlib.Core.Bool.{Bool, _||_}
 use mathlib.Core.List.{List, _++_}
 use mathlib.Core.Option.{Option, Option·getD}
-use Prim.Native.Nat.{ℕ}
+use Prim.Native.Nat.{ℕ, _≤_, _<_}
+use native.Mathlib.Omega.{arith}
 use lib.ListN.{getD, drop}
 use borrow.Author.Needs.{needs}
 use Rattle.words.specs.Bits.{bitAt}
 use Rattle.words.proofs.Laws.{built-same}
 use Rattle.words.proofs.Listed.{listed-same}
 use Rattle.cells.specs.declared.cell.Cell.{Cell}
-use Rattle.card.specs.Address.{cellCount, connectorCount}
+use Rattle.card.specs.Address.{connectorCount}
 use Rattle.card.specs.Connectors.{noConnector}
 use Rattle.card.specs.Edits.{withSettings}
 use Rattle.card.specs.Fresh.{noCell}
-use Rattle.card.specs.Presets.{has, sourced, cellWithPreset, connectorWithPreset, editedWithPreset, preset}
+use Rattle.card.specs.Presets.{has, presetSource, sourced, cellWithPreset, connectorWithPreset, editedWithPreset, preset}
 use Rattle.card.specs.PresetRows.{sourceUnder, covers, cellUnder}
 use Rattle.card.proofs.PresetRows.{has-cell}
 use Rattle.card.proofs.presets.apply_preset.Statement.{statement}
@@ -23,8 +24,11 @@ use Rattle.card.proofs.presets.apply_preset.Tie as tie
 cell-row-requires : tie.Need-cell-row-requires
 cell-row-requires c κs = search needs
 
-cast-cells-under : tie.Need-cast-cells-under
-cast-cells-under c = search needs
+cells-for-requires : tie.Need-cells-for-requires
+cells-for-requires c κs = search needs
+
+cast-n : tie.Need-cast-n
+cast-n c = search needs
 
 cells-under-requires : tie.Need-cells-under-requires
 cells-under-requires c κs = search needs
@@ -41,28 +45,33 @@ edited-under-requires c κs = search needs
 returns : tie.Need-returns
 unfolding preset
 returns c =
-    let a = c .before .before .before .before .before .before .before .args in
-    let row = c .before .before .before .before .before .before .cell-row .result in
-    let says = c .before .before .before .before .before .before .cell-row .ensures in
+    let st = c .before .before .before .before .before .before .before in
+    let a = st .before .args in
+    let row = st .cell-row .result in
+    let says = st .cell-row .ensures in
+    let sized = c .before .before .before .before .cells-for .ensures in
+    let n = c .before .before .before .before .cells-for .result in
     let cells = c .before .before .before .cells-under .ensures
-    ∙ ap (λ (front : List Cell). front ++ drop cellCount (a .card .cells))
-    (listed-same (λ i. Option·getD (cellUnder (row .0) (row .1) i) (getD (a .card .cells) i noCell)) (cellWithPreset (a .card) (a .v)) cellCount
-    (λ i h. ap (λ (o : Option Cell). Option·getD o (getD (a .card .cells) i noCell)) (says i h))) in
+    ∙ ap (λ (front : List Cell). front ++ drop n (a .card .cells))
+    (listed-same (λ i. Option·getD (cellUnder (row .0) (row .1) i) (getD (a .card .cells) i noCell)) (cellWithPreset (a .card) (a .v)) n
+    (λ i h. ap (λ (o : Option Cell). Option·getD o (getD (a .card .cells) i noCell)) (says i (omega (arith, sized .1, h))))) in
     let connectors = c .before .connectors-under .ensures
     ∙ listed-same (λ k. sourced (sourceUnder (c .before .before .source-row .result) k) (getD (a .card .connectors) k noConnector))
-    (connectorWithPreset (a .card) (a .v)) connectorCount
-    (λ k h. ap (λ (o : Option ℕ). sourced o (getD (a .card .connectors) k noConnector)) (c .before .before .source-row .ensures k h)) in
+    (connectorWithPreset n (a .card) (a .v)) connectorCount
+    (λ k h. ap (λ (o : Option ℕ). sourced o (getD (a .card .connectors) k noConnector)) (c .before .before .source-row .ensures k h ∙ ap (λ (m : ℕ). presetSource m (a .v) k) (sym (sized .0)))) in
     let edited = c .edited-under .ensures
-    ∙ built-same (λ i. bitAt (a .card .edited) i || covers (row .0) i) (editedWithPreset (a .card) (a .v)) cellCount
-    (λ i h. ap (λ (b : Bool). bitAt (a .card .edited) i || b) (sym (has-cell (row .0) (row .1) i) ∙ ap (λ (o : Option Cell). has o) (says i h))) in
-    λ k. withSettings (a .card) (a .card .trigger) (cells k) (connectors k) (edited k)
+    ∙ built-same (λ i. bitAt (a .card .edited) i || covers (row .0) i) (editedWithPreset (a .card) (a .v)) n
+    (λ i h. ap (λ (b : Bool). bitAt (a .card .edited) i || b) (sym (has-cell (row .0) (row .1) i) ∙ ap (λ (o : Option Cell). has o) (says i (omega (arith, sized .1, h))))) in
+    (λ k. withSettings (a .card) (a .card .trigger) (cells k) (connectors k) (edited k))
+    ∙ ap (λ (m : ℕ). preset m (a .card) (a .v)) (sized .0)
 
 pub apply-preset-spec : {M : Type 1} → statement M
 apply-preset-spec =
     tie.close
     (tie.spec
     cell-row-requires
-    cast-cells-under
+    cells-for-requires
+    cast-n
     cells-under-requires
     source-row-requires
     connectors-under-requires

@@ -4,10 +4,18 @@ use mathlib.Core.Bool.{not}
 use borrow.Author.Needs.{needs}
 use Rattle.words.specs.Bits.{bitAt}
 use Rattle.words.specs.Listed.{listed}
+use Rattle.card.specs.Address.{cellCount, cellsFor}
 use Rattle.card.specs.Presets.{presetTable, settingOf, offered}
-use Rattle.card.proofs.PresetRows.{listed-agree, past-offered}
+use Rattle.card.proofs.PresetRows.{listed-agree, past-offered, small-offered}
 use Rattle.card.proofs.presets.bad_preset.Statement.{statement}
 use Rattle.card.proofs.presets.bad_preset.Tie as tie
+
+is-large-requires : tie.Need-is-large-requires
+is-large-requires c κs = search needs
+
+returns : tie.Need-returns
+unfolding offered
+returns c = rw (sym (c .before .is-large .ensures) ∙ c .if1 .taken)
 
 cast-bit : tie.Need-cast-bit
 cast-bit c = search needs
@@ -15,13 +23,19 @@ cast-bit c = search needs
 bit-requires : tie.Need-bit-requires
 bit-requires c κs = search needs
 
-returns : tie.Need-returns
-unfolding bitAt listed presetTable settingOf offered
-returns c =
-    ap not (c .bit .ensures ∙ listed-agree (bitAt _) offered 64 (c .before .before .args .v) refl (search needs))
-
 returns-2 : tie.Need-returns-2
-returns-2 c = ap not (sym (past-offered (c .before .args .v) (search needs)))
+unfolding bitAt listed presetTable settingOf offered
+returns-2 c =
+    let i = c .before .before in
+    let a = i .before .before .args in
+    ap not (c .bit .ensures ∙ listed-agree (bitAt _) (offered cellCount) 64 (a .v) refl (search needs)
+    ∙ sym (small-offered (cellsFor (a .size)) (a .v) (sym (i .before .is-large .ensures) ∙ i .if1 .left)))
+
+returns-3 : tie.Need-returns-3
+returns-3 c =
+    let i = c .before in
+    let a = i .before .before .args in
+    ap not (sym (small-offered (cellsFor (a .size)) (a .v) (sym (i .before .is-large .ensures) ∙ i .if1 .left) ∙ past-offered (a .v) (search needs)))
 
 pub bad-preset-spec : {M : Type 1} → statement M
-bad-preset-spec = tie.close (tie.spec cast-bit bit-requires returns returns-2)
+bad-preset-spec = tie.close (tie.spec is-large-requires returns cast-bit bit-requires returns-2 returns-3)

@@ -3,7 +3,7 @@ use mathlib.Core.Path.{sym, _∙_}
 use Prim.Native.Nat.{_+_, _*_}
 use lib.ListN.{getD}
 use borrow.Author.Needs.{needs}
-use Rattle.card.specs.Address.{cellCount}
+use Rattle.card.specs.Address.{cellRoom}
 use Rattle.card.specs.Presets.{presetCell}
 use Rattle.card.specs.PresetRows.{cellRows, cellUnder, CellRows}
 use Rattle.card.proofs.PresetRows.{row-at, past-cell, zero-row}
@@ -38,7 +38,7 @@ returns : tie.Need-returns
 unfolding CellRows
 returns c =
     let rows = c .before .cell-rows .result in
-    row-at (λ v. cellUnder (getD rows (2 * v) 0) (getD rows (2 * v + 1) 0)) presetCell cellRows cellCount
+    row-at (λ v. cellUnder (getD rows (2 * v) 0) (getD rows (2 * v + 1) 0)) presetCell cellRows cellRoom
     (c .before .cell-rows .ensures) (c .before .before .args .v) (search needs)
 
 returns-2 : tie.Need-returns-2

@@ -6,16 +6,15 @@ use native.Mathlib.Omega.{arith}
 use borrow.Author.Needs.{needs}
 use Rattle.words.specs.Bits.{bitAt, wordOf}
 use Rattle.words.proofs.Laws.{built-next, built-fits}
-use Rattle.card.specs.Address.{cellCount}
 use Rattle.card.specs.PresetRows.{covers}
 use Rattle.card.proofs.presets.edited_under.Statement.{statement}
 use Rattle.card.proofs.presets.edited_under.Tie as tie
 
 abbrev Inv-loop : tie.InvT-loop
-Inv-loop row edited next₀ i₀ next i = (i ≤ cellCount) × (next ≡ wordOf (λ j. bitAt edited j || covers row j) i)
+Inv-loop row edited n next₀ i₀ next i = (i ≤ n) × (next ≡ wordOf (λ j. bitAt edited j || covers row j) i)
 
 abbrev μ-loop : tie.MeasureT-loop
-μ-loop row edited next₀ i₀ next i = cellCount - i
+μ-loop row edited n next₀ i₀ next i = n - i
 
 loop-holds : tie.Need-loop-holds Inv-loop μ-loop
 unfolding wordOf
@@ -48,7 +47,7 @@ loop-again c =
 returns : tie.Need-returns Inv-loop μ-loop
 returns c =
     let l = c .before .loop in
-    let end : l .i ≡ cellCount = omega arith in
+    let end : l .i ≡ c .before .before .args .n = omega arith in
     rw (l .inv .1, end)
 
 pub edited-under-spec : {M : Type 1} → statement M

@@ -1,35 +1,35 @@
--- `card::presets::source_row` meets its contract: a row of the table, by the test over the whole of it, or a row of zeros.
-use mathlib.Core.Path.{sym}
-use Prim.Native.Nat.{_+_}
-use lib.ListN.{getD}
+-- `card::presets::source_row` meets its contract: the row of the preset that only a large card has, or a row of the table.
+use mathlib.Core.Path.{sym, _∙_}
 use borrow.Author.Needs.{needs}
-use Rattle.words.proofs.Laws.{bit-zero}
-use Rattle.card.specs.Address.{connectorCount}
-use Rattle.card.specs.Presets.{presetSource}
-use Rattle.card.specs.PresetRows.{sourceRows, sourceUnder, SourceRows}
-use Rattle.card.proofs.PresetRows.{row-at, past-source}
+use Rattle.card.specs.Address.{cellRoom, cellsFor, connectorCount}
+use Rattle.card.specs.Presets.{largePreset, presetSource}
+use Rattle.card.specs.PresetRows.{sourceUnder, LargeRow}
+use Rattle.card.proofs.PresetRows.{listed-agree, small-source, large-source}
 use Rattle.card.proofs.presets.source_row.Statement.{statement}
 use Rattle.card.proofs.presets.source_row.Tie as tie
 
-source-rows-requires : tie.Need-source-rows-requires
-source-rows-requires c κs = search needs
+is-large-requires : tie.Need-is-large-requires
+is-large-requires c κs = search needs
 
-mul-result : tie.Need-mul-result
-mul-result c = search needs
-
-array-read-result : tie.Need-array-read-result
-array-read-result c = search needs
+large-row-requires : tie.Need-large-row-requires
+large-row-requires c κs = search needs
 
 returns : tie.Need-returns
-unfolding SourceRows
-returns c =
-    row-at (λ v. sourceUnder (getD (c .before .source-rows .result) v 0)) presetSource sourceRows connectorCount
-    (c .before .source-rows .ensures) (c .before .before .args .v) (search needs)
+unfolding LargeRow
+returns c k h =
+    let i = c .before in
+    let a = i .before .before .args in
+    listed-agree (sourceUnder (c .large-row .result)) (presetSource cellRoom largePreset) connectorCount k (c .large-row .ensures) h
+    ∙ sym (large-source (cellsFor (a .size)) (a .v) k (sym (i .before .is-large .ensures) ∙ i .if1 .taken))
+
+small-row-requires : tie.Need-small-row-requires
+small-row-requires c κs = search needs
 
 returns-2 : tie.Need-returns-2
-unfolding sourceUnder
-returns-2 c k h = rw (bit-zero (32 + k)) (sym (past-source (c .before .before .args .v) k (search needs)))
+returns-2 c k h =
+    let i = c .before in
+    let a = i .before .before .args in
+    c .small-row .ensures k h ∙ sym (small-source (cellsFor (a .size)) (a .v) k (sym (i .before .is-large .ensures) ∙ i .if1 .left))
 
 pub source-row-spec : {M : Type 1} → statement M
-source-row-spec =
-    tie.close (tie.spec source-rows-requires mul-result array-read-result returns returns-2)
+source-row-spec = tie.close (tie.spec is-large-requires large-row-requires returns small-row-requires returns-2)

@@ -4,7 +4,7 @@ use mathlib.Core.Path.{_≡_, ap, _∙_}
 use native.Mathlib.Omega.{arith}
 use lib.ListN.{take}
 use borrow.Author.Needs.{needs}
-use Rattle.card.specs.Address.{cellCount}
+use Rattle.card.specs.Address.{cellRoom, cellsFor}
 use Rattle.card.specs.Fresh.{noCell}
 use Rattle.card.specs.Valid.{validCell, every}
 use Rattle.card.proofs.Settings.{tested-next}
@@ -86,9 +86,9 @@ valid-cells-returns-2 : (t : ℕ) → valid-cells-lts.Need-returns-2 (
 valid-cells-returns-2 t c =
     let a = c .before .before .before .before .args in
     let one : (a .n - 1) + 1 ≡ a .n = omega arith in
-    tested-next (validCell cellCount) cellCount (a .n - 1) (a .t2) noCell _ _ (omega arith, c .before .before .valid-cells .ensures)
+    tested-next (validCell (cellsFor (a .size))) cellRoom (a .n - 1) (a .t2) noCell _ _ (omega arith, c .before .before .valid-cells .ensures)
     (omega arith) (search needs) (c .valid-cell .ensures) .1
-    ∙ ap (λ (k : ℕ). every (validCell cellCount) (take k (a .t2))) one
+    ∙ ap (λ (k : ℕ). every (validCell (cellsFor (a .size))) (take k (a .t2))) one
 
 pub +valid-cells-spec : {M : Type 1} → statement M
 +valid-cells-spec = close μ-valid-cells λ t. valid-cells-lts.spec (

@@ -4,7 +4,7 @@ use mathlib.Core.Bool.{not}
 use native.Mathlib.Omega.{arith}
 use borrow.Author.Tests.{lt-ltb}
 use Rattle.card.specs.declared.chart.Entry.{Entry}
-use Rattle.card.specs.Address.{cellCount}
+use Rattle.card.specs.Address.{cellsFor}
 use Rattle.card.specs.Valid.{largestAddress, badAddress}
 use Rattle.card.proofs.ChartLaws.{entry-refused}
 use borrow.Author.Needs.{needs}
@@ -24,7 +24,7 @@ returns c = rw (lt-ltb largestAddress (c .before .args .a) (c .if1 .taken))
 returns-2 : tie.Need-returns-2
 returns-2 c =
     let e = c .before in
-    ap (λ (e : Entry). not (e .permitted)) (e .entry-of .ensures) ∙ sym (entry-refused cellCount (e .before .before .args .a) (omega arith))
+    ap (λ (e : Entry). not (e .permitted)) (e .entry-of .ensures) ∙ sym (entry-refused (cellsFor (e .before .before .args .size)) (e .before .before .args .a) (omega arith))
 
 pub refused-spec : {M : Type 1} → statement M
 refused-spec = tie.close (tie.spec returns cast-entry-of entry-of-requires returns-2)

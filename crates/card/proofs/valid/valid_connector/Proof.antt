@@ -1,5 +1,5 @@
 -- `card::valid::valid_connector` meets its contract, by the entry of its source.
-use Rattle.card.specs.Address.{cellCount}
+use Rattle.card.specs.Address.{cellsFor}
 use Rattle.card.specs.Valid.{validConnector}
 use Rattle.card.proofs.ChartLaws.{entry-allowed}
 use borrow.Author.Needs.{needs}
@@ -21,7 +21,7 @@ returns c =
     let k = c .before in
     let e = k .before .before in
     let a = e .before .args in
-    rw (e .entry-of .ensures, k .bad-connector-type .ensures, entry-allowed cellCount (a .c .source) (search needs))
+    rw (e .entry-of .ensures, k .bad-connector-type .ensures, entry-allowed (cellsFor (a .size)) (a .c .source) (search needs))
 
 pub valid-connector-spec : {M : Type 1} → statement M
 valid-connector-spec = tie.close (tie.spec entry-of-requires cast-bad-connector-type bad-connector-type-requires returns)

@@ -2,10 +2,12 @@
 use mathlib.Core.Path.{_≡_}
 use mathlib.Core.Bool.{and-true}
 use native.Mathlib.Omega.{arith}
-use lib.ListN.{length}
+use lib.ListN.{length, take}
 use lib.Seq.{length-take-le}
 use borrow.Author.Needs.{needs}
-use Rattle.card.specs.Address.{cellCount, connectorCount}
+use borrow.Author.Tests.{eq-eqb}
+use Rattle.card.proofs.Places.{cells-most}
+use Rattle.card.specs.Address.{cellRoom, cellsFor, connectorCount}
 use Rattle.card.specs.Valid.{valid}
 use Rattle.card.proofs.valid.valid_settings.Statement.{statement}
 use Rattle.card.proofs.valid.valid_settings.Tie as tie
@@ -25,6 +27,12 @@ front-driven-requires c κs = search needs
 chart-requires : tie.Need-chart-requires
 chart-requires c κs = search needs
 
+cells-for-requires : tie.Need-cells-for-requires
+cells-for-requires c κs = search needs
+
+cast-valid-cells : tie.Need-cast-valid-cells
+cast-valid-cells c = search needs
+
 valid-cells-requires : tie.Need-valid-cells-requires
 valid-cells-requires c κs = search needs
 
@@ -35,13 +43,15 @@ returns : tie.Need-returns
 unfolding valid
 returns c =
     let v = c .before .before in
-    let f = v .before .before .before in
+    let s = v .before .before .before in
+    let f = s .before in
     let b = f .before .before in
     let a = b .before .before .args in
-    let sixteen : length (a .cells) ≡ cellCount = search needs in
-    let taken = length-take-le cellCount (a .cells) (omega arith) in
-    let others : length (a .t3) ≡ connectorCount = search needs in
-    rw (b .bad-clock .ensures, f .front-driven .ensures, v .valid-cells .ensures, c .valid-connectors .ensures, taken, others, and-true)
+    let room : length (a .cells) ≡ cellRoom = search (needs, b .before .before .good) in
+    let n = cellsFor (a .size) in
+    let taken = eq-eqb (length (take n (a .cells))) n (length-take-le n (a .cells) (omega (arith, cells-most (a .size)))) in
+    let others : length (a .t3) ≡ connectorCount = search (needs, b .before .before .good) in
+    rw (b .bad-clock .ensures, f .front-driven .ensures, v .valid-cells .ensures, s .cells-for .ensures .0, c .valid-connectors .ensures, taken, others, and-true)
 
 pub valid-settings-spec : {M : Type 1} → statement M
 valid-settings-spec =
@@ -51,7 +61,9 @@ valid-settings-spec =
     bad-clock-requires
     cast-front-driven
     front-driven-requires
+    cells-for-requires
     chart-requires
+    cast-valid-cells
     valid-cells-requires
     valid-connectors-requires
     returns)

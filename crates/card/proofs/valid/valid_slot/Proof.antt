@@ -1,5 +1,5 @@
 -- `card::valid::valid_slot` meets its contract, for a used slot by its entry, and for another.
-use Rattle.card.specs.Address.{cellCount}
+use Rattle.card.specs.Address.{cellsFor}
 use Rattle.card.specs.Valid.{validSlot}
 use Rattle.card.proofs.ChartLaws.{entry-allowed}
 use borrow.Author.Needs.{needs}
@@ -14,7 +14,7 @@ unfolding validSlot
 returns c =
     let e = c .before .before in
     let a = e .before .before .args in
-    rw (e .before .if1 .taken, e .entry-of .ensures, entry-allowed cellCount (a .a) (search needs))
+    rw (e .before .if1 .taken, e .entry-of .ensures, entry-allowed (cellsFor (a .size)) (a .a) (search needs))
 
 returns-2 : tie.Need-returns-2
 unfolding validSlot

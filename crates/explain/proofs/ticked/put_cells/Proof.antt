@@ -2,15 +2,14 @@
 use Prim.Native.Nat.{_-_, _≤_}
 use native.Mathlib.Omega.{arith}
 use borrow.Author.Needs.{needs}
-use Rattle.card.specs.Address.{cellCount}
 use Rattle.explain.proofs.ticked.put_cells.Statement.{statement}
 use Rattle.explain.proofs.ticked.put_cells.Tie as tie
 
 abbrev Inv-loop : tie.InvT-loop
-Inv-loop out₀ at full before now old new found n₀ i₀ out n i = i ≤ cellCount
+Inv-loop out₀ at full before now count old new found n₀ i₀ out n i = i ≤ count
 
 abbrev μ-loop : tie.MeasureT-loop
-μ-loop out₀ at full before now old new found n₀ i₀ out n i = cellCount - i
+μ-loop out₀ at full before now count old new found n₀ i₀ out n i = count - i
 
 loop-holds : tie.Need-loop-holds Inv-loop μ-loop
 loop-holds c = search needs

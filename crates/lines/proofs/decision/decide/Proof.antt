@@ -2,7 +2,7 @@
 use Rattle.lines.specs.Refusal.{refusal, when}
 use Rattle.lines.specs.Line.{changeFor, responseTo, decision}
 use lib.Dec.{eqb, ltb}
-use Rattle.card.specs.Address.{cellCount}
+use Rattle.card.specs.Address.{cellsFor}
 use Rattle.card.specs.declared.change.Change.the-variants.{Nothing}
 use Rattle.saved.specs.Record.{configWidth, recordLength}
 use Rattle.lines.proofs.Decisions.{either-same}
@@ -115,14 +115,23 @@ read-requires-4 c κs = search needs
 enum-told-8 : tie.Need-enum-told-8
 enum-told-8 c = search needs
 
-cast-read-2 : tie.Need-cast-read-2
-cast-read-2 c = search needs
+read-lower-requires : tie.Need-read-lower-requires
+read-lower-requires c κs = search needs
 
 read-requires-5 : tie.Need-read-requires-5
 read-requires-5 c κs = search needs
 
 enum-told-9 : tie.Need-enum-told-9
 enum-told-9 c = search needs
+
+read-upper-requires : tie.Need-read-upper-requires
+read-upper-requires c κs = search needs
+
+read-requires-6 : tie.Need-read-requires-6
+read-requires-6 c κs = search needs
+
+enum-told-10 : tie.Need-enum-told-10
+enum-told-10 c = search needs
 
 save-requires : tie.Need-save-requires
 save-requires c κs = search needs
@@ -189,13 +198,18 @@ returns-15 c = rw (c .before .before .enum-told7 .given .1) (cc)
 
 returns-16 : tie.Need-returns-16
 unfolding decision refusal changeFor responseTo
-returns-16 c = rw (c .before .before .enum-told8 .given .1) (c .read5 .ensures)
+returns-16 c = rw (c .before .before .enum-told8 .given .1) (cc)
 
 returns-17 : tie.Need-returns-17
 unfolding decision refusal changeFor responseTo
-returns-17 c =
-    let k = when (ltb (c .before .before .before .args .store) (recordLength cellCount configWidth)) 1 in
-    rw (c .before .enum-told9 .given .1, either-same (eqb k 0) Nothing) (c .save .ensures)
+returns-17 c = rw (c .before .before .enum-told9 .given .1) (cc)
+
+returns-18 : tie.Need-returns-18
+unfolding decision refusal changeFor responseTo
+returns-18 c =
+    let a = c .before .before .before .args in
+    let k = when (ltb (a .store) (recordLength (cellsFor (a .x .size)) configWidth)) 1 in
+    rw (c .before .enum-told10 .given .1, either-same (eqb k 0) Nothing) (c .save .ensures)
 
 pub decide-spec : {M : Type 1} → statement M
 decide-spec =
@@ -236,9 +250,12 @@ decide-spec =
     read-back-requires
     read-requires-4
     enum-told-8
-    cast-read-2
+    read-lower-requires
     read-requires-5
     enum-told-9
+    read-upper-requires
+    read-requires-6
+    enum-told-10
     save-requires
     returns
     returns-2
@@ -256,4 +273,5 @@ decide-spec =
     returns-14
     returns-15
     returns-16
-    returns-17)
+    returns-17
+    returns-18)

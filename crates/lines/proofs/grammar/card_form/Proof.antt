@@ -4,6 +4,7 @@ use mathlib.Core.Path.{_≡_, _∙_}
 use mathlib.Core.Bool.{_&&_, cond}
 use mathlib.Core.List.{List}
 use lib.Dec.{eqb}
+use Rattle.card.specs.Address.{cellsFor}
 use lib.ListN.{length}
 use Rattle.lines.specs.declared.grammar.Command.the-variants.{Save}
 use Rattle.lines.specs.declared.grammar.Parsed.{Parsed}
@@ -16,21 +17,24 @@ use Rattle.lines.proofs.grammar.card_form.Tie as tie
 abbrev Text : tie.After-shared-slice-known → List ℕ
 Text c = c .before .args .text .now
 
+abbrev Cells : tie.After-shared-slice-known → ℕ
+Cells c = cellsFor (c .before .args .size)
+
 abbrev Fourth : List ℕ → Parsed
 Fourth t = cond (isWord SS-Z 2 t && eqb (length t) 6) (Here Save) Malformed
 
 -- what is left when the first, the second and the third test have failed
-second : (c : tie.After-is-word2) → let t = Text (c .before .before .before .before .before) in
-    cardForm t ≡ cond (c .is-word2 .result) (ccbForm t) (cond (isWord RDADC 2 t) (readForm t) (Fourth t))
+second : (c : tie.After-is-word2) → let t = Text (c .before .before .before .before .before) in let n = Cells (c .before .before .before .before .before) in
+    cardForm n t ≡ cond (c .is-word2 .result) (ccbForm t) (cond (isWord RDADC 2 t) (readForm n t) (Fourth t))
 unfolding cardForm
 second c = rw (← c .before .before .before .is-word .ensures, c .before .before .if1 .left, ← c .is-word2 .ensures)
 
-third : (c : tie.After-is-word3) → let t = Text (c .before .before .before .before .before .before .before .before) in
-    cardForm t ≡ cond (c .is-word3 .result) (readForm t) (Fourth t)
+third : (c : tie.After-is-word3) → let t = Text (c .before .before .before .before .before .before .before .before) in let n = Cells (c .before .before .before .before .before .before .before .before) in
+    cardForm n t ≡ cond (c .is-word3 .result) (readForm n t) (Fourth t)
 third c = second (c .before .before .before) ∙ rw (c .before .before .if2 .left, ← c .is-word3 .ensures)
 
-fourth : (c : tie.After-is-word4) → let t = Text (c .before .before .before .before .before .before .before .before .before .before .before) in
-    cardForm t ≡ cond (c .is-word4 .result && eqb (length t) 6) (Here Save) Malformed
+fourth : (c : tie.After-is-word4) → let t = Text (c .before .before .before .before .before .before .before .before .before .before .before) in let n = Cells (c .before .before .before .before .before .before .before .before .before .before .before) in
+    cardForm n t ≡ cond (c .is-word4 .result && eqb (length t) 6) (Here Save) Malformed
 fourth c = third (c .before .before .before) ∙ rw (c .before .before .if3 .left, ← c .is-word4 .ensures)
 
 slice-aggregate-is-word : tie.Need-slice-aggregate-is-word

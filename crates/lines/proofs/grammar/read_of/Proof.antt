@@ -16,6 +16,9 @@ enum-told-3 c = search needs
 enum-told-4 : tie.Need-enum-told-4
 enum-told-4 c = search needs
 
+upper-form-requires : tie.Need-upper-form-requires
+upper-form-requires c κs = search needs
+
 enum-told-5 : tie.Need-enum-told-5
 enum-told-5 c = search needs
 
@@ -33,7 +36,7 @@ returns-3 c = rw (c .enum-told3 .given .1)
 
 returns-4 : tie.Need-returns-4
 unfolding readOf
-returns-4 c = rw (c .enum-told4 .given .1)
+returns-4 c = rw (c .before .enum-told4 .given .1) (c .upper-form .ensures)
 
 returns-5 : tie.Need-returns-5
 unfolding readOf
@@ -47,6 +50,7 @@ read-of-spec =
     enum-told-2
     enum-told-3
     enum-told-4
+    upper-form-requires
     enum-told-5
     returns
     returns-2

@@ -6,7 +6,7 @@ use mathlib.Core.Bool.{_&&_, cond}
 use lib.ListN.{length}
 use lib.Seq.{sets}
 use borrow.Author.Tests.{lt-ltb, le-ltb}
-use Rattle.card.specs.Address.{cellCount}
+use Rattle.card.specs.Address.{cellsFor}
 use Rattle.card.specs.Change.{changed}
 use Rattle.card.specs.Context.{contextOf}
 use Rattle.card.specs.declared.context.Context.{Context}
@@ -52,22 +52,23 @@ unfolding lineDecision lineOutcome replyAfter storeAfter
 returns-2 c =
     let z = c .before .before .before .before .before .before .before .before .before .before .before .before .before .before in
     let a = z .before .before .before .before .args in
+    let n = cellsFor (a .card .size) in
     let text = a .text .now in
     let room = length (a .reply .now) in
     let size = length (a .store .now) in
     let e = c .before .before .before .before .before .before .before .before .before .before .before in
     let y = e .before .before in
     let made = e .decide-for .result in
-    let d : made ≡ lineDecision cellCount (contextOf cellCount (a .card)) text room size =
+    let d : made ≡ lineDecision n (contextOf n (a .card)) text room size =
     rw (le-ltb room shortestReply (z .if1 .left))
     (e .decide-for .ensures
-    ∙ ap₂ (λ (x : Context) (p : Parsed). decisionFor cellCount x size p) (y .context-of .ensures) (e .before .parse-line .ensures)) in
+    ∙ ap₂ (λ (x : Context) (p : Parsed). decisionFor (cellsFor (x .size)) x size p) (y .context-of .ensures) (e .before .parse-line .ensures)) in
     let put = c .before .before .before .before .before .before .before .before .put-reply in
-    let reply = reply-is cellCount (a .card) text room size made (z .if1 .left) d in
+    let reply = reply-is n (a .card) text room size made (z .if1 .left) d in
     let saved = c .before .before .before .save-if .ensures in
     let asked = ap (λ (x : Decision). eqb (x .k) 0 && x .response .saves) d in
-    let store = saved ∙ ap (λ q. cond q (savedTo cellCount configWidth (a .card) (a .store .now)) (a .store .now)) asked in
-    let card = c .apply .ensures ∙ ap (λ (x : Decision). changed cellCount (a .card) (x .change)) d in
+    let store = saved ∙ ap (λ q. cond q (savedTo n configWidth (a .card) (a .store .now)) (a .store .now)) asked in
+    let card = c .apply .ensures ∙ ap (λ (x : Decision). changed n (a .card) (x .change)) d in
     let len = put .ensures .1 .0 ∙ ap length reply in
     let buffer = put .ensures .0 ∙ ap (sets (a .reply .now) 0) reply in
     ((λ i. record { k = d i .k; len = len i; card = card i; reply = buffer i; store = store i }), put .ensures .1 .1)

@@ -49,7 +49,7 @@ unfolding decision refusal changeFor responseTo
 returns-2 c =
     let v = c .before .before .before .before .before .before .args .v in
     rw (c .before .before .before .before .if1 .left)
-    (cc (same-decided _ (Source _) (Source v) silent (λ z. ap Source (mod-eq-of-lt (address-fits v (judged-none v _ 10 z .1))))))
+    (cc (same-decided _ (Source _) (Source v) silent (λ z. ap Source (mod-eq-of-lt (address-fits _ v (judged-none v _ 10 z .1))))))
 
 pub to-config-spec : {M : Type 1} → statement M
 to-config-spec =

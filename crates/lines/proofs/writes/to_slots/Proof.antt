@@ -6,7 +6,7 @@ use Rattle.lines.specs.Refusal.{refusal, when, orElse, anyTooLarge, anyB
 use Rattle.lines.specs.Line.{changeFor, responseTo, decision, silent, wiresOf}
 use Rattle.lines.proofs.Decisions.{last-none, none-of, same-decided, wires-fit, cutWires}
 use mathlib.Core.Bool.{not}
-use Rattle.card.specs.Address.{cellCount}
+use Rattle.card.specs.Address.{cellsFor}
 use Rattle.card.specs.Valid.{unusedSlot}
 use Rattle.lines.specs.declared.grammar.Command.the-variants.{SetSlots}
 use borrow.Author.Needs.{needs}
@@ -36,11 +36,11 @@ unfolding decision refusal changeFor responseTo
 returns c =
     let p = c .before .before .before .before .before .before .before .args .p in
     let x = c .before .before .before .before .before .before .before .args .x in
-    let k = refusal cellCount x 0 (SetSlots p) in
+    let k = refusal (cellsFor (x .size)) x 0 (SetSlots p) in
     let first = orElse (when (anyTooLarge p) 4) (when (not (x .celled)) 6) in
     let unused = when (unusedSlot (x .cell .kind) (p .given)) 10 in
     let fits : k ≡ 0 → Slots (cutWires p) ≡ Slots (wiresOf p) = λ z.
-    ap Slots (wires-fit p (last-none unused (anyBadAddress cellCount p) 10 (none-of first _ z .1))) in
+    ap Slots (wires-fit (cellsFor (x .size)) p (last-none unused (anyBadAddress (cellsFor (x .size)) p) 10 (none-of first _ z .1))) in
     cc (same-decided k (Slots (cutWires p)) (Slots (wiresOf p)) silent fits)
 
 pub to-slots-spec : {M : Type 1} → statement M

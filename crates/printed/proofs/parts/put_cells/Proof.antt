@@ -5,7 +5,6 @@ use mathlib.Core.List.{List}
 use native.Mathlib.Omega.{arith}
 use lib.ListN.{take}
 use borrow.Author.Needs.{needs}
-use Rattle.card.specs.Address.{cellCount}
 use Rattle.card.specs.Fresh.{noCell}
 use Rattle.lines.specs.Wiring.{cellCommands, commandsFrom}
 use Rattle.printed.specs.Parts.{commandsText, cellMost}
@@ -14,16 +13,16 @@ use Rattle.printed.proofs.parts.put_cells.Statement.{statement}
 use Rattle.printed.proofs.parts.put_cells.Tie as tie
 
 abbrev Inv-loop : tie.InvT-loop
-Inv-loop out₀ cells at₀ i₀ out at i = Written cellCommands 0 cellMost cellCount cells out₀ out at i
+Inv-loop out₀ n cells at₀ i₀ out at i = Written cellCommands 0 cellMost n cells out₀ out at i
 
 abbrev μ-loop : tie.MeasureT-loop
-μ-loop out₀ cells at₀ i₀ out at i = cellCount - i
+μ-loop out₀ n cells at₀ i₀ out at i = n - i
 
 loop-holds : tie.Need-loop-holds Inv-loop μ-loop
 loop-holds c = written-none cellCommands
 
-cast-n : tie.Need-cast-n Inv-loop μ-loop
-cast-n c = search needs
+cast-k : tie.Need-cast-k Inv-loop μ-loop
+cast-k c = search needs
 
 mul-put-cell : tie.Need-mul-put-cell Inv-loop μ-loop
 mul-put-cell c = search needs
@@ -51,8 +50,8 @@ loop-again c =
 returns : tie.Need-returns Inv-loop μ-loop
 returns c =
     let l = c .before .loop in
-    let end : l .i ≡ cellCount = omega arith in
     let a = c .before .before .args in
+    let end : l .i ≡ a .n = omega arith in
     let text : ℕ → List ℕ = λ n. commandsText (commandsFrom cellCommands 0 (take n (a .t2))) in
     let whole = subst (λ (n : ℕ). Placed (a .out .now) 0 (l .out) (text n) (l .at)) end (l .inv .placed) in
     (whole .bytes, (whole .at-end, omega (arith, l .inv .within, end)))
@@ -64,7 +63,7 @@ put-cells-spec =
     Inv-loop
     μ-loop
     loop-holds
-    cast-n
+    cast-k
     mul-put-cell
     array-copy-out-put-cell
     put-cell-requires

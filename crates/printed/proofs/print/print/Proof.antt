@@ -7,7 +7,7 @@ use lib.ListN.{length, take, replicate, length-replicate}
 use lib.Seq.{sets, length-sets}
 use borrow.Author.Tests.{lt-ltb, le-ltb}
 use Rattle.text.proofs.Stores.{front}
-use Rattle.card.specs.Address.{cellCount}
+use Rattle.card.specs.Address.{cellsFor}
 use Rattle.printed.specs.Parts.{textMost}
 use Rattle.printed.specs.Print.{wiringText}
 use borrow.Author.Needs.{needs}
@@ -18,7 +18,7 @@ use Rattle.printed.proofs.print.print.Tie as tie
 whole : (c : tie.After-put-wiring) → length (c .put-wiring .last .0) ≡ textMost
 whole c =
     ap length (c .put-wiring .ensures .0)
-    ∙ length-sets _ 0 (wiringText cellCount (c .before .before .before .args .card)) ∙ length-replicate {A = ℕ} textMost 0
+    ∙ length-sets _ 0 (wiringText (cellsFor (c .before .before .before .args .card .size)) (c .before .before .before .args .card)) ∙ length-replicate {A = ℕ} textMost 0
 
 put-wiring-requires : tie.Need-put-wiring-requires
 put-wiring-requires c κs = search needs
@@ -27,7 +27,7 @@ returns : tie.Need-returns
 returns c =
     let a = c .before .before .before .before .args in
     let p = c .before .put-wiring in
-    let long : length (a .buffer .now) < length (wiringText cellCount (a .card)) = omega (arith, p .ensures .1 .0, c .if1 .taken) in
+    let long : length (a .buffer .now) < length (wiringText (cellsFor (a .card .size)) (a .card)) = omega (arith, p .ensures .1 .0, c .if1 .taken) in
     let over = lt-ltb _ _ long in
     (rw over, (rw over, (rw over, zero-le)))
 
@@ -53,16 +53,16 @@ returns-2 c =
     let e = c .before .before .before .before .before .before in
     let p = e .before .put-wiring in
     let a = e .before .before .before .before .args in
-    let fits : length (wiringText cellCount (a .card)) ≤ length (a .buffer .now) = omega (arith, p .ensures .1 .0, e .if1 .left) in
+    let fits : length (wiringText (cellsFor (a .card .size)) (a .card)) ≤ length (a .buffer .now) = omega (arith, p .ensures .1 .0, e .if1 .left) in
     let room = le-ltb _ _ fits in
     let all : p .result - 0 ≡ p .result = omega arith in
     let zeros : List ℕ = replicate textMost 0 in
-    let long : length (wiringText cellCount (a .card)) ≤ length zeros = omega (arith, length-replicate {A = ℕ} textMost 0, p .ensures .1) in
+    let long : length (wiringText (cellsFor (a .card .size)) (a .card)) ≤ length zeros = omega (arith, length-replicate {A = ℕ} textMost 0, p .ensures .1) in
     let text =
     ap (λ (n : ℕ). take n (p .last .0)) all ∙ ap (take (p .result)) (p .ensures .0)
-    ∙ front zeros (wiringText cellCount (a .card)) (p .result) (p .ensures .1 .0) long in
+    ∙ front zeros (wiringText (cellsFor (a .card .size)) (a .card)) (p .result) (p .ensures .1 .0) long in
     let copied = c .before .before .copy .ensures .0 ∙ ap (sets (a .buffer .now) 0) text in
-    let size = ap length copied ∙ length-sets (a .buffer .now) 0 (wiringText cellCount (a .card)) in
+    let size = ap length copied ∙ length-sets (a .buffer .now) 0 (wiringText (cellsFor (a .card .size)) (a .card)) in
     (rw room, (rw room (p .ensures .1 .0), (rw room copied, omega (arith, size, p .ensures .1 .0))))
 
 pub print-spec : {M : Type 1} → statement M

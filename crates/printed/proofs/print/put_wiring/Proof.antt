@@ -1,11 +1,11 @@
 -- `printed::print::put_wiring` meets its contract: the cells, the connectors and the trigger, one behind the other.
-use Prim.Native.Nat.{_≤_}
-use mathlib.Core.Path.{_∙_}
+use Prim.Native.Nat.{ℕ, _≤_}
+use mathlib.Core.Path.{ap, _∙_}
 use mathlib.Core.Bool.{true}
 use native.Mathlib.Nat.{zero-add}
 use native.Mathlib.Omega.{arith}
 use lib.ListN.{length, take}
-use Rattle.card.specs.Address.{cellCount}
+use lib.Seq.{sets}
 use Rattle.lines.specs.Grammar.{PM-E=}
 use Rattle.lines.specs.Wiring.{cellCommands, connectorCommands, commandsFrom}
 use Rattle.printed.specs.Parts.{commandsText, part, textMost}
@@ -14,6 +14,9 @@ use Rattle.printed.proofs.PartLaws.{Placed, placed-then, placed-as, LF,
 use borrow.Author.Needs.{needs}
 use Rattle.printed.proofs.print.put_wiring.Statement.{statement}
 use Rattle.printed.proofs.print.put_wiring.Tie as tie
+
+cells-for-requires : tie.Need-cells-for-requires
+cells-for-requires c κs = search needs
 
 put-cells-requires : tie.Need-put-cells-requires
 put-cells-requires c κs = search needs
@@ -37,21 +40,25 @@ returns : tie.Need-returns
 returns c =
     let k = c .before .before .before .before .before in
     let d = k .before .before in
-    let a = d .before .before .before .before .args in
-    let cells = commandsText (commandsFrom cellCommands 0 (take cellCount (a .card .cells))) in
+    let z = d .before .before .before .before in
+    let a = z .before .args in
+    let n = z .cells-for .result in
+    let sized = z .cells-for .ensures .0 in
+    let cells = commandsText (commandsFrom cellCommands 0 (take n (a .card .cells))) in
     let connectors = commandsText (commandsFrom connectorCommands 0 (a .card .connectors)) in
     let first : Placed (a .out .now) 0 _ cells _ = record { bytes = d .put-cells .ensures .0; at-end = d .put-cells .ensures .1 .0 } in
     let more = placed-then first connectors (k .put-connectors .ensures .0) (k .put-connectors .ensures .1 .0) in
     let all = placed-then more (part true PM-E= (a .card .trigger) LF) (c .put .ensures .0) (c .put .ensures .1 .0) in
-    let whole = placed-as (wiring-parts cellCount (a .card)) all in
-    let end = whole .at-end ∙ zero-add (length (wiringText cellCount (a .card))) in
+    let whole = placed-as (wiring-parts n (a .card)) all in
+    let end = whole .at-end ∙ zero-add (length (wiringText n (a .card))) in
     let most : c .put .result ≤ textMost = omega (arith, c .put .ensures .1 .1, k .put-connectors .ensures .1 .1, d .put-cells .ensures .1 .1) in
-    (whole .bytes, (end, most))
+    (whole .bytes ∙ ap (λ (m : ℕ). sets (a .out .now) 0 (wiringText m (a .card))) sized, (end ∙ ap (λ (m : ℕ). length (wiringText m (a .card))) sized, most))
 
 pub put-wiring-spec : {M : Type 1} → statement M
 put-wiring-spec =
     tie.close
     (tie.spec
+    cells-for-requires
     put-cells-requires
     put-connectors-requires
     slice-aggregate-put

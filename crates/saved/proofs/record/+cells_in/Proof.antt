@@ -9,6 +9,7 @@ use Rattle.words.specs.Listed.{listed}
 use Rattle.words.proofs.Listed.{listed-next}
 use Rattle.card.specs.Fresh.{noCell}
 use Rattle.saved.specs.Record.{cellIn, normalCell, loadCells}
+use Rattle.saved.proofs.Forms.{cell-inside}
 use borrow.Fn.Kinds.{In}
 use borrow.Fn.PlainCycle.{Measures, is, falls, and}
 use Rattle.saved.proofs.record.cells_in.Reads as cells-in
@@ -51,7 +52,9 @@ cells-in-cells-in-requires : (t : ℕ) → cells-in-lts.Need-cells-in-requires (
   load-cell-reads.Asked,
   load-cell-reads.Learnt,
 ) (cells-in-at t) cells-in.Post
-cells-in-cells-in-requires t c κs = search needs
+cells-in-cells-in-requires t c κs =
+    let a = c .before .before .args in
+    (search needs, (omega (arith, cell-inside (a .n) (a .width) (a .n - 1) (omega arith)), (search needs, search needs)))
 
 cells-in-load-cell-requires : (t : ℕ) → cells-in-lts.Need-load-cell-requires (
   cells-in-below t,
@@ -59,7 +62,10 @@ cells-in-load-cell-requires : (t : ℕ) → cells-in-lts.Need-load-cell-requires
   load-cell-reads.Asked,
   load-cell-reads.Learnt,
 ) (cells-in-at t) cells-in.Post
-cells-in-load-cell-requires t c κs = search needs
+cells-in-load-cell-requires t c κs =
+    let a = c .before .before .before .args in
+    let one : a .n - 1 + 1 ≡ a .n = omega arith in
+    (rw one (search needs), (search needs, search needs))
 
 cells-in-mul-next : (t : ℕ) → cells-in-lts.Need-mul-next (
   cells-in-below t,

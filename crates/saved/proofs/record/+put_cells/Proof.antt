@@ -8,7 +8,6 @@ use lib.ListN.{take, length, getD}
 use lib.Seq.{sets}
 use borrow.Author.Needs.{needs}
 use Rattle.card.specs.Fresh.{noCell}
-use Rattle.card.specs.Address.{cellCount}
 use Rattle.saved.specs.Record.{triggerLength, cellLength, cellField, fieldsFrom}
 use Rattle.saved.proofs.Fields.{field-next, field-longer}
 use Rattle.saved.proofs.Forms.{cell-inside}
@@ -62,7 +61,9 @@ put-cells-put-cells-requires : (t : ℕ) → put-cells-lts.Need-put-cells-requir
   put-cell-reads.Asked,
   put-cell-reads.Learnt,
 ) (put-cells-at t) put-cells.Post
-put-cells-put-cells-requires t c κs = search needs
+put-cells-put-cells-requires t c κs =
+    let a = c .before .before .before .args in
+    (search needs, (omega (arith, cell-inside (a .n) (a .width) (a .n - 1) (omega arith)), (search needs, search needs)))
 
 put-cells-mul-cell : (t : ℕ) → put-cells-lts.Need-mul-cell (
   put-cells-below t,
@@ -96,7 +97,7 @@ put-cells-mul-put-cell : (t : ℕ) → put-cells-lts.Need-mul-put-cell (
 ) (put-cells-at t) put-cells.Post
 put-cells-mul-put-cell t c =
     let a = c .before .before .before .before .before .before .before .before .args in
-    omega (arith, cell-inside cellCount (a .width) (a .n - 1) (omega arith))
+    omega (arith, cell-inside (a .n) (a .width) (a .n - 1) (omega arith))
 
 put-cells-add-put-cell-2 : (t : ℕ) → put-cells-lts.Need-add-put-cell-2 (
   put-cells-below t,
@@ -106,7 +107,7 @@ put-cells-add-put-cell-2 : (t : ℕ) → put-cells-lts.Need-add-put-cell-2 (
 ) (put-cells-at t) put-cells.Post
 put-cells-add-put-cell-2 t c =
     let a = c .before .before .before .before .before .before .before .before .args in
-    omega (arith, cell-inside cellCount (a .width) (a .n - 1) (omega arith))
+    omega (arith, cell-inside (a .n) (a .width) (a .n - 1) (omega arith))
 
 put-cells-put-cell-requires : (t : ℕ) → put-cells-lts.Need-put-cell-requires (
   put-cells-below t,
@@ -116,7 +117,7 @@ put-cells-put-cell-requires : (t : ℕ) → put-cells-lts.Need-put-cell-requires
 ) (put-cells-at t) put-cells.Post
 put-cells-put-cell-requires t c κs =
     let a = c .before .before .before .before .before .before .before .before .args in
-    (omega (arith, cell-inside cellCount (a .width) (a .n - 1) (omega arith)), (search needs, search needs))
+    (omega (arith, cell-inside (a .n) (a .width) (a .n - 1) (omega arith)), (search needs, search needs))
 
 put-cells-same-length : (t : ℕ) → put-cells-lts.Need-same-length (
   put-cells-below t,

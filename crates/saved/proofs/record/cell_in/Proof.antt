@@ -1,7 +1,7 @@
 -- `saved::record::cell_in` meets its contract: each byte is read at its place, and the configuration from as many as the form says.
-use Prim.Native.Nat.{_+_, _*_, _≤_}
+use Prim.Native.Nat.{_+_, _*_, _≤_, _<_}
 use native.Mathlib.Omega.{arith}
-use Rattle.card.specs.Address.{cellCount}
+use lib.ListN.{length}
 use Rattle.saved.specs.Record.{triggerLength, cellLength, cellIn}
 use Rattle.saved.proofs.Forms.{cell-inside}
 use borrow.Author.Needs.{needs}
@@ -10,8 +10,11 @@ use Rattle.saved.proofs.record.cell_in.Tie as tie
 
 -- the field lies before those of the connectors
 inside : (s : tie.Start) → let a = s .args in
-    triggerLength + a .i * cellLength (a .width) + cellLength (a .width) ≤ triggerLength + cellCount * cellLength (a .width)
-inside s = cell-inside cellCount (s .args .width) (s .args .i) (s .pre .1 .1)
+    triggerLength + a .i * cellLength (a .width) + cellLength (a .width) ≤ length (a .bytes .now)
+inside s =
+    let a = s .args in
+    let h : a .i < a .i + 1 = omega arith in
+    omega (arith, cell-inside (a .i + 1) (a .width) (a .i) h, s .pre .0)
 
 add-at : tie.Need-add-at
 add-at c = search needs

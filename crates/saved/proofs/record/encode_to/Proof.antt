@@ -3,7 +3,6 @@ use mathlib.Core.Path.{refl}
 use native.Mathlib.Omega.{arith}
 use lib.ListN.{take}
 use Rattle.text.proofs.Stores.{sets-three}
-use Rattle.card.specs.Address.{cellCount}
 use Rattle.saved.specs.Record.{encode, triggerField, cellField, connectorField, fieldsFrom}
 use borrow.Author.Needs.{needs}
 use Rattle.saved.proofs.record.encode_to.Statement.{statement}
@@ -15,20 +14,11 @@ slice-aggregate-copy c = search needs
 copy-requires : tie.Need-copy-requires
 copy-requires c κs = search needs
 
-cast-put-cells : tie.Need-cast-put-cells
-cast-put-cells c = search needs
-
 put-cells-requires : tie.Need-put-cells-requires
 put-cells-requires c κs = search needs
 
-add-put-connectors : tie.Need-add-put-connectors
-add-put-connectors c = search needs
-
-mul-put-connectors : tie.Need-mul-put-connectors
-mul-put-connectors c = search needs
-
-add-put-connectors-2 : tie.Need-add-put-connectors-2
-add-put-connectors-2 c = search needs
+connectors-at-requires : tie.Need-connectors-at-requires
+connectors-at-requires c κs = search needs
 
 put-connectors-requires : tie.Need-put-connectors-requires
 put-connectors-requires c κs = search needs
@@ -39,13 +29,14 @@ same-length c = search needs
 returns : tie.Need-returns
 unfolding encode
 returns c =
-    let put = c .before .before .before .before .before .before in
+    let at = c .before .before .before .before in
+    let put = c .before .before .before .before .before .before .before in
     let first = put .before .before .before .before in
     let a = first .before .before .before .before .args in
-    let cells = fieldsFrom (cellField (a .width)) 0 (take cellCount (a .cells)) in
+    let cells = fieldsFrom (cellField (a .width)) 0 (take (a .n) (a .cells)) in
     let connectors = fieldsFrom connectorField 0 (a .connectors) in
     sets-three (a .out .now) (triggerField (a .trigger)) cells connectors 0 4 _ (first .copy .ensures .0) refl (put .put-cells .ensures .0)
-    (omega (arith, put .put-cells .ensures .1)) (c .before .before .put-connectors .ensures)
+    (omega (arith, put .put-cells .ensures .1, at .connectors-at .ensures .0)) (c .before .before .put-connectors .ensures)
 
 pub encode-to-spec : {M : Type 1} → statement M
 encode-to-spec =
@@ -53,11 +44,8 @@ encode-to-spec =
     (tie.spec
     slice-aggregate-copy
     copy-requires
-    cast-put-cells
     put-cells-requires
-    add-put-connectors
-    mul-put-connectors
-    add-put-connectors-2
+    connectors-at-requires
     put-connectors-requires
     same-length
     returns)

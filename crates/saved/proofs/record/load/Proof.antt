@@ -1,11 +1,13 @@
 -- `saved::record::load` meets its contract: the length tells the form.
 use Prim.Native.Nat.{ℕ}
-use mathlib.Core.Path.{ap, _∙_}
+use mathlib.Core.Path.{ap, ap₂, _∙_}
 use borrow.Author.Needs.{needs}
-use Rattle.card.specs.Address.{cellCount}
 use Rattle.saved.specs.Record.{loadNumberAs, loadedAs, loadNumber, loaded}
 use Rattle.saved.proofs.record.load.Statement.{statement}
 use Rattle.saved.proofs.record.load.Tie as tie
+
+cells-for-requires : tie.Need-cells-for-requires
+cells-for-requires c κs = search needs
 
 width-of-requires : tie.Need-width-of-requires
 width-of-requires c κs = search needs
@@ -16,11 +18,14 @@ load-as-requires c κs = search needs
 returns : tie.Need-returns
 unfolding loadNumber loaded
 returns c =
-    let a = c .before .before .before .args in
-    let form = c .before .width-of .ensures .0 in (
-      c .load-as .ensures .0 ∙ ap (λ (w : ℕ). loadedAs cellCount w (a .card) (a .bytes .now)) form,
-      c .load-as .ensures .1 ∙ ap (λ (w : ℕ). loadNumberAs cellCount w (a .bytes .now)) form,
+    let w = c .before in
+    let z = w .before in
+    let a = z .before .before .args in
+    let form = w .width-of .ensures .0 in
+    let n = z .cells-for .ensures .0 in (
+      c .load-as .ensures .0 ∙ ap₂ (λ (m w : ℕ). loadedAs m w (a .card) (a .bytes .now)) n form,
+      c .load-as .ensures .1 ∙ ap₂ (λ (m w : ℕ). loadNumberAs m w (a .bytes .now)) n form,
     )
 
 pub load-spec : {M : Type 1} → statement M
-load-spec = tie.close (tie.spec width-of-requires load-as-requires returns)
+load-spec = tie.close (tie.spec cells-for-requires width-of-requires load-as-requires returns)

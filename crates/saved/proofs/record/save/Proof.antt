@@ -1,15 +1,34 @@
 -- `saved::record::save` meets its contract: a store with room gets the record at its front.
+use Prim.Native.Nat.{ℕ, _≤_, _<_}
+use mathlib.Core.Path.{_≡_}
+use mathlib.Core.Bool.{true, false}
+use native.Mathlib.Omega.{arith}
+use lib.Dec.{ltb}
 use borrow.Author.Tests.{lt-ltb, le-ltb}
 use Rattle.saved.specs.Record.{savedTo, recordOf}
 use borrow.Author.Needs.{needs}
 use Rattle.saved.proofs.record.save.Statement.{statement}
 use Rattle.saved.proofs.record.save.Tie as tie
 
+-- the test of the room, by a length that the code found
+module _ (len r m : ℕ) (e : r ≡ m) where
+  short : len < r → ltb len m ≡ true
+  short h = lt-ltb len m (omega arith)
+
+  roomy : r ≤ len → ltb len m ≡ false
+  roomy h = le-ltb len m (omega arith)
+
+cells-for-requires : tie.Need-cells-for-requires
+cells-for-requires c κs = search needs
+
+record-length-requires : tie.Need-record-length-requires
+record-length-requires c κs = search needs
+
 returns : tie.Need-returns
 unfolding savedTo
 returns c =
-    let short = lt-ltb _ _ (c .if1 .taken) in
-    (rw short, rw short)
+    let full = short _ _ _ (c .before .record-length .ensures) (c .if1 .taken) in
+    (rw full, rw full)
 
 encode-to-requires : tie.Need-encode-to-requires
 encode-to-requires c κs = search needs
@@ -20,8 +39,12 @@ same-length c = search needs
 returns-2 : tie.Need-returns-2
 unfolding savedTo recordOf
 returns-2 c =
-    let room = le-ltb _ _ (c .before .before .before .before .before .before .if1 .left) in
-    (rw (c .before .before .encode-to .ensures, room), rw room)
+    let i = c .before .before .before .before .before .before in
+    let z = i .before .before in
+    let room = roomy _ _ _ (i .before .record-length .ensures) (i .if1 .left) in
+    (rw (c .before .before .encode-to .ensures, z .cells-for .ensures .0, room), rw room)
 
 pub save-spec : {M : Type 1} → statement M
-save-spec = tie.close (tie.spec returns encode-to-requires same-length returns-2)
+save-spec =
+    tie.close
+    (tie.spec cells-for-requires record-length-requires returns encode-to-requires same-length returns-2)

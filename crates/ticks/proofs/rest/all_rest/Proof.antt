@@ -4,7 +4,6 @@ use mathlib.Core.Path.{_≡_, refl, sym, _∙_}
 use mathlib.Core.Bool.{true}
 use native.Mathlib.Omega.{arith}
 use Rattle.words.specs.Bits.{bitAt}
-use Rattle.card.specs.Address.{cellCount}
 use Rattle.ticks.specs.Rest.{allRest}
 use borrow.Author.Tests.{not-true, not-false}
 use Rattle.ticks.proofs.FastPath.{rest-next, rest-fails}
@@ -13,10 +12,10 @@ use Rattle.ticks.proofs.rest.all_rest.Statement.{statement}
 use Rattle.ticks.proofs.rest.all_rest.Tie as tie
 
 abbrev Inv-loop : tie.InvT-loop
-Inv-loop view cells i₀ i = (i ≤ cellCount) × (allRest i (bitAt view) cells ≡ true)
+Inv-loop view n cells e i₀ i = (i ≤ n) × (allRest i (bitAt view) cells ≡ true)
 
 abbrev μ-loop : tie.MeasureT-loop
-μ-loop view cells i₀ i = cellCount - i
+μ-loop view n cells e i₀ i = n - i
 
 loop-holds : tie.Need-loop-holds Inv-loop μ-loop
 unfolding allRest
@@ -37,7 +36,7 @@ returns c =
     let l = r .before .before .before .loop in
     let a = r .before .before .before .before .args in
     let stirs = sym (r .rests .ensures) ∙ not-true _ (c .if1 .taken) in
-    (sym (rest-fails cellCount (bitAt (a .view)) (a .t1) (l .i) (omega arith) stirs), search needs)
+    (sym (rest-fails (a .n) (bitAt (a .view)) (a .t1) (l .i) (omega arith) stirs), search needs)
 
 add-i : tie.Need-add-i Inv-loop μ-loop
 add-i c = search needs
@@ -55,7 +54,7 @@ loop-again c =
 returns-2 : tie.Need-returns-2 Inv-loop μ-loop
 returns-2 c =
     let l = c .before .loop in
-    let end : l .i ≡ cellCount = omega arith in
+    let end : l .i ≡ c .before .before .args .n = omega arith in
     (sym (rw end at (l .inv .1)), search needs)
 
 pub all-rest-spec : {M : Type 1} → statement M

@@ -2,7 +2,7 @@
 use mathlib.Core.Path.{_≡_, sym, _∙_}
 use mathlib.Core.Bool.{false, false≢true}
 use borrow.Author.Tests.{not-false}
-use Rattle.card.specs.Address.{cellCount}
+use native.Mathlib.Omega.{arith}
 use Rattle.ticks.specs.Reading.{view}
 use Rattle.ticks.specs.Tick.{turned}
 use Rattle.ticks.proofs.FastPath.{steady-wires, rest-seen, quiet-turned}
@@ -32,11 +32,11 @@ returns-3 c h =
     let a = u .before .before .args in
     let o = a .w .outputs in
     let l = a .w .levels in
-    let rest = rest-seen cellCount (view cellCount 0 o o l) (c .before .sees .result) (a .cells) (c .before .sees .ensures)
+    let rest = rest-seen (a .n) (view (a .n) 0 o o l) (c .before .sees .result) (a .cells) (c .before .sees .ensures (a .n) (search needs) (search needs) (search needs))
     ∙ sym (c .all-rest .ensures .0) ∙ h in
     let edited : a .edited ≡ 0 = u .before .if1 .left in
     let words = steady-wires (a .w) (sym (u .unchanged .ensures) ∙ not-false _ (e .if2 .left)) in
-    (λ j. turned cellCount false (a .cells) (edited j) (words j)) ∙ quiet-turned cellCount o l (a .cells) rest (search needs) (search needs)
+    (λ j. turned (a .n) false (a .cells) (edited j) (words j)) ∙ quiet-turned (a .n) o l (a .cells) rest (omega (arith, c .all-rest .ensures .1)) (search needs)
 
 pub is-quiet-spec : {M : Type 1} → statement M
 is-quiet-spec =

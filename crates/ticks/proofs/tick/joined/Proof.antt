@@ -7,16 +7,13 @@ use Rattle.words.proofs.Laws.{shifted, set-bit}
 use Rattle.ticks.proofs.tick.joined.Statement.{statement}
 use Rattle.ticks.proofs.tick.joined.Tie as tie
 
-cast-result : tie.Need-cast-result
-cast-result c = search needs
-
 shl-result : tie.Need-shl-result
 shl-result c = search needs
 
 returns : tie.Need-returns
 returns c =
-    ap (bitOr (c .args .w)) (shifted 16 (c .args .i) true (search needs))
-    ∙ set-bit (c .args .w) 16 (c .args .i) (search needs) (search needs)
+    ap (bitOr (c .args .w)) (shifted 32 (c .args .i) true (search needs))
+    ∙ set-bit (c .args .w) 32 (c .args .i) (search needs) (search needs)
 
 pub joined-spec : {M : Type 1} → statement M
-joined-spec = tie.close (tie.spec cast-result shl-result returns)
+joined-spec = tie.close (tie.spec shl-result returns)

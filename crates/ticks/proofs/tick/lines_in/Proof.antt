@@ -20,13 +20,13 @@ drive-requires : tie.Need-drive-requires
 drive-requires c κs = search needs
 
 returns : tie.Need-returns
-returns c =
+returns c n room fits =
     let e = c .before in
     let now = e .before .before in
     let a = now .before .args in
     let sample = effectiveSample (a .input .sample) (a .input .attached) in
     c .drive .ensures
-    ∙ (λ k. linesOf (bitAt (now .sees .ensures k)) (bitAt (e .before .sees2 .ensures k)) (a .connectors) (e .effective .ensures k))
+    ∙ (λ k. linesOf (bitAt (now .sees .ensures n room (fits .0) (fits .0) k)) (bitAt (e .before .sees2 .ensures n room (fits .1) (fits .1) k)) (a .connectors) (e .effective .ensures k))
     ∙ lines-built _ _ (a .connectors) sample
 
 pub lines-in-spec : {M : Type 1} → statement M

@@ -1,13 +1,16 @@
 -- `ticks::tick::quick_tick` meets its contract: idle where the clock is not the chosen trigger source; else the connectors are those of the definition,
 -- and then the cells, by the law of the fast path where the tick is quiet.
-use mathlib.Core.Path.{sym, ap, _∙_}
+use Prim.Native.Nat.{ℕ, _^_, _<_}
+use mathlib.Core.Path.{sym, ap, subst, _∙_}
 use mathlib.Core.Bool.{false}
 use borrow.Author.Tests.{not-true, not-false}
-use Rattle.card.specs.Address.{cellCount}
+use Rattle.card.specs.declared.card.Memory.{Memory}
 use Rattle.ticks.specs.declared.connectors.Lines.{Lines}
 use Rattle.ticks.specs.declared.tick.Wires.{Wires}
 use Rattle.ticks.specs.FastPath.{sleptAll}
-use Rattle.ticks.specs.Tick.{ranWith, turned, turnedIn, tick}
+use Rattle.ticks.specs.Tick.{ranWith, turned, ticked, tick}
+use Rattle.ticks.specs.Words.{FitsMemory}
+use Rattle.ticks.proofs.Trim.{trim-fits, whole-tick}
 use borrow.Author.Needs.{needs}
 use Rattle.ticks.proofs.tick.quick_tick.Statement.{statement}
 use Rattle.ticks.proofs.tick.quick_tick.Tie as tie
@@ -24,6 +27,12 @@ returns c =
     let p = c .before in
     rw (sym (p .before .is-own .ensures) ∙ not-true _ (p .if1 .taken)) (c .idle .ensures)
 
+cells-for-requires : tie.Need-cells-for-requires
+cells-for-requires c κs = search needs
+
+seen-memory-requires : tie.Need-seen-memory-requires
+seen-memory-requires c κs = search needs
+
 lines-in-requires : tie.Need-lines-in-requires
 lines-in-requires c κs = search needs
 
@@ -31,7 +40,12 @@ wires-of-requires : tie.Need-wires-of-requires
 wires-of-requires c κs = search needs
 
 is-quiet-requires : tie.Need-is-quiet-requires
-is-quiet-requires c κs = search needs
+is-quiet-requires c κs =
+    let s = c .before .before .before .before in
+    let n = s .before .cells-for .result in
+    let a = s .before .before .before .before .args in
+    let fits = subst (λ (v : Memory). FitsMemory n v) (sym (s .seen-memory .ensures)) (trim-fits n (a .card .memory)) in
+    (s .before .cells-for .ensures .1, subst (λ (v : Wires). v .outputs < 2 ^ n) (sym (c .wires-of .ensures)) (fits .0))
 
 ran-with-requires : tie.Need-ran-with-requires
 ran-with-requires c κs = search needs
@@ -42,26 +56,43 @@ returns-2 c =
     let quiet = c .before .before in
     let w = quiet .before in
     let l = w .before .before in
-    let p = l .before .before .before in
+    let s = l .before .before in
+    let z = s .before in
+    let p = z .before in
     let a = p .before .before .args in
-    let slept = sym (ap (λ (v : Wires). turned cellCount false (a .card .cells) (a .card .edited) v) (w .wires-of .ensures))
+    let n = z .cells-for .result in
+    let fits = subst (λ (v : Memory). FitsMemory n v) (sym (s .seen-memory .ensures)) (trim-fits n (a .card .memory)) in
+    let slept = sym (ap (λ (v : Wires). turned n false (a .card .cells) (a .card .edited) v) (w .wires-of .ensures))
     ∙ quiet .is-quiet .ensures (c .before .if2 .taken)
     ∙ ap (λ (v : Wires). sleptAll (a .card .cells) (v .outputs)) (w .wires-of .ensures) in
     rw (sym (p .before .is-own .ensures) ∙ not-false _ (p .if1 .left))
-    (c .ran-with .ensures ∙ ap (ranWith (a .card) (l .lines-in .result)) (sym slept)
-    ∙ ap (λ (x : Lines). ranWith (a .card) x (turnedIn cellCount false (a .card) (x .levels))) (l .lines-in .ensures))
+    (c .ran-with .ensures ∙ ap (ranWith (s .seen-memory .result) (a .card) (l .lines-in .result)) (sym slept)
+    ∙ whole-tick n false (a .card) (a .input) (s .seen-memory .result) (l .lines-in .result) (s .seen-memory .ensures)
+    (l .lines-in .ensures n (z .cells-for .ensures .1) fits)
+    ∙ ap (λ (m : ℕ). ticked m false (a .card) (a .input)) (z .cells-for .ensures .0))
 
 turn-each-requires : tie.Need-turn-each-requires
-turn-each-requires c κs = search needs
+turn-each-requires c κs =
+    let s = c .before .before .before .before .before .before in
+    let n = s .before .cells-for .result in
+    let a = s .before .before .before .before .args in
+    (s .before .cells-for .ensures .1, subst (λ (v : Memory). FitsMemory n v) (sym (s .seen-memory .ensures)) (trim-fits n (a .card .memory)))
 
 returns-3 : tie.Need-returns-3
 unfolding tick
 returns-3 c =
     let l = c .before .before .before .before .before in
-    let p = l .before .before .before in
+    let s = l .before .before in
+    let z = s .before in
+    let p = z .before in
     let a = p .before .before .args in
+    let n = z .cells-for .result in
+    let fits = subst (λ (v : Memory). FitsMemory n v) (sym (s .seen-memory .ensures)) (trim-fits n (a .card .memory)) in
     rw (sym (p .before .is-own .ensures) ∙ not-false _ (p .if1 .left))
-    (c .turn-each .ensures ∙ ap (λ (x : Lines). ranWith (a .card) x (turnedIn cellCount false (a .card) (x .levels))) (l .lines-in .ensures))
+    (c .turn-each .ensures
+    ∙ whole-tick n false (a .card) (a .input) (s .seen-memory .result) (l .lines-in .result) (s .seen-memory .ensures)
+    (l .lines-in .ensures n (z .cells-for .ensures .1) fits)
+    ∙ ap (λ (m : ℕ). ticked m false (a .card) (a .input)) (z .cells-for .ensures .0))
 
 pub quick-tick-spec : {M : Type 1} → statement M
 quick-tick-spec =
@@ -70,6 +101,8 @@ quick-tick-spec =
     is-own-requires
     idle-requires
     returns
+    cells-for-requires
+    seen-memory-requires
     lines-in-requires
     wires-of-requires
     is-quiet-requires

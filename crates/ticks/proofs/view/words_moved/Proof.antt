@@ -14,7 +14,8 @@ differing-requires : tie.Need-differing-requires
 differing-requires c κs = search needs
 
 returns : tie.Need-returns
-returns c = differ-moves _ _ _ _ _ _ (c .differing .ensures) (c .before .before .words-now .ensures) (c .before .words-last .ensures)
+returns c n room below fits =
+    differ-moves _ _ _ _ _ _ (c .differing .ensures) (c .before .before .words-now .ensures n room below fits) (c .before .words-last .ensures n room fits)
 
 pub words-moved-spec : {M : Type 1} → statement M
 words-moved-spec =
