@@ -1,4 +1,5 @@
-# compare-draw.py NAME SVG RUN: the waves of a picture against the words that plrun printed. Called by check-draw.
+# compare-draw.py NAME SVG RUN: the waves of a picture against the words and levels that plrun printed. Behind each tick of RUN stand the replies to
+# 36RDADC X? and Y?, the levels of that tick. Called by check-draw.
 import re
 import sys
 import xml.etree.ElementTree as ET
@@ -7,7 +8,18 @@ name, svg_path, run_path = sys.argv[1:]
 SVG = "{http://www.w3.org/2000/svg}"
 LEFT, KEPT, SIDE_BY_SIDE, HIGH = 170, 300, 60, 4
 
-run = [tuple(int(w, 16) for w in line.split()[1:4]) for line in open(run_path) if re.match(r"T [0-9a-f]{4} ", line)]
+
+def ticks_of(lines):
+    """For each tick that ran its driven word, cell word, woken set and levels, BNC1 first."""
+    ticks = []
+    for i, line in enumerate(lines):
+        if re.match(r"T [0-9a-f]{4} ", line):
+            front, back = (int(reply.split()[1]) for reply in lines[i + 1 : i + 3])
+            ticks.append(tuple(int(w, 16) for w in line.split()[1:4]) + (front + 256 * back,))
+    return ticks
+
+
+run = ticks_of(open(run_path).read().splitlines())
 kept = min(len(run), KEPT)
 column = 20 if kept <= 30 else 10
 
@@ -51,15 +63,14 @@ for s, strip in enumerate(strips):
         wave = wave_of(next(p.get("d") for p in row.findall(SVG + "path") if p.get("class") == "w"))
         if len(wave) != len(ticks):
             wrong.append("%s has %d columns" % (label.text, len(wave)))
-        for k, (value, (driven, cells, woken)) in enumerate(zip(wave, ticks)):
+        for k, (value, (_, cells, woken, levels)) in enumerate(zip(wave, ticks)):
             if label.text.startswith("cell"):
                 i = int(label.text.split()[1]) - 1
                 tinted = k in bands[row.get("transform")]
                 good = value == bool(cells >> i & 1) and tinted == bool(woken >> i & 1)
             else:
-                # plrun prints no levels; a push-pull connector that is driven high is high
                 i = int(label.text[3:]) - 1 if label.text.startswith("BNC") else int(label.text[3:]) + 8
-                good = value or not driven >> i & 1
+                good = value == bool(levels >> i & 1)
             if not good:
                 wrong.append("%s at tick %d" % (label.text, s * SIDE_BY_SIDE + k + 1))
 print("%s: %d ticks in %d strips, %d rows, %s" % (name, kept, len(strips), rows, "the same" if not wrong else "DIFFERS: " + "; ".join(wrong[:3])))

@@ -12,7 +12,7 @@ use Rattle.words.proofs.Laws.{bit-ones, bit-built, bit-with-same, bit-with-othe
 use Rattle.words.proofs.Listed.{front-at}
 use Rattle.cells.specs.declared.cell.Cell.{Cell}
 use Rattle.cells.specs.declared.table.Slots.{Slots}
-use Rattle.cells.proofs.Laws.{or-left, or-right}
+use Rattle.words.proofs.Bools.{or-left, or-right}
 use Rattle.card.specs.declared.card.Card.{Card}
 use Rattle.card.specs.declared.card.Connector.{Connector}
 use Rattle.card.specs.Fresh.{noCell}

@@ -1,4 +1,5 @@
 -- Laws of the card that several functions or the crates above cite.
+pub mod Bounds
 pub mod ChangeLaws
 pub mod ChartLaws
 pub mod EditLaws

@@ -11,13 +11,14 @@ use Rattle.words.specs.Bits.{bitAt}
 use Rattle.words.proofs.Laws.{built-same, built-of-bits}
 use Rattle.words.proofs.Listed.{listed-same, listed-take}
 use Rattle.cells.specs.declared.cell.Cell.{Cell}
-use Rattle.cells.proofs.Laws.{or-left, or-right}
+use Rattle.words.proofs.Bools.{or-left, or-right}
 use Rattle.card.specs.declared.card.Card.{Card}
 use Rattle.card.specs.Address.{connectorCount}
 use Rattle.card.specs.Connectors.{noConnector}
 use Rattle.card.specs.Edits.{withSettings}
 use Rattle.card.specs.Fresh.{noCell}
-use Rattle.card.specs.Presets.{Setting, isLarge, has, settingOf, offered, presetCell, presetSource, cellWithPreset, connectorWithPreset, editedWithPreset, preset}
+use Rattle.card.specs.Presets.{Setting, isLarge, has, settingOf, offered, presetCell}
+use Rattle.card.specs.Presets.{presetSource, cellWithPreset, connectorWithPreset, editedWithPreset, preset}
 
 -- a preset leaves the memory, the pointer and the trigger source
 pub preset-keeps : (n : ℕ) (c : Card) (v : ℕ) → let d = preset n c v in

@@ -12,7 +12,7 @@ use borrow.Author.Tests.{ltb-true, le-ltb, eq-eqb, ne-eqb}
 use Rattle.words.specs.Bits.{bitAt}
 use Rattle.words.specs.Listed.{listed}
 use Rattle.words.proofs.Listed.{listed-at}
-use Rattle.cells.proofs.Rows.{and-left, and-right}
+use Rattle.words.proofs.Bools.{and-left, and-right}
 use Rattle.card.specs.Address.{cellCount, cellRoom, cellsFor, firstCell}
 use Rattle.card.specs.Presets.{Entry, presetTable, isLarge, largePreset, find, has, cellsOf, settingOf, offered, presetCell, presetSource}
 use Rattle.card.specs.PresetRows.{sourceRows, cellRows, rowByte, sourceUnder, covers, cellUnder}

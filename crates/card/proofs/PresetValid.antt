@@ -13,8 +13,7 @@ use Rattle.words.specs.Listed.{listed}
 use Rattle.words.proofs.Listed.{length-listed, listed-at, front-at, front-length}
 use Rattle.cells.specs.declared.cell.Cell.{Cell}
 use Rattle.cells.specs.Table.{rowOf}
-use Rattle.cells.proofs.Laws.{or-left, or-right}
-use Rattle.cells.proofs.Rows.{and-left, and-right}
+use Rattle.words.proofs.Bools.{or-left, or-right, and-left, and-right}
 use Rattle.card.specs.declared.card.Card.{Card}
 use Rattle.card.specs.declared.card.Connector.{Connector}
 use Rattle.card.specs.Address.{cellCount, cellRoom, connectorCount, firstCell, firstConnector, among, baseOf, edgeAddress}
@@ -22,7 +21,8 @@ use Rattle.card.specs.Connectors.{noConnector}
 use Rattle.card.specs.Fresh.{noCell}
 use Rattle.card.specs.Valid.{largestAddress, frontTrigger, permittedBase, badCellType, badConnectorType, badAddress, frontDriven}
 use Rattle.card.specs.Valid.{validSlot, validSlots, validCell, validConnector, every, validCard}
-use Rattle.card.specs.Presets.{Setting, Entry, presetTable, isLarge, largePreset, largeSources, find, has, cellsOf, sourcesOf, settingOf, presetCell, presetSource, setsFront, sourced}
+use Rattle.card.specs.Presets.{Setting, Entry, presetTable, isLarge, largePreset, largeSources, find, has}
+use Rattle.card.specs.Presets.{cellsOf, sourcesOf, settingOf, presetCell, presetSource, setsFront, sourced}
 use Rattle.card.specs.Presets.{cellWithPreset, connectorWithPreset, preset}
 use Rattle.card.proofs.PresetRows
 use Rattle.card.proofs.PresetRows.{large-source}
@@ -154,7 +154,8 @@ module _ (n : ℕ) (more : cellCount ≤ n) where
   either-cell none old p q = q
   either-cell (some cell) old p q = cell-more cell p
 
-  either-connector : (o : Option ℕ) (old : Connector) → passes (λ (a : ℕ). not (badAddress n a)) o ≡ true → validConnector n old ≡ true → validConnector n (sourced o old) ≡ true
+  either-connector : (o : Option ℕ) (old : Connector) → passes (λ (a : ℕ). not (badAddress n a)) o ≡ true → validConnector n old ≡ true
+      → validConnector n (sourced o old) ≡ true
   unfolding passes validConnector badConnectorType
   either-connector none old p q = q
   either-connector (some a) old p q = rw (not-true (badAddress n a) p)

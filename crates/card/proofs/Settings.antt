@@ -14,7 +14,8 @@ use Rattle.words.specs.Listed.{listed}
 use Rattle.cells.specs.declared.cell.Cell.{Cell}
 use Rattle.cells.specs.declared.table.Row.{Row}
 use Rattle.cells.specs.Table.{largestConfig, rowOf}
-use Rattle.cells.proofs.Rows.{and-left, and-right, every-row}
+use Rattle.cells.proofs.Rows.{every-row}
+use Rattle.words.proofs.Bools.{and-left, and-right}
 use Rattle.card.specs.declared.card.Connector.{Connector}
 use Rattle.card.specs.Address.{connectorCount}
 use Rattle.card.specs.Connectors.{noConnector}

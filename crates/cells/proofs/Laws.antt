@@ -3,8 +3,9 @@ use Prim.Native.Nat.{ℕ, _≤_}
 use mathlib.Core.Path.{_≡_, refl, sym, ap, _∙_}
 use mathlib.Core.Bool.{Bool, true, false, not, _&&_, _||_, Bool·beq, cond, true≢false}
 use native.Mathlib.Omega.{arith}
-use lib.Dec.{ltb}
+use lib.Dec.{eqb, ltb}
 use borrow.Author.Tests.{not-true, ltb-false}
+use Rattle.words.proofs.Bools.{or-left, or-right}
 use Rattle.cells.specs.declared.table.Slots.{Slots}
 use Rattle.cells.specs.declared.table.Row.{Row}
 use Rattle.cells.specs.declared.table.Class.{Class}
@@ -21,14 +22,6 @@ use Rattle.cells.specs.Work.{workAs, workOut}
 use Rattle.cells.specs.Wake.{timerStirred, flopClock, counterStirred, stirredAs, stirred, hasEdges, NeverStirred, differ, differing, disagreeOn}
 use Rattle.cells.specs.Wake.{disagree, moved, wakes}
 use Rattle.cells.proofs.Rows.{every-row}
-
-pub or-left : (a b : Bool) → (a || b) ≡ false → a ≡ false
-or-left true b e = e
-or-left false b e = refl
-
-pub or-right : (a b : Bool) → (a || b) ≡ false → b ≡ false
-or-right true b e = absurd (true≢false e)
-or-right false b e = e
 
 -- no slot is in the set
 record Empty (s : Slots) : Type 0 where
@@ -181,6 +174,14 @@ stop-again : (z f b : Bool) → cond (z || false) false (cond (z || f) false b) 
 stop-again true f b = refl
 stop-again false f b = refl
 
+-- with neither start nor stop it stays as it was left, whether a start would be obeyed or not
+started-again : (m n : Slots) (obeyed now active : Bool) → (n .x || n .f) ≡ false → n .z ≡ m .z
+    → startedBy now n (startedBy obeyed m active) ≡ startedBy obeyed m active
+started-again m n obeyed now active edges z =
+    let start = or-left (n .x) (n .f) edges in
+    let stop = or-right (n .x) (n .f) edges in
+    rw (start, stop, z) (stop-again (m .z) (m .f) _)
+
 -- a counter that is not stirred: the same slots, or neither start nor stop, say whether it is active
 module _ (s : State) (e m n : Slots) (same : Same e m n) where
   active-again : (k : CounterKind) → Empty (masked (counterAlways k) e) → counterStirred k (counter k s m .state .bit) n ≡ false
@@ -188,12 +189,10 @@ module _ (s : State) (e m n : Slots) (same : Same e m n) where
   unfolding counterAlways
   active-again WhileBoth fit h = rw (same .x (fit .x), same .f (fit .f))
   active-again WhileEither fit h = rw (same .x (fit .x), same .f (fit .f))
-  active-again FromStart fit h =
-      let edges = or-left (n .x || n .f) _ h in
-      rw (or-left (n .x) (n .f) edges, or-right (n .x) (n .f) edges, same .z (fit .z)) (stop-again (m .z) (m .f) _)
+  active-again FromStart fit h = started-again m n true true (s .bit) (or-left (n .x || n .f) _ h) (same .z (fit .z))
   active-again FromStartAtZero fit h =
-      let edges = or-left (n .x || n .f) _ h in
-      rw (or-left (n .x) (n .f) edges, or-right (n .x) (n .f) edges, same .z (fit .z)) (stop-again (m .z) (m .f) _)
+      let u = counter FromStartAtZero s m .state in
+      started-again m n (eqb (s .count .0) 0) (eqb (u .count .0) 0) (s .bit) (or-left (n .x || n .f) _ h) (same .z (fit .z))
 
   -- and its clock finds it inactive
   clock-idle : (k : CounterKind) → Empty (masked (counterAlways k) e) → counterStirred k (counter k s m .state .bit) n ≡ false

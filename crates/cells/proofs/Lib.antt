@@ -3,5 +3,5 @@ pub mod Packed
 pub mod Tests
 pub mod Gates
 pub mod Laws
-pub mod Named
 pub mod Counters
+pub mod Used

@@ -6,17 +6,10 @@ use mathlib.Core.List.{List, [], _∷_}
 use native.Mathlib.Omega.{arith}
 use lib.Dec.{eqb, ltb}
 use borrow.Author.Tests.{ltb-true, ne-eqb}
+use Rattle.words.proofs.Bools.{and-left, and-right}
 use Rattle.cells.specs.declared.table.Row.{Row}
 use Rattle.cells.specs.declared.table.Class.{Class}
 use Rattle.cells.specs.Table.{ChartLine, chart, keptBy, rowAs, rowAmong, rowIn, rowOf, no-row, typeCount}
-
-pub and-left : (a b : Bool) → (a && b) ≡ true → a ≡ true
-and-left true b e = refl
-and-left false b e = e
-
-pub and-right : (a b : Bool) → (a && b) ≡ true → b ≡ true
-and-right true b e = e
-and-right false b e = absurd (false≢true e)
 
 -- a test passes at each row that the lines give, and at the row of a number past the table
 abbrev allAmong : (Row → Bool) → ChartLine → List (ℕ × Class) → Bool

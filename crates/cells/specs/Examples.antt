@@ -1,5 +1,5 @@
--- Document 01, "Cells", and document 02, "Counter cells": what a timer and a counter do in a tick, as one table by computation on the definitions.
--- The numbers are read from the papers.
+-- Document 01, "Cells", and document 02, "Counter cells": what a timer and a counter do in a tick, as one table by computation on the definitions; and
+-- how far a gate of four slots looks. The numbers are read from the papers. Every clause of specs/Work has a row that another reading would change.
 use Prim.Native.Nat.{ℕ}
 use mathlib.Core.Path.{_≡_, refl}
 use mathlib.Core.Bool.{Bool, true, false}
@@ -8,7 +8,6 @@ use Rattle.cells.specs.declared.table.Slots.{Slots}
 use Rattle.cells.specs.declared.cell.Worked.{Worked}
 use Rattle.cells.specs.Table.{slots, rowOf}
 use Rattle.cells.specs.Work.{pulses, taken, raised, decidesAnd, decidesOr, looked, workAs, workOut}
-use Rattle.cells.specs.Wake.{stirredAs, stirred}
 
 -- a timer's count, its pulse and its output; of a counter the count, "active" as it is kept, and the output
 abbrev Shown : Type 0
@@ -21,7 +20,7 @@ timer kind d count pulse r = workOut kind d (record { count = pulses count; bit 
 shown : Worked → Shown
 shown w = (w .state .count .0, w .state .pulse, w .out)
 
--- one-shots keep no pulse
+-- one-shots keep no pulse; one that is handed in stays
 shot : (kind d count : ℕ) → Slots → Shown
 shot kind d count r = shown (timer kind d count false r)
 
@@ -46,6 +45,12 @@ trigger = slots true false false false
 abbrev trigger-clock : Slots
 trigger-clock = slots true true false false
 
+abbrev reset : Slots
+reset = slots false false true false
+
+abbrev clock-reset : Slots
+clock-reset = slots false true true false
+
 abbrev trigger-clock-reset : Slots
 trigger-clock-reset = slots true true true false
 
@@ -56,14 +61,29 @@ abbrev other-trigger-clock : Slots
 other-trigger-clock = slots false true false true
 
 -- of a counter: A, or start, is X; B, or stop, is F
+abbrev a-b : Slots
+a-b = slots true false false true
+
 abbrev a-b-clock : Slots
 a-b-clock = slots true true false true
 
 abbrev a-b-clock-reset : Slots
 a-b-clock-reset = slots true true true true
 
+abbrev a-reset : Slots
+a-reset = slots true false true false
+
+abbrev start : Slots
+start = slots true false false false
+
 abbrev start-clock : Slots
 start-clock = slots true true false false
+
+abbrev start-clock-reset : Slots
+start-clock-reset = slots true true true false
+
+abbrev stop : Slots
+stop = slots false false false true
 
 abbrev stop-clock : Slots
 stop-clock = slots false true false true
@@ -75,25 +95,61 @@ table =
     (shot 8 3 0 trigger-clock, (3, false, true))
     ∷ (shot 14 3 0 trigger-clock, (3, false, true))
     ∷ (shot 16 3 0 other-trigger-clock, (3, false, true))
+    ∷ (shot 16 3 0 trigger-clock, (3, false, true))
+    -- without a clock it is taken as well; of duration 0 it leaves nothing to count, also where there was something
+    ∷ (shot 8 3 0 trigger, (3, false, true))
+    ∷ (shot 8 0 0 trigger, (0, false, false))
+    ∷ (shot 8 0 2 trigger, (0, false, false))
+    -- F is a trigger in 16 and 17 alone
+    ∷ (shot 8 3 0 other-trigger, (0, false, false))
+    ∷ (shot 14 3 0 other-trigger, (0, false, false))
+    ∷ (pulsed 9 0 0 false other-trigger, (0, false, false))
+    ∷ (pulsed 15 0 0 false other-trigger, (0, false, false))
     -- "Else a clock edge lowers a count above 0 by 1. High while the count is above 0"
     ∷ (shot 8 3 3 clock, (2, false, true))
     ∷ (shot 8 3 1 clock, (0, false, false))
     ∷ (shot 8 3 0 clock, (0, false, false))
     ∷ (shot 8 3 2 nothing, (2, false, true))
+    ∷ (shot 14 3 0 nothing, (0, false, false))
     -- "reset sets the count to 0", whatever else is high
+    ∷ (shot 8 3 2 reset, (0, false, false))
+    ∷ (shot 14 3 2 clock-reset, (0, false, false))
+    ∷ (shot 16 3 0 trigger-clock-reset, (0, false, false))
     ∷ (shot 8 3 2 trigger-clock-reset, (0, false, false))
     -- "Types 14 and 16 ignore triggers while the count is above 0", and the clock is not ignored then; type 8 takes them
     ∷ (shot 14 3 2 trigger-clock, (1, false, true))
     ∷ (shot 16 3 2 other-trigger-clock, (1, false, true))
+    ∷ (shot 16 3 2 trigger-clock, (1, false, true))
+    ∷ (shot 14 3 1 trigger, (1, false, true))
     ∷ (shot 8 3 2 trigger-clock, (3, false, true))
+    -- a one-shot that is handed in with a pulse: it stays, and neither makes the output high nor keeps a trigger out
+    ∷ (pulsed 8 3 1 true clock, (0, true, false))
+    ∷ (pulsed 8 3 1 true reset, (0, true, false))
+    ∷ (pulsed 14 3 0 true trigger, (3, true, true))
     -- a delay of 1: the trigger's tick, the first clock edge, "reaching 0 starts the pulse", and the next, which "finds the count at 0"
     ∷ (pulsed 9 1 0 false trigger-clock, (1, false, false))
     ∷ (pulsed 9 1 1 false clock, (0, true, true))
     ∷ (pulsed 9 1 0 true nothing, (0, true, true))
     ∷ (pulsed 9 1 0 true clock, (0, false, false))
+    ∷ (pulsed 9 1 0 false clock, (0, false, false))
+    ∷ (pulsed 9 3 3 false clock, (2, false, false))
+    ∷ (pulsed 9 3 3 false nothing, (3, false, false))
+    -- a delay that is handed in with a count and a pulse keeps the pulse until an edge finds the count at 0
+    ∷ (pulsed 9 5 2 true clock, (1, true, true))
+    ∷ (pulsed 9 5 1 true clock, (0, true, true))
+    ∷ (pulsed 9 5 2 true nothing, (2, true, true))
     -- "A taken trigger sets count d and ends a pulse"; "Reset also ends the pulse"
     ∷ (pulsed 9 2 0 true trigger, (2, false, false))
     ∷ (pulsed 15 2 0 true trigger-clock-reset, (0, false, false))
+    ∷ (pulsed 9 2 0 true reset, (0, false, false))
+    -- a reset starts no pulse: not where it takes the count to 0, not with a trigger of duration 0
+    ∷ (pulsed 9 2 1 false clock-reset, (0, false, false))
+    ∷ (pulsed 9 0 0 false trigger-clock-reset, (0, false, false))
+    -- 15 and 17 take a trigger at rest, 17 from X and from F; "with d = 0 it starts the pulse"
+    ∷ (pulsed 15 2 0 false trigger, (2, false, false))
+    ∷ (pulsed 15 0 0 false trigger, (0, true, true))
+    ∷ (pulsed 17 2 0 false trigger, (2, false, false))
+    ∷ (pulsed 17 2 0 false other-trigger-clock, (2, false, false))
     -- document 02: 15 and 17 "ignore triggers during the pulse as well, also with duration 0"; the clock keeps its effect. Type 9 takes them
     ∷ (pulsed 15 2 0 true trigger, (0, true, true))
     ∷ (pulsed 15 2 0 true trigger-clock, (0, false, false))
@@ -104,6 +160,7 @@ table =
     -- "Types 15 and 17 ignore triggers while the count is above 0"; type 9 takes them
     ∷ (pulsed 15 2 1 false trigger-clock, (0, true, true))
     ∷ (pulsed 17 2 2 false other-trigger-clock, (1, false, false))
+    ∷ (pulsed 15 2 2 false trigger, (2, false, false))
     ∷ (pulsed 9 2 1 false trigger-clock, (2, false, false))
     -- document 02: "Durations and counts of the timer types 8, 9 and 14 to 17 go to 4,294,967,295": the longest is counted down from there and nothing wraps
     ∷ (shot 16 4294967295 0 other-trigger-clock, (4294967295, false, true))
@@ -111,66 +168,60 @@ table =
     ∷ (pulsed 9 4294967295 0 true trigger, (4294967295, false, false))
     ∷ (pulsed 17 4294967295 4294967295 false clock, (4294967294, false, false))
     ∷ (pulsed 15 4294967295 65536 false clock, (65535, false, false))
-    -- "19 is active while A and B are high, 20 while either is"; "While active, a clock edge adds 1"; neither keeps "active"
+    -- "19 is active while A and B are high, 20 while either is"; "While active, a clock edge adds 1"; neither keeps "active": the bit stays
     ∷ (counted 19 4 false a-b-clock, (5, false, true))
-    ∷ (counted 19 4 false start-clock, (4, false, false))
+    ∷ (counted 19 4 true a-b-clock, (5, true, true))
+    ∷ (counted 19 4 false a-b, (4, false, true))
+    ∷ (counted 19 4 true start-clock, (4, true, false))
+    ∷ (counted 19 4 true stop-clock, (4, true, false))
+    ∷ (counted 19 4 true clock, (4, true, false))
+    ∷ (counted 20 4 false a-b-clock, (5, false, true))
     ∷ (counted 20 4 false start-clock, (5, false, true))
+    ∷ (counted 20 4 false stop-clock, (5, false, true))
+    ∷ (counted 20 4 false stop, (4, false, true))
     ∷ (counted 20 4 true clock, (4, true, false))
-    -- under reset the count is 0 and the output stays high
+    -- "in a tick where it is high the count becomes 0": reset takes the count, not the output
     ∷ (counted 19 4 false a-b-clock-reset, (0, false, true))
+    ∷ (counted 19 4 false clock-reset, (0, false, false))
+    ∷ (counted 20 4 false a-reset, (0, false, true))
+    ∷ (counted 20 4 false reset, (0, false, false))
     -- 21: "in the starting tick too and not in the stopping one"; "stop wins over start"; without start it goes on, and a start keeps the count
     ∷ (counted 21 0 false start-clock, (1, true, true))
     ∷ (counted 21 4 false start-clock, (5, true, true))
+    ∷ (counted 21 4 false start, (4, true, true))
+    ∷ (counted 21 4 false clock, (4, false, false))
     ∷ (counted 21 4 true clock, (5, true, true))
+    ∷ (counted 21 4 true nothing, (4, true, true))
     ∷ (counted 21 4 true stop-clock, (4, false, false))
+    ∷ (counted 21 4 true stop, (4, false, false))
     ∷ (counted 21 4 true a-b-clock, (4, false, false))
-    ∷ (counted 21 4 true a-b-clock-reset, (0, false, false))
-    -- "22 obeys start only while its count is 0"
+    ∷ (counted 21 4 false a-b-clock, (4, false, false))
+    -- "22 obeys start only while its count is 0"; once active it counts on, and a start that is not obeyed takes nothing from it
     ∷ (counted 22 0 false start-clock, (1, true, true))
+    ∷ (counted 22 0 false start, (0, true, true))
     ∷ (counted 22 1 false start-clock, (1, false, false))
-    -- "a count below 65535"
+    ∷ (counted 22 3 true clock, (4, true, true))
+    ∷ (counted 22 3 true start-clock, (4, true, true))
+    ∷ (counted 22 0 false clock, (0, false, false))
+    ∷ (counted 22 3 true stop-clock, (3, false, false))
+    ∷ (counted 22 0 false a-b-clock, (0, false, false))
+    -- "Reset comes before all else": "21 and 22 become inactive, and neither start nor clock is obeyed"
+    ∷ (counted 21 4 true a-b-clock-reset, (0, false, false))
+    ∷ (counted 21 4 true clock-reset, (0, false, false))
+    ∷ (counted 21 4 false start-clock-reset, (0, false, false))
+    ∷ (counted 22 4 true reset, (0, false, false))
+    ∷ (counted 22 0 false start-clock-reset, (0, false, false))
+    -- "a count below 65535"; one that is handed in above it stays
     ∷ (counted 21 65534 true clock, (65535, true, true))
     ∷ (counted 21 65535 true clock, (65535, true, true))
+    ∷ (counted 19 65535 false a-b-clock, (65535, false, true))
+    ∷ (counted 20 70000 false start-clock, (70000, false, true))
+    ∷ (counted 21 70000 true clock, (70000, true, true))
     ∷ []
 
 one-table : map (λ (e : Shown × Shown). e .0) table ≡ map (λ (e : Shown × Shown). e .1) table
 unfolding timer shown shot pulsed counted rowOf taken raised workAs workOut
 one-table = refl
-
--- ---- who wakes
-
--- a counter with this count and this "active" is stirred
-wakeful : (kind count : ℕ) → Bool → Slots → Bool
-wakeful kind count active r = stirred kind (record { count = pulses count; bit = active; pulse = false }) r
-
--- a timer with this count and this pulse is
-stirredTimer : (kind count : ℕ) → Bool → Slots → Bool
-stirredTimer kind count pulse r = stirred kind (record { count = pulses count; bit = false; pulse = pulse }) r
-
--- given, expected
-abbrev waking : List (Bool × Bool)
-waking =
-    -- "on a clock while active (19 and 20 by A and B as read in that tick ..."
-    (wakeful 19 0 false a-b-clock, true)
-    ∷ (wakeful 19 0 true start-clock, false)
-    ∷ (wakeful 20 0 false start-clock, true)
-    ∷ (wakeful 20 0 true clock, false)
-    -- "... 21 and 22 by what they kept)", also under reset and at the largest count
-    ∷ (wakeful 21 3 true clock, true)
-    ∷ (wakeful 21 3 false clock, false)
-    ∷ (wakeful 22 65535 true clock, true)
-    ∷ (wakeful 21 3 true (slots false true true false), true)
-    -- "on start, stop", obeyed or not; a held reset does not wake
-    ∷ (wakeful 22 3 false trigger, true)
-    ∷ (wakeful 21 0 false stop-clock, true)
-    ∷ (wakeful 21 3 true (slots false false true false), false)
-    -- a trigger that a delay ignores in its pulse "still wakes"
-    ∷ (stirredTimer 17 0 true other-trigger, true)
-    ∷ []
-
-who-wakes : map (λ (e : Bool × Bool). e .0) waking ≡ map (λ (e : Bool × Bool). e .1) waking
-unfolding wakeful stirredTimer rowOf stirredAs stirred
-who-wakes = refl
 
 -- ---- four-input gates
 

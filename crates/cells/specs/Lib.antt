@@ -3,8 +3,9 @@ pub mod Table
 pub mod State
 pub mod Work
 pub mod Wake
-pub mod Reasons
 pub mod Reading
 pub mod Effect
+pub mod Counting
 pub mod Examples
-pub mod ReasonExamples
+pub mod GateExamples
+pub mod WakeExamples

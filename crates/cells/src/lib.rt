@@ -1,6 +1,5 @@
 pub mod cell;
 pub mod reading;
-pub mod reasons;
 pub mod table;
 pub mod wake;
 pub mod work;

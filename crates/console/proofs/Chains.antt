@@ -12,7 +12,7 @@ use Rattle.text.specs.Hex.{hexDigit, hexDigits, hex4}
 use Rattle.text.proofs.DecimalLaws.{decimal-length}
 use Rattle.text.proofs.HexLaws.{hex-length}
 use Rattle.text.proofs.Stores.{Stored, behind}
-use Rattle.cells.proofs.Rows.{and-left, and-right}
+use Rattle.words.proofs.Bools.{and-left, and-right}
 use Rattle.card.specs.declared.card.Card.{Card}
 use Rattle.card.specs.Address.{cellRoom, cellsFor}
 use Rattle.card.proofs.Places.{cells-most}

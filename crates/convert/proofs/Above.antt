@@ -12,13 +12,13 @@ use lib.Seq.{take-all, take-take, length-take-le}
 use borrow.Author.Tests.{eqb-true, eq-eqb, ne-eqb, not-true, not-false}
 use Rattle.cells.specs.declared.cell.Cell.{Cell}
 use Rattle.cells.specs.Table.{rowOf}
-use Rattle.cells.proofs.Laws.{or-left, or-right}
-use Rattle.cells.proofs.Rows.{and-left, and-right}
+use Rattle.words.proofs.Bools.{or-left, or-right, and-left, and-right}
 use Rattle.card.specs.declared.card.Card.{Card}
 use Rattle.card.specs.declared.card.Connector.{Connector}
 use Rattle.card.specs.Address.{cellRoom, connectorCount, firstCell, firstConnector, among, baseOf, isEdge}
 use Rattle.card.specs.Fresh.{noCell}
-use Rattle.card.specs.Valid.{permittedBase, badCellType, badConnectorType, badAddress, validSlot, validSlots, validCell, validConnector, every, valid, validCard}
+use Rattle.card.specs.Valid.{permittedBase, badCellType, badConnectorType, badAddress, validSlot, validSlots}
+use Rattle.card.specs.Valid.{validCell, validConnector, every, valid, validCard}
 use Rattle.card.specs.Valid.{largestAddress}
 use Rattle.card.proofs.Places.{among-in, among-below, among-above}
 use Rattle.card.proofs.Settings.{first-at, first-pass, taken-room, Sound, split, cell-slots}
@@ -147,7 +147,8 @@ module _ (n m : ℕ) (few : n ≤ m) (most : m ≤ cellRoom) where
   valid-below trigger cells connectors ok =
       let s = split m trigger cells connectors ok in
       let room = taken-room m cells (s .cell-count) in
-      let first = first-pass (validCell m) n cells noCell (omega arith) (λ i h. first-at (validCell m) m cells i noCell (s .cells-pass) (s .cell-count) (omega arith)) in
+      let first = first-pass (validCell m) n cells noCell (omega arith)
+      (λ i h. first-at (validCell m) m cells i noCell (s .cells-pass) (s .cell-count) (omega arith)) in
       let count = eq-eqb (length (take n cells)) n (length-take-le n cells (omega arith)) in
       let others = eq-eqb (length connectors) connectorCount (s .connector-count) in
       let pass = every-agree (validCell m) (validCell n) (slotsBelow n m) cell-below (take n cells) first in
@@ -173,7 +174,8 @@ module _ (n : ℕ) (bytes : List ℕ) (d : Card) (few : n ≤ cellsOf n bytes) (
 
   -- "where the small card can hold it"
   pub above-is : aboveSmall n bytes
-      ≡ (not (every isBlank (drop n (take (cellsOf n bytes) (loaded (cellsOf n bytes) d bytes .cells)))) || not (validCard n (loaded (cellsOf n bytes) d bytes)))
+      ≡ (not (every isBlank (drop n (take (cellsOf n bytes) (loaded (cellsOf n bytes) d bytes .cells))))
+      || not (validCard n (loaded (cellsOf n bytes) d bytes)))
   unfolding m c aboveSmall validCard
   above-is =
       let below = valid-below n m few most (c .trigger) (c .cells) (c .connectors) (loaded-valid m d bytes ok) in

@@ -17,8 +17,8 @@ use Rattle.cells.specs.declared.table.Kept.{Kept as KeptState}
 use Rattle.cells.specs.declared.table.Kept.the-variants.{Stateless, Bit, Count, Counted}
 use Rattle.cells.specs.State.{cellOf}
 use Rattle.cells.specs.Table.{rowOf, constantType}
-use Rattle.cells.proofs.Laws.{or-left, or-right}
-use Rattle.cells.proofs.Rows.{and-left, and-right, every-row}
+use Rattle.words.proofs.Bools.{or-left, or-right, and-left, and-right}
+use Rattle.cells.proofs.Rows.{every-row}
 use Rattle.card.specs.declared.card.Card.{Card}
 use Rattle.card.specs.Address.{cellCount, cellRoom}
 use Rattle.card.specs.Edits.{clearedCell}
@@ -116,7 +116,8 @@ fit-narrow n width bytes fit =
 -- ---- a conversion by its way
 
 module _ (n room from to : ℕ) (bytes : List ℕ) (few : n ≤ cellCount) (way : Way n from to bytes)
-    (turn : (l : List ℕ) → length l ≡ recordLength n to → Way n to from l) (enough : shortFor n room bytes ≡ false) (ok : loadNumber n bytes ≡ 0) (fit : Fit to (loadCells n from bytes))
+    (turn : (l : List ℕ) → length l ≡ recordLength n to → Way n to from l) (enough : shortFor n room bytes ≡ false) (ok : loadNumber n bytes ≡ 0)
+    (fit : Fit to (loadCells n from bytes))
     (short : eqb from narrowWidth ≡ true → every narrowCell (loadCells n from bytes) ≡ true) where
   number : loadNumberAs n from bytes ≡ 0
   unfolding loadNumber
@@ -288,7 +289,8 @@ module _ (n room : ℕ) (bytes : List ℕ) (few : n ≤ cellCount) (large : leng
         let held = cellsHeld n bytes in
         let told : not (every narrowCell held) ≡ false = ap (λ (w : ℕ). eqb w narrowWidth && not (every narrowCell held)) (sym large-to) ∙ short in
         let same : take n held ≡ take n (card .cells) =
-        ap (λ (k : ℕ). take n (loadCells k (widthOf k bytes) bytes)) large-own ∙ ap (take n) (sym cells-are) ∙ take-take n cellRoom (card .cells) (omega arith) in
+        ap (λ (k : ℕ). take n (loadCells k (widthOf k bytes) bytes)) large-own ∙ ap (take n) (sym cells-are)
+        ∙ take-take n cellRoom (card .cells) (omega arith) in
         subst (Fit narrowWidth) same (narrow-fit (take n held) (every-take narrowCell n held (not-false _ told)))
 
     is-record : otherForm n bytes ≡ recordOf n narrowWidth card

@@ -25,9 +25,9 @@ use card::limits::Number;
 use cells::cell::Cell;
 use cells::table::Class;
 use cells::table::class_of;
-use lines::grammar::Command;
-use lines::grammar::Pairs;
-use lines::grammar::Slot;
+use commands::grammar::Command;
+use commands::grammar::Pairs;
+use commands::grammar::Slot;
 
 // The index of the cell, or the connector, at the pointer.
 fn cell_index(x: Context) -> u8 {

@@ -1,7 +1,10 @@
-pub mod accepted;
+// What a line did and why, in words for people. The one call is `explain`; what it writes is held by stored output.
+mod accepted;
 pub mod line;
-pub mod names;
-pub mod out;
-pub mod refused;
-pub mod ticked;
-pub mod wiring;
+mod names;
+mod out;
+mod refused;
+mod ticked;
+mod wiring;
+
+pub use out::Page;

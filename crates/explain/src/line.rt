@@ -14,9 +14,9 @@ use card::card::Card;
 use card::change::Change;
 use card::change::apply;
 use card::context::context_of;
+use commands::grammar::Parsed;
+use commands::grammar::parse_line;
 use lines::decision::decide_for;
-use lines::grammar::Parsed;
-use lines::grammar::parse_line;
 
 // `longestPrint`: no line prints more.
 const ROOM: usize = 36;

@@ -14,9 +14,9 @@ use cells::table::Kept;
 use cells::table::Slots;
 use cells::table::class_of;
 use cells::table::row_of;
-use lines::grammar::Command;
-use lines::grammar::Pairs;
-use lines::grammar::Parsed;
+use commands::grammar::Command;
+use commands::grammar::Pairs;
+use commands::grammar::Parsed;
 
 // 2: a line of another form or length.
 fn put_form(out: &mut Page, at: usize, text: &[u8]) -> usize {

@@ -18,14 +18,15 @@ use card::card::Connector;
 use card::limits::CELLS;
 use card::limits::CONNECTORS;
 use card::limits::CellWord;
+use card::limits::OPEN_DRAIN;
 use card::place::cells_for;
 use cells::cell::Cell;
 use cells::cell::Pulses;
-use cells::reasons::Reasons;
-use cells::reasons::any_reason;
 use cells::table::Class;
 use cells::table::class_of;
 use ticks::tick::Input;
+use why::cell::Reasons;
+use why::cell::any_reason;
 
 // What stands before a reason: nothing before the first, and a semicolon before others.
 fn put_break(out: &mut Page, at: usize, first: usize) -> usize {
@@ -223,13 +224,30 @@ fn put_cause(out: &mut Page, at: usize, c: Connector, attached: bool) -> usize {
     put(out, a, b" in the last tick.\n")
 }
 
-// Connector k, where it shows another level.
+// The sample is what moved an open-drain line: it is low though the card drives it high, or high again where the card drove it high before.
+fn by_sample(kind: u8, high: bool, drove: bool, drives: bool) -> bool {
+    (kind == OPEN_DRAIN) & ((high & drove) | (!high & drives))
+}
+
+// An open-drain line that follows its sample.
+fn put_sampled(out: &mut Page, at: usize, c: Connector, attached: bool, high: bool) -> usize {
+    let a = put_if(!attached, out, at, b"nothing is attached, and ");
+    let b = put(out, a, b"the sample is ");
+    let d = level(out, b, high);
+    let e = put(out, d, b" (");
+    let f = connector_kind(out, e, c.kind, c.source);
+    put(out, f, b").\n")
+}
+
+// Connector k, where it shows another level. `drove` and `drives` are the driven words of the last tick and of this one.
 fn put_connector(
     out: &mut Page,
     at: usize,
     k: u32,
     c: Connector,
     attached: u16,
+    drove: u16,
+    drives: u16,
     before: u16,
     now: u16,
 ) -> usize
@@ -245,7 +263,16 @@ fn put_connector(
     let d = put(out, b, b" goes ");
     let e = level(out, d, is);
     let f = put(out, e, b": ");
-    put_cause(out, f, c, words::bit(attached as u64, k))
+    let held = words::bit(attached as u64, k);
+    if by_sample(
+        c.kind,
+        is,
+        words::bit(drove as u64, k),
+        words::bit(drives as u64, k),
+    ) {
+        return put_sampled(out, f, c, held, is);
+    }
+    put_cause(out, f, c, held)
 }
 
 // Those that do.
@@ -254,13 +281,25 @@ fn put_connectors(
     at: usize,
     connectors: [Connector; CONNECTORS],
     attached: u16,
+    drove: u16,
+    drives: u16,
     before: u16,
     now: u16,
 ) -> usize {
     let mut n = at;
     for k in 0..CONNECTORS as u32 {
         let i = k as usize;
-        n = put_connector(out, n, k, connectors[i], attached, before, now);
+        n = put_connector(
+            out,
+            n,
+            k,
+            connectors[i],
+            attached,
+            drove,
+            drives,
+            before,
+            now,
+        );
     }
     n
 }
@@ -323,5 +362,14 @@ pub fn put_tick(
         cells_for(before.size) as u32,
     );
     let b = put_asleep(out, a, start);
-    put_connectors(out, b, connectors, input.attached, m.levels, w.levels)
+    put_connectors(
+        out,
+        b,
+        connectors,
+        input.attached,
+        m.driven,
+        w.driven,
+        m.levels,
+        w.levels,
+    )
 }

@@ -5,17 +5,18 @@ use mathlib.Core.Bool.{Bool, true, false, _&&_, _||_, cond}
 use native.Mathlib.Nat.{mod-eq-of-lt}
 use native.Mathlib.Omega.{arith}
 use lib.Dec.{eqb, eqb·suc-zero}
-use borrow.Author.Tests.{ltb-false, leb-false, not-false}
-use Rattle.cells.specs.Table.{slots, typeCount}
-use Rattle.cells.proofs.Laws.{or-left, or-right}
+use borrow.Author.Tests.{ltb-false}
+use Rattle.cells.specs.Table.{slots}
+use Rattle.words.proofs.Bools.{or-left, or-right}
 use Rattle.card.specs.declared.change.Change.{Change}
 use Rattle.card.specs.declared.change.Wires.{Wires}
-use Rattle.card.specs.Address.{cellRoom, firstConnector, connectorCount, among}
+use Rattle.card.specs.Address.{cellRoom}
 use Rattle.card.specs.Valid.{badPlace, badCellType, badConnectorType, badClock, badAddress}
-use Rattle.card.proofs.Places.{among-bounds}
-use Rattle.lines.specs.declared.grammar.Pairs.{Pairs}
-use Rattle.lines.specs.declared.grammar.Slot.{Slot}
-use Rattle.lines.specs.declared.grammar.Slot.the-variants.{X, Y, Z, F, NoSlot}
+use Rattle.card.proofs.Bounds.{place-most, clock-most, kind-most, connector-kind-most}
+use Rattle.card.proofs.WriteLaws.{address-most}
+use Rattle.commands.specs.declared.grammar.Pairs.{Pairs}
+use Rattle.commands.specs.declared.grammar.Slot.{Slot}
+use Rattle.commands.specs.declared.grammar.Slot.the-variants.{X, Y, Z, F, NoSlot}
 use Rattle.lines.specs.declared.decision.Response.{Response}
 use Rattle.lines.specs.Refusal.{when, orElse, tooLarge, judged, anyBadAddress, alone}
 use Rattle.lines.specs.Line.{wireOf, wiresOf, slotIndex, decided}
@@ -65,30 +66,20 @@ alone-index NoSlot = refl
 
 -- ---- a number that is not refused fits
 
-place-cases : (n v : ℕ) (a b : Bool) → n ≤ cellRoom → a ≡ among 1 n v → b ≡ among firstConnector connectorCount v → (a || b) ≡ true → v < 256
-place-cases n v true b room ea eb h = let g = among-bounds 1 n v (sym ea) in omega arith
-place-cases n v false true room ea eb h = let g = among-bounds firstConnector connectorCount v (sym eb) in omega arith
-place-cases n v false false room ea eb h = absurd (mathlib.Core.Bool.false≢true h)
-
 pub place-fits : (n v : ℕ) → n ≤ cellRoom → badPlace n v ≡ false → v < 256
-unfolding badPlace
-place-fits n v room h = place-cases n v _ _ room refl refl (not-false _ h)
+place-fits n v room h = let g = place-most n v room h in omega arith
 
 pub clock-fits : (v : ℕ) → badClock v ≡ false → v < 256
-unfolding badClock
-clock-fits v h = let g = ltb-false 4 v h in omega arith
+clock-fits v h = let g = clock-most v h in omega arith
 
 pub kind-fits : (v : ℕ) → badCellType v ≡ false → v < 256
-unfolding badCellType
-kind-fits v h = let g = leb-false typeCount v h in omega arith
+kind-fits v h = let g = kind-most v h in omega arith
 
 pub connector-fits : (v : ℕ) → badConnectorType v ≡ false → v < 256
-unfolding badConnectorType
-connector-fits v h = let g = ltb-false 2 v h in omega arith
+connector-fits v h = let g = connector-kind-most v h in omega arith
 
 pub address-fits : (n v : ℕ) → badAddress n v ≡ false → v < 256
-unfolding badAddress
-address-fits n v h = let g = ltb-false 255 v (or-left _ _ h) in omega arith
+address-fits n v h = let g = address-most n v h in omega arith
 
 pub number-fits : (v : ℕ) → tooLarge v ≡ false → v < 4294967296
 number-fits v h = let g = ltb-false 4294967295 v h in omega arith

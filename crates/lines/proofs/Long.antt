@@ -9,9 +9,9 @@ use borrow.Author.Tests.{lt-leb}
 use Rattle.card.specs.declared.card.Card.{Card}
 use Rattle.card.specs.Context.{contextOf}
 use Rattle.saved.specs.Record.{configWidth, savedTo}
-use Rattle.lines.specs.declared.grammar.Parsed.{Parsed}
-use Rattle.lines.specs.declared.grammar.Parsed.the-variants.{Malformed}
-use Rattle.lines.specs.Grammar.{longestLine, parse}
+use Rattle.commands.specs.declared.grammar.Parsed.{Parsed}
+use Rattle.commands.specs.declared.grammar.Parsed.the-variants.{Malformed}
+use Rattle.commands.specs.Grammar.{longestLine, parse}
 use Rattle.lines.specs.Line.{Outcome, outcomeOf, shortestReply, refused, decisionFor, lineDecision, replyOf, lineOutcome, lineReply, storeAfter}
 
 pub parse-long : (n : ℕ) (t : List ℕ) → longestLine < length t → parse n t ≡ Malformed

@@ -1,5 +1,5 @@
--- The examples of document 01's table "When the card says no", with the cases of precedence and those of document 02, as one table by computation; the
--- longest reply; and the two buffers by their lengths.
+-- The examples of document 01's table "When the card says no", with the cases of precedence and those of document 02, as one table by computation;
+-- and the whole text of some replies.
 use Prim.Native.Nat.{ℕ}
 use Prim.Native.String.{String}
 use mathlib.Core.Path.{_≡_, refl}
@@ -7,7 +7,7 @@ use mathlib.Core.List.{List, [], _∷_, map}
 use Rattle.words.specs.Bits.{withBit, wordOf, bitAt}
 use Rattle.words.specs.Listed.{listed}
 use Rattle.text.specs.Digits.{valueBy}
-use Rattle.text.specs.Decimal.{isDigit, digitsOf, leads, plain, numberIn, numberAt}
+use Rattle.text.specs.Decimal.{isDigit, digitsOf, leads, plain, numberIn, numberAt, decimalFrom, decimal}
 use Rattle.text.specs.Written.{bytesOf}
 use Rattle.cells.specs.Table.{rowOf}
 use Rattle.card.specs.declared.card.Card.{Card}
@@ -18,10 +18,10 @@ use Rattle.card.specs.Fresh.{fresh}
 use Rattle.card.specs.Valid.{permittedBase, badPlace, badCellType, badConnectorType, badClock, badConfig, noConfig, unusedSlot, badAddress, badStateAs}
 use Rattle.card.specs.Valid.{badState, noState, frontDriven}
 use Rattle.card.specs.Presets.{presetTable, settingOf, offered, presetCell, presetSource, setsFront, preset}
-use Rattle.lines.specs.Grammar.{isWord, isWhole, toEnd, slotOf, gave, give, pairRead, pairsOf, writeOf, ccaWrite, ccaRead, ccaForm, slotForm, ccbForm}
-use Rattle.lines.specs.Grammar.{readOf, readForm, cardForm, plainForm, addressed, parse}
+use Rattle.commands.specs.Grammar.{isWord, isWhole, toEnd, slotOf, gave, give, pairRead, pairsOf, writeOf, ccaWrite, ccaRead, ccaForm, slotForm, ccbForm}
+use Rattle.commands.specs.Grammar.{readOf, readForm, cardForm, plainForm, addressed, parse}
 use Rattle.lines.specs.Refusal.{alone, refusal}
-use Rattle.lines.specs.Line.{changeFor, responseTo, decision, decisionFor, lineDecision, lineOutcome}
+use Rattle.lines.specs.Line.{changeFor, responseTo, decision, decisionFor, lineDecision, lineOutcome, replyOf, lineReply}
 
 -- the number of a line with buffers of these lengths, and with room for its reply and its record
 numberWith : (reply store : ℕ) → Card → String → ℕ
@@ -140,3 +140,39 @@ numbers =
 examples : map (λ (e : ℕ × ℕ). e .0) numbers ≡ map (λ (e : ℕ × ℕ). e .1) numbers
 unfolding listed bytesOf numberWith number at typedCard frontCard withBit wordOf bitAt valueBy isDigit digitsOf leads plain numberIn numberAt rowOf currentCell currentConnector putCell typed setType setTrigger fresh permittedBase badPlace badCellType badConnectorType badClock badConfig noConfig unusedSlot badAddress badStateAs badState noState frontDriven presetTable settingOf offered presetCell presetSource setsFront preset isWord isWhole toEnd slotOf gave give pairRead pairsOf writeOf ccaWrite ccaRead ccaForm slotForm ccbForm readOf readForm cardForm plainForm addressed parse alone refusal changed changeFor responseTo decision decisionFor lineDecision lineOutcome
 examples = refl
+
+-- ---- the whole text of a reply
+
+-- a card whose pointer, trigger source, levels and cells are words of their own
+told : Card
+told =
+    record {
+      pointer = 7;
+      trigger = 3;
+      cells = fresh .cells;
+      connectors = fresh .connectors;
+      edited = 0;
+      memory = record { driven = 4; outputs = 9; outputs2 = 0; outputs3 = 0; levels = 0x1205; levels2 = 0 };
+      size = cellCount;
+    }
+
+replyTo : String → List ℕ
+replyTo text = lineReply cellCount told (bytesOf text) 16 308
+
+-- "The reply is `:A` or `:A n`, refused `:N-k`, each with CR LF"
+abbrev replies : List (String × String)
+replies =
+    ("W E", ":A 7\r\n")
+    ∷ ("36RDADC X?", ":A 5\r\n")
+    ∷ ("36RDADC Y?", ":A 18\r\n")
+    ∷ ("36RDADC Z?", ":A 9\r\n")
+    ∷ ("M E=2", ":A\r\n")
+    ∷ ("36SS Z", ":A\r\n")
+    ∷ ("36CCA Q=1", ":N-2\r\n")
+    ∷ ("35SS Z", ":N-3\r\n")
+    ∷ ("36CCB X=1", ":N-10\r\n")
+    ∷ []
+
+texts : map (λ (e : String × String). replyTo (e .0)) replies ≡ map (λ (e : String × String). bytesOf (e .1)) replies
+unfolding replyTo told listed bytesOf withBit wordOf bitAt valueBy isDigit digitsOf leads plain numberIn numberAt decimalFrom decimal rowOf currentCell currentConnector putCell typed setType setTrigger fresh permittedBase badPlace badCellType badConnectorType badClock badConfig noConfig unusedSlot badAddress badStateAs badState noState frontDriven presetTable settingOf offered presetCell presetSource setsFront preset isWord isWhole toEnd slotOf gave give pairRead pairsOf writeOf ccaWrite ccaRead ccaForm slotForm ccbForm readOf readForm cardForm plainForm addressed parse alone refusal changed changeFor responseTo decision decisionFor lineDecision lineOutcome replyOf lineReply
+texts = refl

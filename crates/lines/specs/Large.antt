@@ -1,5 +1,4 @@
--- Document 02, "Thirty-two cells": the numbers that a card of sixteen cells and one of thirty-two give to the same line, by computation. And at sixteen cells
--- the grammar is what it was.
+-- Document 02, "Thirty-two cells": the numbers that a card of sixteen cells and one of thirty-two give to the same line, by computation.
 use Prim.Native.Nat.{ℕ}
 use Prim.Native.String.{String}
 use mathlib.Core.Path.{_≡_, refl}
@@ -17,13 +16,8 @@ use Rattle.card.specs.Change.{changed}
 use Rattle.card.specs.Fresh.{freshOf}
 use Rattle.card.specs.Valid.{permittedBase, badPlace, unusedSlot, badAddress}
 use Rattle.card.specs.Presets.{presetTable, settingOf, offered, presetCell, presetSource, setsFront, preset}
-use Rattle.lines.specs.declared.grammar.Slot.{Slot}
-use Rattle.lines.specs.declared.grammar.Slot.the-variants.{X, Y, Z, F, NoSlot}
-use Rattle.lines.specs.declared.grammar.Command.the-variants.{Front, Back, Cells}
-use Rattle.lines.specs.declared.grammar.Parsed.{Parsed}
-use Rattle.lines.specs.declared.grammar.Parsed.the-variants.{Malformed, Here}
-use Rattle.lines.specs.Grammar.{isWord, isWhole, toEnd, slotOf, gave, give, pairRead, pairsOf, writeOf, ccaWrite, ccaRead, ccaForm, slotForm, ccbForm}
-use Rattle.lines.specs.Grammar.{readOf, readForm, cardForm, plainForm, addressed, parse}
+use Rattle.commands.specs.Grammar.{isWord, isWhole, toEnd, slotOf, gave, give, pairRead, pairsOf, writeOf, ccaWrite, ccaRead, ccaForm, slotForm, ccbForm}
+use Rattle.commands.specs.Grammar.{readOf, readForm, cardForm, plainForm, addressed, parse}
 use Rattle.lines.specs.Refusal.{refusal}
 use Rattle.lines.specs.Line.{changeFor, responseTo, decision, decisionFor, lineDecision, lineOutcome}
 
@@ -73,20 +67,3 @@ unfolding both fresh and2 front listed bytesOf withBit wordOf bitAt valueBy isDi
     isWord isWhole toEnd slotOf gave give pairRead pairsOf writeOf ccaWrite ccaRead ccaForm slotForm ccbForm readOf readForm cardForm plainForm
     addressed parse refusal changed changeFor responseTo decision decisionFor lineDecision lineOutcome
 number-table = refl
-
--- ---- at sixteen cells as before: `36RDADC X?` front levels, `Y?` backplane, `Z?` cells, and no other letter
-
-readBefore : Slot → Parsed
-readBefore X = Here Front
-readBefore Y = Here Back
-readBefore Z = Here Cells
-readBefore F = Malformed
-readBefore NoSlot = Malformed
-
-read-before : (s : Slot) → readOf cellCount s ≡ readBefore s
-unfolding readOf readBefore
-read-before X = refl
-read-before Y = refl
-read-before Z = refl
-read-before F = refl
-read-before NoSlot = refl

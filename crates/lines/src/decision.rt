@@ -6,14 +6,14 @@ ghost use Rattle.lines.specs.Refusal;
 ghost use Rattle.lines.specs.Refusal.{orElse, tooLarge};
 ghost use Rattle.lines.specs.Line;
 ghost use Rattle.lines.specs.Line.{silent, decided, decision, decisionFor};
-use crate::grammar::Command;
-use crate::grammar::Parsed;
 use crate::reads;
 use crate::writes;
 use card::change::Change;
 use card::context::Context;
 use card::context::Value;
 use card::limits::Number;
+use commands::grammar::Command;
+use commands::grammar::Parsed;
 
 // The largest number that a command may give.
 const LARGEST_NUMBER: Number = 4294967295;

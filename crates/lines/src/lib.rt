@@ -1,7 +1,5 @@
-// The line reader: grammar, refusals, replies, and what a line does to the card.
+// The line reader: refusals, replies, and what a line does to the card.
 pub mod decision;
-pub mod grammar;
 pub mod line;
-pub mod pairs;
 pub mod reads;
 pub mod writes;

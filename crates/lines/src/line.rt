@@ -11,9 +11,9 @@ ghost use Rattle.saved.specs.Record.{configWidth, savedTo};
 ghost use Rattle.lines.specs.Line.{ending, replyOf, shortestReply, lineResult, resultOf};
 use crate::decision::Response;
 use crate::decision::decide_for;
-use crate::grammar::parse_line;
 use card::card::Card;
 use card::context::Value;
+use commands::grammar::parse_line;
 
 // The fewest bytes that a reply buffer may have.
 pub const SHORTEST_REPLY: usize = 16;

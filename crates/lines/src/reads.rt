@@ -10,12 +10,12 @@ use crate::decision::Response;
 use crate::decision::or_else;
 use crate::decision::read;
 use crate::decision::when;
-use crate::grammar::Command;
-use crate::grammar::Slot;
 use card::change::Change;
 use card::context::Context;
 use card::valid;
 use cells::table::Slots;
+use commands::grammar::Command;
+use commands::grammar::Slot;
 use saved::record::record_length;
 
 // `36CCA Z?`: the configuration of the current cell, or a connector's source; 9 where the type has none.

@@ -12,14 +12,14 @@ use crate::decision::or_else;
 use crate::decision::too_large;
 use crate::decision::when;
 use crate::decision::write;
-use crate::grammar::Command;
-use crate::grammar::Pairs;
 use card::change::Change;
 use card::change::Wires;
 use card::context::Context;
 use card::limits::Number;
 use card::valid;
 use cells::table::Slots;
+use commands::grammar::Command;
+use commands::grammar::Pairs;
 
 // The low byte of a number, which is the number where it was not refused.
 fn low8(v: Number) -> u8

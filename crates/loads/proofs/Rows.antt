@@ -16,7 +16,7 @@ use Rattle.text.specs.Decimal.{decimal}
 use Rattle.text.specs.Hex.{isHex, hexAt}
 use Rattle.text.proofs.DigitLaws.{every-at}
 use Rattle.text.proofs.Stores.{Stored, behind}
-use Rattle.cells.proofs.Rows.{and-left, and-right}
+use Rattle.words.proofs.Bools.{and-left, and-right}
 use Rattle.card.specs.declared.card.Card.{Card}
 use Rattle.card.specs.Address.{cellCount, cellRoom, cellsFor}
 use Rattle.card.specs.Fresh.{freshOf}

@@ -2,6 +2,8 @@
 //
 // A row is a connector's level or a cell's output; who has one is said in `rows`. A cell's row is tinted in the ticks that woke it. Sixty ticks stand
 // side by side, and the next sixty below them. The picture keeps 300 ticks and says how many came after them. No contract can say what is written.
+mod frame;
+mod labels;
 mod page;
 mod rows;
 
@@ -10,6 +12,8 @@ use scope::BLOCK;
 use scope::Feed;
 use scope::LINE;
 use scope::STORE;
+use scope::sink::ROOM;
+use scope::sink::empty;
 
 // The ticks behind those that are kept, counted, and the card at the input's end.
 pub struct Rest {
@@ -59,5 +63,6 @@ fn main() {
     }
     let rest = count_rest(feed, &mut block, &mut line, &mut store);
     let last = rest.feed;
-    page::put_page(last.card, &words, n, set, rest.count);
+    let mut out = [0u8; ROOM];
+    page::put_page(&mut out, empty(), last.card, &words, n, set, rest.count);
 }

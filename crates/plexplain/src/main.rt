@@ -5,8 +5,8 @@ ghost use Rattle.console.specs.Console.{entered};
 ghost use lib.ListN.{take};
 ghost use Prim.Native.Nat.{_≤_};
 use card::card::Card;
+use explain::Page;
 use explain::line::explain;
-use explain::out::Page;
 
 // A block of input.
 const BLOCK: usize = 2048;

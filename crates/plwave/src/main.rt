@@ -3,25 +3,21 @@
 //
 // The first tick's values stand whole, and after it those that changed. A tick without a change writes nothing; the time behind the last tick is
 // written at the end, so that a viewer shows it as long as the others. What a tick writes is a definition, `changes`; no contract can say what is
-// written.
+// written. All goes to standard output by the buffer.
 ghost use mathlib.Core.Path.{_≡_};
 ghost use Prim.Native.Nat.{_≤_, _<_, _+_};
 ghost use lib.ListN.{length};
 ghost use lib.Seq.{sets};
 ghost use Rattle.plwave.specs.Dump.{codeOf, digitOf, changeOf, changes, wires, longest};
-use libc::STDOUT_FILENO;
+use scope::sink::Room;
+use scope::sink::Sink;
+use scope::sink::flush;
+use scope::sink::put;
+use scope::sink::put_number;
 
-fn put(text: &[u8]) {
-    io::write_all(STDOUT_FILENO, text);
-}
-
-fn put_byte(b: u8) {
+fn put_byte(out: &mut Room, s: Sink, b: u8) -> Sink {
     let text = [b];
-    put(&text);
-}
-
-fn put_number(n: u64) {
-    io::print_decimal(STDOUT_FILENO, n);
+    put(out, s, &text)
 }
 
 // The identifier of the wire that shows bit i of a tick's word: one printable byte.
@@ -35,60 +31,83 @@ fn code_of(i: u32) -> u8
 // ---- the header
 
 // A wire that shows bit i, with a name that ends in a number.
-fn put_wire(i: u32, name: &[u8], n: u32)
+fn put_wire(out: &mut Room, s: Sink, i: u32, name: &[u8], n: u32) -> Sink
     requires { ⌜ i < wires ⌝ }
 {
-    put(b"$var wire 1 ");
-    put_byte(code_of(i));
-    put_byte(b' ');
-    put(name);
-    put_number(n as u64);
-    put(b" $end\n");
+    let a = put(out, s, b"$var wire 1 ");
+    let b = put_byte(out, a, code_of(i));
+    let c = put_byte(out, b, b' ');
+    let d = put(out, c, name);
+    let e = put_number(out, d, n as u64);
+    put(out, e, b" $end\n")
 }
 
 // Count wires from bit `from`, numbered from `first`.
-fn put_wires(from: u32, count: u32, name: &[u8], first: u32)
+fn put_wires(out: &mut Room, s: Sink, from: u32, count: u32, name: &[u8], first: u32) -> Sink
     requires { ⌜ from + count ≤ wires ⌝ }
     requires { ⌜ first ≤ 1 ⌝ }
 {
+    let mut w = s;
     for k in 0..count {
-        put_wire(from + k, name, first + k);
+        w = put_wire(out, w, from + k, name, first + k);
     }
+    w
 }
 
-fn put_scope(name: &[u8]) {
-    put(b"$scope module ");
-    put(name);
-    put(b" $end\n");
+fn put_scope(out: &mut Room, s: Sink, name: &[u8]) -> Sink {
+    let a = put(out, s, b"$scope module ");
+    let b = put(out, a, name);
+    put(out, b, b" $end\n")
 }
 
-fn end_scope() {
-    put(b"$upscope $end\n");
+fn end_scope(out: &mut Room, s: Sink) -> Sink {
+    put(out, s, b"$upscope $end\n")
 }
 
-fn put_header() {
-    put(b"$version plwave $end\n");
-    put(b"$comment one unit of time is one tick that ran $end\n");
-    put(b"$timescale 1 us $end\n");
-    put_scope(b"card");
-    put_scope(b"front");
-    put_wires(0, 8, b"BNC", 1);
-    end_scope();
-    put_scope(b"backplane");
-    put_wires(8, 8, b"TTL", 0);
-    end_scope();
-    put_scope(b"driven");
-    put_wires(16, 8, b"BNC", 1);
-    put_wires(24, 8, b"TTL", 0);
-    end_scope();
-    put_scope(b"cells");
-    put_wires(32, 16, b"cell", 1);
-    end_scope();
-    put_scope(b"woken");
-    put_wires(48, 16, b"woken", 1);
-    end_scope();
-    end_scope();
-    put(b"$enddefinitions $end\n");
+// A scope with one kind of wires.
+fn put_group(
+    out: &mut Room,
+    s: Sink,
+    scope: &[u8],
+    from: u32,
+    count: u32,
+    name: &[u8],
+    first: u32,
+) -> Sink
+    requires { ⌜ from + count ≤ wires ⌝ }
+    requires { ⌜ first ≤ 1 ⌝ }
+{
+    let a = put_scope(out, s, scope);
+    let b = put_wires(out, a, from, count, name, first);
+    end_scope(out, b)
+}
+
+// The scope of the driven word, front and backplane.
+fn put_driven(out: &mut Room, s: Sink) -> Sink {
+    let a = put_scope(out, s, b"driven");
+    let b = put_wires(out, a, 16, 8, b"BNC", 1);
+    let c = put_wires(out, b, 24, 8, b"TTL", 0);
+    end_scope(out, c)
+}
+
+// It is written at once, so that an output that takes nothing ends the program before it reads.
+fn put_header(out: &mut Room, s: Sink) -> Sink {
+    let a = put(out, s, b"$version plwave $end\n");
+    let b = put(
+        out,
+        a,
+        b"$comment one unit of time is one tick that ran $end\n",
+    );
+    let c = put(out, b, b"$timescale 1 us $end\n");
+    let d = put_scope(out, c, b"card");
+    let e = put_group(out, d, b"front", 0, 8, b"BNC", 1);
+    let f = put_group(out, e, b"backplane", 8, 8, b"TTL", 0);
+    let g = put_driven(out, f);
+    let h = put_group(out, g, b"cells", 32, 16, b"cell", 1);
+    let i = put_group(out, h, b"woken", 48, 16, b"woken", 1);
+    let j = end_scope(out, i);
+    let k = put(out, j, b"$enddefinitions $end\n");
+    flush(out, k)
 }
 
 // ---- ticks
@@ -129,51 +148,66 @@ fn put_changes(out: &mut [u8], word: u64, set: u64) -> usize
 }
 
 // The bits of a word that are in a set.
-fn put_bits(word: u64, set: u64) {
-    let mut out = [0u8; 192];
-    let n = put_changes(&mut out, word, set);
-    io::write_all(STDOUT_FILENO, &out[0..n]);
+fn put_bits(out: &mut Room, s: Sink, word: u64, set: u64) -> Sink {
+    let mut bits = [0u8; 192];
+    let n = put_changes(&mut bits, word, set);
+    put(out, s, &bits[0..n])
 }
 
-fn put_time(t: u64) {
-    put_byte(b'#');
-    put_number(t);
-    put_byte(b'\n');
+fn put_time(out: &mut Room, s: Sink, t: u64) -> Sink {
+    let a = put_byte(out, s, b'#');
+    let b = put_number(out, a, t);
+    put_byte(out, b, b'\n')
+}
+
+// The first tick, whole.
+fn put_first(out: &mut Room, s: Sink, word: u64) -> Sink {
+    let a = put_time(out, s, 0);
+    let b = put(out, a, b"$dumpvars\n");
+    let c = put_bits(out, b, word, u64::MAX);
+    put(out, c, b"$end\n")
 }
 
 // A tick at time t, behind one that showed `last`.
-fn put_tick(t: u64, word: u64, last: u64) {
+fn put_tick(out: &mut Room, s: Sink, t: u64, word: u64, last: u64) -> Sink {
     if t == 0 {
-        put_time(t);
-        put(b"$dumpvars\n");
-        put_bits(word, u64::MAX);
-        put(b"$end\n");
-        return;
+        return put_first(out, s, word);
     }
-    if word != last {
-        put_time(t);
-        put_bits(word, word ^ last);
+    if word == last {
+        return s;
     }
+    let a = put_time(out, s, t);
+    put_bits(out, a, word, word ^ last)
 }
 
-// Time has 64 bits, and the ticks after so many are left out.
+// The time behind the last tick, and all that waits.
+fn finish(out: &mut Room, s: Sink, t: u64) -> Sink {
+    let a = put_time(out, s, t);
+    flush(out, a)
+}
+
+// Time has 64 bits, and the ticks after so many are left out. A write that fails ends the program.
 fn main() {
     let mut block = [0u8; scope::BLOCK];
     let mut line = [0u8; scope::LINE];
     let mut store = [0u8; scope::STORE];
-    put_header();
+    let mut out = [0u8; scope::sink::ROOM];
+    let mut s = put_header(&mut out, scope::sink::empty());
     let mut feed = scope::start();
     let mut last: u64 = 0;
     let mut t: u64 = 0;
     while t < u64::MAX {
+        if !s.ok {
+            break;
+        }
         feed = scope::next(feed, &mut block, &mut line, &mut store);
         let shown = feed.shown;
         if !shown.ran {
             break;
         }
-        put_tick(t, shown.word, last);
+        s = put_tick(&mut out, s, t, shown.word, last);
         last = shown.word;
         t += 1;
     }
-    put_time(t);
+    finish(&mut out, s, t);
 }

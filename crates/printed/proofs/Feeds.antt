@@ -15,16 +15,17 @@ use Rattle.card.specs.declared.card.Card.{Card}
 use Rattle.card.specs.Address.{cellCount, firstCell, firstConnector}
 use Rattle.card.specs.Fresh.{freshOf}
 use Rattle.card.specs.Valid.{validCard}
-use Rattle.lines.specs.declared.grammar.Slot.{Slot}
-use Rattle.lines.specs.declared.grammar.Slot.the-variants.{X, Y, Z, F, NoSlot}
-use Rattle.lines.specs.declared.grammar.Command.{Command}
-use Rattle.lines.specs.declared.grammar.Command.the-variants.{Move, Where, Trigger, Home, Preset, SetKind, SetConfig, SetState, GetKind, GetConfig}
-use Rattle.lines.specs.declared.grammar.Command.the-variants.{GetState, SetSlots, GetSlot, Front, Back, Cells, Upper, Save}
-use Rattle.lines.specs.Calls.{end}
-use Rattle.lines.specs.Settable.{Settable}
-use Rattle.lines.specs.Wiring.{letterOf, givenPairs, pairsText, commandText, wiring, wiringLines}
-use Rattle.lines.proofs.Reached.{fresh-reached-valid}
-use Rattle.lines.proofs.Wired.{settable}
+use Rattle.commands.specs.declared.grammar.Slot.{Slot}
+use Rattle.commands.specs.declared.grammar.Slot.the-variants.{X, Y, Z, F, NoSlot}
+use Rattle.commands.specs.declared.grammar.Command.{Command}
+use Rattle.commands.specs.declared.grammar.Command.the-variants.{Move, Where, Trigger, Home, Preset, SetKind, SetConfig, SetState, GetKind, GetConfig}
+use Rattle.commands.specs.declared.grammar.Command.the-variants.{GetState, SetSlots, GetSlot, Front, Back, Cells, Upper, Save}
+use Rattle.calls.specs.Calls.{end}
+use Rattle.printed.specs.Settable.{Settable}
+use Rattle.commands.specs.Texts.{letterOf, givenPairs, pairsText, commandText}
+use Rattle.printed.specs.Wiring.{wiring, wiringLines}
+use Rattle.calls.proofs.Reached.{fresh-reached-valid}
+use Rattle.printed.proofs.Wired.{settable}
 use Rattle.printed.specs.Parts.{lineFeed, linesText, commandsText}
 use Rattle.printed.specs.Print.{wiringText}
 use Rattle.printed.specs.Feeds.{linesBehind, linesIn, FeedsBack}

@@ -6,24 +6,24 @@ use mathlib.Core.List.{List, [], _∷_, _++_}
 use native.Mathlib.Omega.{arith}
 use lib.Dec.{lit≤}
 use lib.ListN.{length, getD, take, length-append}
-use borrow.Author.Tests.{leb-false, ltb-false, le-ltb}
+use borrow.Author.Tests.{le-ltb}
 use Rattle.text.specs.Decimal.{decimal}
 use Rattle.text.proofs.DecimalLaws.{decimal-length}
 use Rattle.cells.specs.declared.cell.Cell.{Cell}
-use Rattle.cells.specs.Table.{rowOf, anySlot, typeCount}
-use Rattle.cells.proofs.Rows.{and-left, and-right}
+use Rattle.cells.specs.Table.{rowOf, anySlot}
+use Rattle.words.proofs.Bools.{and-left, and-right}
 use Rattle.card.specs.declared.card.Card.{Card}
 use Rattle.card.specs.declared.card.Connector.{Connector}
 use Rattle.card.specs.Address.{connectorCount, firstCell, firstConnector}
-use Rattle.card.specs.Connectors.{pushPull}
-use Rattle.card.specs.Valid.{largestClock, badCellType, badConnectorType, badClock, validCell, validConnector, every, validCard}
+use Rattle.card.specs.Valid.{validCell, validConnector, every, validCard}
+use Rattle.card.proofs.Bounds.{clock-most, kind-most, connector-kind-most}
 use Rattle.card.proofs.Settings.{split, cell-config}
 use Rattle.card.proofs.ValidLaws.{kind-known, kind-good, source-good}
 use Rattle.card.proofs.WriteLaws.{slots-each, slot-most, address-most}
-use Rattle.lines.specs.declared.grammar.Command.{Command}
-use Rattle.lines.specs.declared.grammar.Slot.the-variants.{X, Y, Z, F}
-use Rattle.lines.specs.Grammar.{M-E=, PM-E=}
-use Rattle.lines.specs.Wiring.{cellCommands, connectorCommands, commandsFrom}
+use Rattle.commands.specs.declared.grammar.Command.{Command}
+use Rattle.commands.specs.declared.grammar.Slot.the-variants.{X, Y, Z, F}
+use Rattle.commands.specs.Grammar.{M-E=, PM-E=}
+use Rattle.printed.specs.Wiring.{cellCommands, connectorCommands, commandsFrom}
 use Rattle.printed.specs.Parts.{commandsText, linesText, part, slotsText}
 use Rattle.printed.specs.Print.{wiringText}
 use Rattle.printed.specs.Longest.{typeDigits, configDigits, addressDigits, oneDigit, ccbLine, cellLines, connectorLines, places, longest, Longest}
@@ -70,9 +70,8 @@ module _ (n : ℕ) (cell : Cell) (ok : validCell n cell ≡ true) where
           rw (sym text) (simp length-append (omega arith))
 
   cell-most : (i : ℕ) → length (commandsText (cellCommands i cell)) ≤ (4 + (length (decimal (firstCell + i)) + 1)) + cellLines
-  unfolding badCellType
   cell-most i =
-      let kind = leb-false typeCount (cell .kind) (kind-known n cell ok) in
+      let kind = kind-most (cell .kind) (kind-known n cell ok) in
       let config = cell-config n cell ok in
       let x = part-size M-E= (firstCell + i) LF in
       let y = part-most true (cca Y) (cell .kind) LF typeDigits (lit≤ tt) (omega arith) in
@@ -84,9 +83,8 @@ module _ (n : ℕ) (cell : Cell) (ok : validCell n cell ≡ true) where
 
 connector-most : (n k : ℕ) (c : Connector) → validConnector n c ≡ true
     → length (commandsText (connectorCommands k c)) ≤ (4 + (length (decimal (firstConnector + k)) + 1)) + connectorLines
-unfolding badConnectorType
 connector-most n k c ok =
-    let kind = ltb-false pushPull (c .kind) (kind-good n c ok) in
+    let kind = connector-kind-most (c .kind) (kind-good n c ok) in
     let source = address-most n (c .source) (source-good n c ok) in
     let x = part-size M-E= (firstConnector + k) LF in
     let y = part-most true (cca Y) (c .kind) LF oneDigit (lit≤ tt) (omega arith) in
@@ -111,7 +109,7 @@ module _ {A : Type 0} (f : ℕ → A → List Command) (ok : A → Bool) (first 
 
 module _ (n : ℕ) (c : Card) (ok : validCard n c ≡ true) where
   text-most : length (wiringText n c) ≤ longest n
-  unfolding validCard longest badClock
+  unfolding validCard longest
   text-most =
       let s = split n (c .trigger) (c .cells) (c .connectors) ok in
       let cells = list-most cellCommands (validCell n) firstCell cellLines (λ i x pass. cell-most n x pass i) 0 (take n (c .cells)) (s .cells-pass) in
@@ -119,7 +117,7 @@ module _ (n : ℕ) (c : Card) (ok : validCard n c ≡ true) where
       let front : length (commandsText (commandsFrom cellCommands 0 (take n (c .cells)))) ≤ places firstCell cellLines 0 n = rw (s .cell-count) at cells in
       let back : length (commandsText (commandsFrom connectorCommands 0 (c .connectors))) ≤ places firstConnector connectorLines 0 connectorCount
       = rw (s .connector-count) at connectors in
-      let clock = ltb-false largestClock (c .trigger) (s .clock) in
+      let clock = clock-most (c .trigger) (s .clock) in
       let last = part-most true PM-E= (c .trigger) LF oneDigit (lit≤ tt) (omega arith) in
       rw (sym (wiring-parts n c)) (simp length-append (omega (arith, front, back, last)))
 

@@ -17,13 +17,13 @@ use Rattle.cells.specs.Table.{rowOf, anySlot}
 use Rattle.card.specs.declared.card.Card.{Card}
 use Rattle.card.specs.declared.card.Connector.{Connector}
 use Rattle.card.specs.Address.{firstCell, firstConnector}
-use Rattle.lines.specs.declared.grammar.Command.{Command}
-use Rattle.lines.specs.declared.grammar.Command.the-variants.{Trigger, SetConfig, SetSlots}
-use Rattle.lines.specs.declared.grammar.Slot.{Slot}
-use Rattle.lines.specs.declared.grammar.Slot.the-variants.{X, Y, Z, F}
-use Rattle.lines.specs.Grammar.{blank, equals, CCA, CCB, M-E=, PM-E=}
-use Rattle.lines.specs.Wiring.{only, pairsIn, cellCommands, connectorCommands, commandsFrom, wiring}
-use Rattle.lines.specs.Wiring.{letterOf, cardLine, givenPair, givenPairs, pairsText, commandText}
+use Rattle.commands.specs.declared.grammar.Command.{Command}
+use Rattle.commands.specs.declared.grammar.Command.the-variants.{Trigger, SetConfig, SetSlots}
+use Rattle.commands.specs.declared.grammar.Slot.{Slot}
+use Rattle.commands.specs.declared.grammar.Slot.the-variants.{X, Y, Z, F}
+use Rattle.commands.specs.Grammar.{blank, equals, CCA, CCB, M-E=, PM-E=}
+use Rattle.printed.specs.Wiring.{only, pairsIn, cellCommands, connectorCommands, commandsFrom, wiring}
+use Rattle.commands.specs.Texts.{letterOf, cardLine, givenPair, givenPairs, pairsText, commandText}
 use Rattle.printed.specs.Parts.{lineFeed, linesText, commandsText, part, slotsText}
 use Rattle.printed.specs.Print.{wiringText}
 

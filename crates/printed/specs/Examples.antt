@@ -14,7 +14,8 @@ use Rattle.card.specs.Fresh.{started, fresh}
 use Rattle.card.specs.Presets.{whole}
 use Rattle.card.specs.Valid.{permittedBase, badCellType, badConnectorType, badClock, badAddress, frontDriven, validSlot, validSlots, validCell}
 use Rattle.card.specs.Valid.{validConnector, every, valid, validCard}
-use Rattle.lines.specs.Wiring.{cellCommands, connectorCommands, commandsFrom, wiring, pairsText, commandText}
+use Rattle.commands.specs.Texts.{pairsText, commandText}
+use Rattle.printed.specs.Wiring.{cellCommands, connectorCommands, commandsFrom, wiring}
 use Rattle.printed.specs.Parts.{linesText, commandsText}
 use Rattle.printed.specs.Print.{wiringText, printNumber, printLength, printedTo}
 

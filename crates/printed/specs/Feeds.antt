@@ -6,8 +6,8 @@ use mathlib.Core.List.{List, [], _∷_, _++_}
 use lib.Dec.{eqb}
 use Rattle.card.specs.Fresh.{freshOf}
 use Rattle.lines.specs.Line.{shortestReply}
-use Rattle.lines.specs.Calls.{Call, end}
-use Rattle.lines.specs.Settable.{fed, allAccepted, Has}
+use Rattle.calls.specs.Calls.{Call, end}
+use Rattle.printed.specs.Settable.{fed, allAccepted, Has}
 use Rattle.printed.specs.Parts.{lineFeed}
 use Rattle.printed.specs.Print.{wiringText}
 

@@ -6,9 +6,10 @@ use Rattle.text.specs.Decimal.{decimal, maxDigits}
 use Rattle.cells.specs.declared.cell.Cell.{Cell}
 use Rattle.cells.specs.Table.{rowOf, anySlot}
 use Rattle.card.specs.Address.{cellRoom, connectorCount}
-use Rattle.lines.specs.declared.grammar.Command.{Command}
-use Rattle.lines.specs.declared.grammar.Command.the-variants.{SetSlots}
-use Rattle.lines.specs.Wiring.{only, pairsIn, commandText}
+use Rattle.commands.specs.declared.grammar.Command.{Command}
+use Rattle.commands.specs.declared.grammar.Command.the-variants.{SetSlots}
+use Rattle.commands.specs.Texts.{commandText}
+use Rattle.printed.specs.Wiring.{only, pairsIn}
 
 -- the byte that ends a line
 abbrev pub lineFeed : ℕ

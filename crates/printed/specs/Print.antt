@@ -7,7 +7,7 @@ use lib.ListN.{length, take}
 use lib.Seq.{sets}
 use Rattle.card.specs.declared.card.Card.{Card}
 use Rattle.lines.specs.Refusal.{when}
-use Rattle.lines.specs.Wiring.{wiring}
+use Rattle.printed.specs.Wiring.{wiring}
 use Rattle.printed.specs.Parts.{commandsText}
 
 -- "For cells 1 to 16 ... Then connectors 33 to 48 ... Then `PM E`": the lines of `wiring`

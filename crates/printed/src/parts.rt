@@ -5,7 +5,7 @@ ghost use lib.ListN.{length, take};
 ghost use lib.Seq.{sets};
 ghost use Rattle.text.specs.Decimal.{maxDigits};
 ghost use Rattle.card.specs.Address.{cellRoom, connectorCount};
-ghost use Rattle.lines.specs.Wiring.{cellCommands, connectorCommands, commandsFrom};
+ghost use Rattle.printed.specs.Wiring.{cellCommands, connectorCommands, commandsFrom};
 ghost use Rattle.printed.specs.Parts.{commandsText, slotsText, slotsMost, cellMost, connectorMost, cellsMost, textMost};
 ghost use Rattle.printed.specs.Parts;
 use card::card::Connector;

@@ -12,16 +12,88 @@
 // block of 2048 bytes, lines of thousands of bytes, NUL bytes, and a last line without LF. Ticks,
 // pointer and loads of the store come again and again, so that a card, store or line that is lost
 // between two blocks shows.
-fn replay(path: &[u8]) {
+//
+// Each session is run twice: by the loop of plrun, which reads and writes, and over its bytes as
+// they lie in memory. The loop writes to a file, so that the two can be compared; where they differ,
+// a line says so.
+ghost use Prim.Native.Nat.{_≤_};
+ghost use lib.ListN.{length};
+use libc::STDOUT_FILENO;
+
+// No session is longer, and none prints more.
+const MOST: usize = 131072;
+
+fn put(text: &[u8]) {
+    io::write_all(STDOUT_FILENO, text);
+}
+
+// The bytes of a file, at the front of a buffer.
+fn read_file(path: &[u8], bytes: &mut [u8; MOST]) -> usize
+    ensures { λ r. ⌜ r ≤ length (now (bytes .exit)) ⌝ }
+{
+    let file = os::open_read(path);
+    if file < 0 {
+        os::fail(path);
+        return 0;
+    }
+    let n = io::read_full(file, bytes);
+    libc::close(file);
+    n
+}
+
+// What plrun writes for a session goes to a file.
+fn run_to(path: &[u8], file: &[u8]) {
     let input = os::open_read(path);
     if input < 0 {
         os::fail(path);
         return;
     }
-    io::write_all(libc::STDOUT_FILENO, path);
-    io::write_all(libc::STDOUT_FILENO, b"\n");
-    runner::run_from(input);
+    let output = os::open_overwrite(file);
+    if output < 0 {
+        os::fail(file);
+        return;
+    }
+    runner::run_from(input, output);
+    libc::close(output);
     libc::close(input);
+}
+
+// Whether the first n bytes of both are the same.
+fn alike(a: &[u8; MOST], b: &[u8; MOST], n: usize) -> bool {
+    if MOST < n {
+        return false;
+    }
+    for i in 0..n {
+        if a[i] != b[i] {
+            return false;
+        }
+    }
+    true
+}
+
+// What the run over lent bytes did is what plrun wrote, and it took them all.
+fn compare(session: &[u8], wrote: &[u8; MOST], n: usize) {
+    let mut output = [0u8; MOST];
+    let over = runner::run_over(session, &mut output);
+    if (over.taken != session.len()) | (over.printed != n) {
+        put(b"Over lent bytes it stops elsewhere.\n");
+        return;
+    }
+    if !alike(&output, wrote, n) {
+        put(b"Over lent bytes it prints something else.\n");
+    }
+}
+
+fn replay(path: &[u8]) {
+    let mut session = [0u8; MOST];
+    let mut wrote = [0u8; MOST];
+    let len = read_file(path, &mut session);
+    run_to(path, b"wrote");
+    let n = read_file(b"wrote", &mut wrote);
+    put(path);
+    put(b"\n");
+    put(&wrote[0..n]);
+    compare(&session[0..len], &wrote, n);
 }
 
 fn main() {

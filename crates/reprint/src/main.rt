@@ -10,7 +10,7 @@ fn reprint(path: &[u8]) {
     }
     io::write_all(libc::STDOUT_FILENO, path);
     io::write_all(libc::STDOUT_FILENO, b"\n");
-    runner::print_from(input);
+    runner::print_from(input, libc::STDOUT_FILENO);
     libc::close(input);
 }
 

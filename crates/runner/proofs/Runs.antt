@@ -1,5 +1,5 @@
 -- Laws of a run: what the buffers hold, a line that is cut, and the bytes of a block line by line.
-use Prim.Native.Nat.{ℕ, suc, _+_, _-_, _≤_, _<_, min}
+use Prim.Native.Nat.{ℕ, suc, _+_, _-_, _*_, _≤_, _<_, min}
 use mathlib.Core.Path.{_≡_, refl, sym, ap, ap₂, _∙_}
 use mathlib.Core.Bool.{Bool, true, false, cond}
 use mathlib.Core.List.{List, [], _∷_, _++_, append-assoc, append-nil}
@@ -8,8 +8,9 @@ use native.Mathlib.Nat.{le-refl}
 use native.Mathlib.Numerals.{add-one}
 use native.Mathlib.Omega.{arith}
 use lib.Dec.{eqb}
-use lib.ListN.{length, getD, take, drop, length-take, length-drop}
-use lib.Seq.{sets, length-sets, take-all, take-at, take-add, take-append-add, take-take, take-append-le, getD-take, getD-drop, drop-cons, drop-drop}
+use lib.ListN.{length, getD, take, drop, length-take, length-drop, take-append-drop}
+use lib.Seq.{sets, length-sets, sets-eq, take-all, take-at, take-add, take-append-add, take-take, take-append-le, getD-take, getD-drop}
+use lib.Seq.{drop-append-seam, drop-append-add, drop-append-le, drop-cons, drop-drop}
 use borrow.Author.Tests.{ne-eqb}
 use Rattle.text.proofs.Stores.{front}
 use Rattle.card.specs.declared.card.Card.{Card}
@@ -17,7 +18,8 @@ use Rattle.card.specs.Address.{cellsFor}
 use Rattle.console.specs.Console.{longestPrint, entered}
 use Rattle.console.proofs.Long.{entered-long}
 use Rattle.runner.specs.declared.State.{State}
-use Rattle.runner.specs.Run.{RunState, part, kept, cut, afterEntry, ended, longer, takes, takesAll, keptOf, stateOf}
+use Rattle.runner.specs.declared.Lines.{Lines}
+use Rattle.runner.specs.Run.{RunState, part, kept, cut, afterEntry, ended, longer, takes, takesAll, keptOf, stateOf, standing, Stopped}
 
 -- ---- the output
 
@@ -35,6 +37,40 @@ printed-behind xs ys post p a n ha hn en ey =
     (λ i. take (sym size i + en i) (take a xs ++ (ys ++ post)))
     ∙ take-append-add (take a xs) (ys ++ post) (length p)
     ∙ ap (λ (t : List ℕ). take a xs ++ t) (take-append-le (length p) ys post short ∙ ap (take (length p)) ey ∙ front mid p (length p) refl hp)
+
+-- and what lies beyond is as it was
+pub printed-beyond : (xs ys p : List ℕ) (a n : ℕ) → a + longestPrint ≤ length xs → n ≤ longestPrint → n ≡ length p
+    → ys ≡ sets (take (length xs - a) (drop a xs)) 0 p → drop (a + n) (take a xs ++ (ys ++ drop (length xs - a) (drop a xs))) ≡ drop (a + n) xs
+printed-beyond xs ys p a n ha hn en ey =
+    let mid = take (length xs - a) (drop a xs) in
+    let post = drop (length xs - a) (drop a xs) in
+    let all = length-take (length xs - a) (drop a xs) in
+    let rest = length-drop a xs in
+    let same : length ys ≡ length mid = ap length ey ∙ length-sets mid 0 p in
+    let hp : 0 + length p ≤ length mid = omega (arith, all, rest) in
+    let hm : n ≤ length mid = omega arith in
+    let hy : n ≤ length ys = omega (arith, same) in
+    let size : length (take a xs) ≡ a = length-take a xs ∙ omega arith in
+    let back : 0 + length p ≡ n = omega arith in
+    let left : drop n ys ≡ drop n mid =
+    (λ i. drop (en i) ((ey ∙ sets-eq p mid 0 hp) i)) ∙ drop-append-seam p (drop (0 + length p) mid) ∙ ap (λ (k : ℕ). drop k mid) back in
+    (λ i. drop (sym size i + n) (take a xs ++ (ys ++ post)))
+    ∙ drop-append-add (take a xs) (ys ++ post) n
+    ∙ drop-append-le n ys post hy
+    ∙ ap (λ (l : List ℕ). l ++ post) left
+    ∙ sym (drop-append-le n mid post hm)
+    ∙ ap (drop n) (take-append-drop (length xs - a) (drop a xs))
+    ∙ drop-drop n a xs
+
+-- what is alike from one place on is so from any later one on
+pub drop-further : (xs ys : List ℕ) (a b : ℕ) → a ≤ b → drop a xs ≡ drop a ys → drop b xs ≡ drop b ys
+drop-further xs ys a b h e =
+    let at : a + (b - a) ≡ b = omega arith in
+    ap (λ (k : ℕ). drop k xs) (sym at)
+    ∙ sym (drop-drop (b - a) a xs)
+    ∙ ap (drop (b - a)) e
+    ∙ drop-drop (b - a) a ys
+    ∙ ap (λ (k : ℕ). drop k ys) at
 
 -- ---- the line
 
@@ -171,3 +207,24 @@ next-line x₀ x block from end next h k fits lf none e =
     sym (takes-part (ended x) rest (free-part block (end + 1) next none))
     ∙ ap (λ (y : RunState). takesAll (ended y) rest) e
     ∙ sym (ap (takesAll x₀) bytes ∙ takes-append x₀ (part from end block) (10 ∷ rest))
+
+-- ---- where the lines of a block stop
+
+-- with room for all that they can print, at the end of the bytes
+pub room-for-all : (s : State) (r : Lines) (n : ℕ) (block before after : List ℕ) → Stopped s r n block before after
+    → s .used + longestPrint * (n - s .len) ≤ length before → r .end ≡ n
+room-for-all s r n block before after x room = go (decLt (r .end) n)
+  where
+    go : Dec (r .end < n) → r .end ≡ n
+    go (yes l) = absurd (omega (arith, x .no-room l, x .few, x .order, x .behind, room))
+    go (no l) = omega (arith, x .within, l)
+
+-- and what is left is kept
+pub kept-lines : (x₀ : RunState) (from : ℕ) (r : Lines) (block store out line : List ℕ) (m len : ℕ) → r .end ≡ m
+    → standing r block store out ≡ takesAll x₀ (part from (r .end) block) → take len line ≡ cut (part (r .start) m block)
+    → stateOf (record { card = r .card; len = len; used = r .used }) store line out ≡ keptOf (takesAll x₀ (part from m block))
+kept-lines x₀ from r block store out line m len over e k =
+    (λ i. record { card = r .card; store = store; line = k i; printed = take (r .used) out })
+    ∙ ap (λ (j : ℕ). keptOf (record { card = r .card; store = store; line = part (r .start) j block; printed = take (r .used) out })) (sym over)
+    ∙ ap keptOf e
+    ∙ ap (λ (j : ℕ). keptOf (takesAll x₀ (part from j block))) over

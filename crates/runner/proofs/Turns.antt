@@ -1,20 +1,23 @@
 -- Laws of the turns of a run, each with an output of its own: together they do and print what all their bytes would at once.
-use Prim.Native.Nat.{ℕ, _+_, _*_, _≤_, _<_}
+use Prim.Native.Nat.{ℕ, _+_, _-_, _*_, _≤_, _<_}
 use mathlib.Core.Path.{_≡_, refl, sym, ap, _∙_}
 use mathlib.Core.Bool.{Bool, true, false, cond, _&&_}
 use mathlib.Core.List.{List, [], _∷_, _++_, append-assoc, append-nil}
 use native.Mathlib.Decide.{decLt}
 use native.Mathlib.Omega.{arith}
 use lib.Dec.{eqb, ltb}
-use lib.ListN.{length, take, replicate, length-append}
+use lib.ListN.{length, take, replicate, length-append, take-append-drop}
 use lib.Seq.{length-take-le}
+use Rattle.card.specs.declared.card.Card.{Card}
 use Rattle.card.specs.Address.{cellsFor}
 use Rattle.card.specs.Fresh.{freshOf}
 use Rattle.saved.specs.Record.{configWidth, recordLength}
 use Rattle.console.specs.Console.{longestPrint, Entry, entered}
 use Rattle.runner.specs.Run.{RunState, startState, ended, longer, takes, takesAll, kept, keptOf, flushed}
-use Rattle.runner.specs.Run.{blockLength, mostReads, runStateOf, Counted, Ran}
+use Rattle.runner.specs.Run.{blockLength, mostReads, part, stateOf, runStateOf, standing, Stopped, Counted, Ran, RanOver}
 use Rattle.runner.specs.declared.Run.{Run}
+use Rattle.runner.specs.declared.Lines.{Lines}
+use Rattle.runner.specs.declared.Over.{Over}
 use Rattle.runner.proofs.Runs.{block-by-block}
 
 -- some bytes were printed before
@@ -120,3 +123,42 @@ module _ {n : ℕ} {r : Run} {store line out : List ℕ} (u : Underway n r store
       go (no h) =
           let most : r .left ≡ mostReads = omega (arith, u .counted .by-reads) in
           omega (arith, over (u .first most))
+
+-- ---- over lent bytes
+
+-- a run from the start, over all of its input, where its lines stop
+pub ran-over : (n : ℕ) (c : Card) (q : Lines) (input before after store : List ℕ) → c ≡ freshOf n
+    → standing q input store after
+    ≡ takesAll (stateOf (record { card = c; len = 0; used = 0 }) (replicate (recordLength n configWidth) 0) input before) (part 0 (q .end) input)
+    → Stopped (record { card = c; len = 0; used = 0 }) q (length input) input before after
+    → RanOver n (record { card = q .card; taken = q .end; printed = q .used }) input before after
+unfolding startState
+ran-over n c q input before after store fresh e s =
+    record {
+      within = s .within;
+      card = ap (λ (x : RunState). x .card) whole;
+      output = sym (take-append-drop (q .used) after) ∙ (λ i. whole i .printed ++ s .beyond i);
+      printed = sym (length-take-le (q .used) after fits) ∙ ap (λ (x : RunState). length (x .printed)) whole;
+      few = omega (arith, s .few, s .order);
+      stops = λ h. (s .at-lf h, s .no-room h);
+    }
+  where
+    all : q .end - 0 ≡ q .end
+    all = omega arith
+
+    fits : q .used ≤ length after
+    fits = omega (arith, s .fits, s .size)
+
+    whole : standing q input store after ≡ takesAll (startState n) (take (q .end) input)
+    whole =
+        e
+        ∙ (λ i. takesAll (record { card = fresh i; store = replicate (recordLength n configWidth) 0; line = []; printed = [] }) (take (all i) input))
+
+-- with room for all that it can print, it takes all
+pub over-all : (n : ℕ) (r : Over) (input before after : List ℕ) → RanOver n r input before after → longestPrint * length input ≤ length before
+    → r .taken ≡ length input
+over-all n r input before after o room = go (decLt (r .taken) (length input))
+  where
+    go : Dec (r .taken < length input) → r .taken ≡ length input
+    go (yes l) = absurd (omega (arith, o .stops l .1, o .few, room))
+    go (no l) = omega (arith, o .within, l)

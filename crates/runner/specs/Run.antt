@@ -1,18 +1,21 @@
 -- Document 01, "One run": lines of input end at LF, each is entered when its LF comes, and what stands behind the last LF is dropped, since no LF comes.
-use Prim.Native.Nat.{ℕ, _+_, _-_, _*_, _^_, _≤_}
+use Prim.Native.Nat.{ℕ, _+_, _-_, _*_, _^_, _≤_, _<_}
 use mathlib.Core.Path.{_≡_}
 use mathlib.Core.Bool.{cond}
 use mathlib.Core.List.{List, [], _∷_, _++_}
 use lib.Dec.{eqb}
-use lib.ListN.{length, take, drop, replicate}
+use lib.ListN.{length, getD, take, drop, replicate}
 use Rattle.card.specs.declared.card.Card.{Card}
 use Rattle.card.specs.Address.{cellsFor}
 use Rattle.card.specs.Fresh.{freshOf}
 use Rattle.saved.specs.Record.{configWidth, recordLength}
 use Rattle.console.specs.Console.{longestPrint, Entry, entered}
+use Rattle.printed.specs.Parts.{textMost}
 use Rattle.printed.specs.Print.{printLength, printedTo}
 use Rattle.runner.specs.declared.State.{State}
 use Rattle.runner.specs.declared.Run.{Run}
+use Rattle.runner.specs.declared.Lines.{Lines}
+use Rattle.runner.specs.declared.Over.{Over}
 
 -- ---- what bytes of input do, to a card of its size
 
@@ -79,6 +82,23 @@ stateOf s store line out = record { card = s .card; store = store; line = take (
 abbrev pub runStateOf : Run → (store line out : List ℕ) → RunState
 runStateOf r = stateOf (record { card = r .card; len = r .len; used = r .used })
 
+-- the line from one place of a block to another has not ended
+abbrev pub standing : Lines → (block store out : List ℕ) → RunState
+standing r block store out = record { card = r .card; store = store; line = part (r .start) (r .end) block; printed = take (r .used) out }
+
+-- where the lines of the first n bytes of a block stop: at their end, or at an LF, where the room that is left is too small for what some lines print.
+-- Nothing is touched beyond what is printed
+pub record Stopped (s : State) (r : Lines) (n : ℕ) (block before after : List ℕ) : Type 0 where
+  pub order : r .start ≤ r .end
+  pub behind : s .len ≤ r .end
+  pub within : r .end ≤ n
+  pub at-lf : r .end < n → getD block (r .end) 0 ≡ 10
+  pub no-room : r .end < n → length before < r .used + longestPrint
+  pub few : r .used ≤ s .used + longestPrint * (r .start - s .len)
+  pub fits : r .used ≤ length before
+  pub size : length after ≡ length before
+  pub beyond : drop (r .used) after ≡ drop (r .used) before
+
 -- what was printed has been handed to write
 abbrev pub flushed : RunState → RunState
 flushed s = record { card = s .card; store = s .store; line = s .line; printed = [] }
@@ -103,7 +123,21 @@ printedNow c before = printedTo (cellsFor (c .size)) c before
 abbrev pub printedSize : Card → ℕ → ℕ
 printedSize c room = printLength (cellsFor (c .size)) c room
 
+-- a run over lent bytes: those that it took have brought the card where it stands, and what they print, all of it and no more, stands at the front of
+-- the output. It takes all, unless it stops at an LF, where the room that is left is too small for what some lines print
+pub record RanOver (n : ℕ) (r : Over) (input before after : List ℕ) : Type 0 where
+  pub within : r .taken ≤ length input
+  pub card : r .card ≡ takesAll (startState n) (take (r .taken) input) .card
+  pub output : after ≡ takesAll (startState n) (take (r .taken) input) .printed ++ drop (r .printed) before
+  pub printed : r .printed ≡ length (takesAll (startState n) (take (r .taken) input) .printed)
+  pub few : r .printed ≤ longestPrint * r .taken
+  pub stops : r .taken < length input → (getD input (r .taken) 0 ≡ 10) × (length before < r .printed + longestPrint)
+
 -- what plprint does with this input: the buffer holds the wiring of the card that it leaves
 pub record Wired (n : ℕ) (input : List ℕ) (len : ℕ) (before after : List ℕ) : Type 0 where
   pub text : after ≡ printedNow (takesAll (startState n) input .card) before
   pub size : len ≡ printedSize (takesAll (startState n) input .card) (length before)
+
+-- as long as that wiring is what plprint hands to write, from a buffer that has room for any
+abbrev pub WiringSize : (n : ℕ) (input : List ℕ) (len : ℕ) → Type 0
+WiringSize n input len = len ≡ printedSize (takesAll (startState n) input .card) textMost

@@ -5,22 +5,24 @@
 // can print fits the output. So a turn is one read, all its bytes taken and all that they printed
 // handed to one write, and nothing printed waits for the next turn.
 //
-// What bytes of input do is a definition, `takesAll`. `turn` does it for the bytes of its read, and
-// `run_from` for all that its reads gave, one after the other. The calls that read and write stand
-// in `read_at` and `write_front`; no contract can say which bytes come and go there. `print_from` is
-// the run of plprint: nothing that the lines print is written, and at the end the card's wiring is.
+// What bytes of input do is a definition, `takesAll`. `take_lines` does it for bytes that lie in
+// memory, and two calls are made of it. `run_over` is a run over lent bytes, and its contract says
+// all that it does. `run_from` is the loop of plrun, which reads and writes: `turn` gives the bytes
+// of one read to `take_lines` and hands what they printed to one write. The calls that read and
+// write stand in `read_at` and `write_front`; no contract can say which bytes come there, and what
+// becomes of those that are handed over. `print_from` is the run of plprint: nothing that the lines
+// print is written, and at the end the card's wiring is.
 ghost use mathlib.Core.Bool.{true, _&&_};
 ghost use mathlib.Core.List.{List, _++_};
 ghost use mathlib.Core.Path.{_≡_};
 ghost use Prim.Native.Nat.{ℕ, _≤_, _<_, _+_, _-_, _*_, min};
 ghost use lib.Dec.{ltb};
-ghost use lib.ListN.{length, take, getD};
+ghost use lib.ListN.{length, take, drop, getD};
 ghost use Rattle.card.specs.Address.{cellCount, cellsFor};
 ghost use Rattle.card.specs.Fresh.{fresh};
 ghost use Rattle.console.specs.Console.{longestPrint, entered};
-ghost use Rattle.runner.specs.Run.{part, takesAll, kept, cut, keptOf, flushed, blockLength, outputLength, mostReads, stateOf, runStateOf, Counted, Ran, Wired};
+ghost use Rattle.runner.specs.Run.{part, takesAll, kept, cut, keptOf, flushed, standing, Stopped, RanOver, blockLength, outputLength, mostReads, stateOf, runStateOf, Counted, Ran, Wired, WiringSize};
 use card::card::Card;
-use libc::STDOUT_FILENO;
 use printed::parts::TEXT_MOST;
 
 // `blockLength`: of a block of input.
@@ -45,6 +47,9 @@ const OUTPUT: usize = ROOM * BLOCK;
 // `mostReads`: a proved loop has to end, and nothing says that the input does. At a microsecond a
 // read these last for more than four years.
 const READS: u64 = 1 << 47;
+
+// The output of a run of which nothing is written.
+pub const QUIET: i32 = -1;
 
 // Between two bytes of the input: the card, the bytes of the line that has not ended yet, and the
 // bytes of the output that are printed.
@@ -73,6 +78,22 @@ pub struct Run {
     pub printed: u64,
     // reads that may still be made
     pub left: u64,
+}
+
+// Where the lines of a block stop: the line from `start` to `end` has not ended, or there is no
+// room for what it prints.
+pub struct Lines {
+    pub card: Card,
+    pub start: usize,
+    pub end: usize,
+    pub used: usize,
+}
+
+// A run over lent bytes: the card that it leaves, the bytes that it took, and those that it printed.
+pub struct Over {
+    pub card: Card,
+    pub taken: usize,
+    pub printed: usize,
 }
 
 // How many bytes were printed, and what write answered.
@@ -125,6 +146,8 @@ fn enter(state: State, text: &[u8], store: &mut [u8], out: &mut [u8]) -> State
     ensures { λ r. ⌜ now (store .exit) ≡ entered (cellsFor (state .card .size)) (state .card) (now (text .entry)) (now (store .entry)) .store ⌝ }
     ensures { λ r. ⌜ take (r .used) (now (out .exit)) ≡ take (state .used) (now (out .entry)) ++ entered (cellsFor (state .card .size)) (state .card) (now (text .entry)) (now (store .entry)) .printed ⌝ }
     ensures { λ r. ⌜ r .used ≤ state .used + longestPrint ⌝ }
+    ensures { λ r. ⌜ state .used ≤ r .used ⌝ }
+    ensures { λ r. ⌜ drop (r .used) (now (out .exit)) ≡ drop (r .used) (now (out .entry)) ⌝ }
 {
     let card = state.card;
     let used = state.used;
@@ -138,7 +161,32 @@ fn enter(state: State, text: &[u8], store: &mut [u8], out: &mut [u8]) -> State
 }
 
 // The bytes of a block from the unfinished line's end up to n. Each line that ends is entered where
-// it lies, and what is left is kept.
+// it lies, as long as there is room for what any line prints.
+fn take_lines(state: State, block: &[u8], n: usize, store: &mut [u8], out: &mut [u8]) -> Lines
+    requires { ⌜ state .len ≤ n ⌝ }
+    requires { ⌜ n ≤ length (now block) ⌝ }
+    requires { ⌜ state .used ≤ length (now out) ⌝ }
+    ensures { λ r. ⌜ standing r (now (block .entry)) (now (store .exit)) (now (out .exit)) ≡ takesAll (stateOf state (now (store .entry)) (now (block .entry)) (now (out .entry))) (part (state .len) (r .end) (now (block .entry))) ⌝ }
+    ensures { λ r. ⌜ Stopped state r n (now (block .entry)) (now (out .entry)) (now (out .exit)) ⌝ }
+{
+    let mut s = state;
+    let mut start: usize = 0;
+    let mut end = line_end(block, state.len, n);
+    while end < n && ROOM <= out.len() - s.used {
+        s = enter(s, &block[start..end], store, out);
+        start = end + 1;
+        end = line_end(block, start, n);
+    }
+    let card = s.card;
+    Lines {
+        card: card,
+        start: start,
+        end: end,
+        used: s.used,
+    }
+}
+
+// The same, where there is room for all that the bytes can print. What is left is kept.
 fn take_block(
     state: State,
     block: &[u8],
@@ -155,20 +203,35 @@ fn take_block(
     ensures { λ r. ⌜ length (now (line .exit)) ≡ kept ⌝ }
     ensures { λ r. ⌜ r .used ≤ state .used + longestPrint * (n - state .len) ⌝ }
 {
-    let mut s = state;
-    let mut start: usize = 0;
-    let mut end = line_end(block, state.len, n);
-    while end < n {
-        s = enter(s, &block[start..end], store, out);
-        start = end + 1;
-        end = line_end(block, start, n);
-    }
-    let card = s.card;
+    let lines = take_lines(state, block, n, store, out);
+    let card = lines.card;
+    let start = lines.start;
     let rest = keep(line, &block[start..n]);
     State {
         card: card,
         len: rest,
-        used: s.used,
+        used: lines.used,
+    }
+}
+
+// A fresh card and a store of zeros, fed with the lines of lent bytes; what they print is lent too.
+// It stops at the end of a line for which there may be no room.
+pub fn run_over(input: &[u8], output: &mut [u8]) -> Over
+    ensures { λ r. ⌜ RanOver cellCount r (now (input .entry)) (now (output .entry)) (now (output .exit)) ⌝ }
+{
+    let card = card::card::fresh();
+    let mut store = [0u8; STORE];
+    let s = State {
+        card: card,
+        len: 0,
+        used: 0,
+    };
+    let lines = take_lines(s, input, input.len(), &mut store, output);
+    let after = lines.card;
+    Over {
+        card: after,
+        taken: lines.end,
+        printed: lines.used,
     }
 }
 
@@ -194,35 +257,35 @@ fn read_behind(input: i32, block: &mut [u8], line: &[u8], len: usize) -> usize
     read_at(input, block, len)
 }
 
-// One write, of the first `used` bytes; where they are not shown, none.
-fn write_front(out: &[u8], used: usize, shows: bool) -> Written
+// One write, of the first `used` bytes; in a quiet run none.
+fn write_front(output: i32, out: &[u8], used: usize) -> Written
     requires { ⌜ used ≤ length (now out) ⌝ }
     ensures { λ r. ⌜ r .used ≡ used ⌝ }
     ensures { λ r. ⌜ r .used ≤ length (now (out .entry)) ⌝ }
 {
-    if !shows {
+    if output == QUIET {
         return Written {
             used: used,
             wrote: true,
         };
     }
-    let wrote = io::write_all(STDOUT_FILENO, &out[0..used]);
+    let wrote = io::write_all(output, &out[0..used]);
     Written {
         used: used,
         wrote: wrote,
     }
 }
 
-// One read, and what its lines print, where that is shown. After a write that failed nothing more
-// is written, so that what came out is never without its middle.
+// One read, and what its lines print. After a write that failed nothing more is written, so that
+// what came out is never without its middle.
 fn turn(
     run: Run,
     input: i32,
+    output: i32,
     block: &mut [u8; BUFFER],
     line: &mut [u8; LINE],
     store: &mut [u8; STORE],
     out: &mut [u8; OUTPUT],
-    shows: bool,
 ) -> Run
     requires { ⌜ run .len ≤ kept ⌝ }
     requires { ⌜ length (now line) ≡ kept ⌝ }
@@ -249,7 +312,7 @@ fn turn(
     };
     let got = read_behind(input, block, line, len);
     let next = take_block(s, block, len + got, line, store, out);
-    let written = write_front(out, next.used, shows);
+    let written = write_front(output, out, next.used);
     let after = next.card;
     Run {
         card: after,
@@ -285,8 +348,8 @@ fn start() -> Run
 }
 
 // A fresh card and a store of zeros, fed with the lines of an input to its end; what they print is
-// written where it is shown.
-fn run_with(input: i32, shows: bool) -> Run
+// written.
+fn run_with(input: i32, output: i32) -> Run
     ensures { λ r. ⌜ ((bytes : List ℕ) × Ran cellCount r bytes) ⌝ }
     ensures { λ r. ⌜ r .left < mostReads ⌝ }
     ensures { λ r. ⌜ r .going ≡ (ltb 0 (r .got) && r .wrote) ⌝ }
@@ -298,19 +361,27 @@ fn run_with(input: i32, shows: bool) -> Run
     let mut store = [0u8; STORE];
     let mut r = start();
     while r.left > 0 && r.going {
-        r = turn(r, input, &mut block, &mut line, &mut store, &mut out, shows);
+        r = turn(
+            r,
+            input,
+            output,
+            &mut block,
+            &mut line,
+            &mut store,
+            &mut out,
+        );
     }
     r
 }
 
-// What the lines of an input print goes to standard output.
-pub fn run_from(input: i32) -> Run
+// The run of plrun: what the lines of an input print goes to an output.
+pub fn run_from(input: i32, output: i32) -> Run
     ensures { λ r. ⌜ ((bytes : List ℕ) × Ran cellCount r bytes) ⌝ }
     ensures { λ r. ⌜ r .left < mostReads ⌝ }
     ensures { λ r. ⌜ r .going ≡ (ltb 0 (r .got) && r .wrote) ⌝ }
     ensures { λ r. ⌜ (r .going ≡ true → r .left ≡ 0) ⌝ }
 {
-    run_with(input, true)
+    run_with(input, output)
 }
 
 // The wiring of the card that the lines of an input leave, at the front of a buffer. What the lines
@@ -319,16 +390,18 @@ fn wiring_from(input: i32, buffer: &mut [u8]) -> usize
     ensures { λ r. ⌜ ((bytes : List ℕ) × Wired cellCount bytes r (now (buffer .entry)) (now (buffer .exit))) ⌝ }
     ensures { λ r. ⌜ r ≤ length (now (buffer .exit)) ⌝ }
 {
-    let run = run_with(input, false);
+    let run = run_with(input, QUIET);
     let card = run.card;
     let printed = printed::print::print(card, buffer);
     printed.len
 }
 
-// The lines of an input, and then the wiring of the card to standard output, and nothing else. The
-// buffer has room for any wiring.
-pub fn print_from(input: i32) {
+// The run of plprint: the lines of an input, and then the wiring of the card to an output, and
+// nothing else. The buffer has room for any wiring.
+pub fn print_from(input: i32, output: i32) -> Written
+    ensures { λ r. ⌜ ((bytes : List ℕ) × WiringSize cellCount bytes (r .used)) ⌝ }
+{
     let mut text = [0u8; TEXT_MOST];
     let len = wiring_from(input, &mut text);
-    io::write_all(STDOUT_FILENO, &text[0..len]);
+    write_front(output, &text, len)
 }

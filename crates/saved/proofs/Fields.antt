@@ -13,7 +13,7 @@ use lib.ListN.{length, getD, take, drop, length-append, length-drop}
 use lib.Seq.{sets, length-sets, take-suc, take-all, getD-drop, length-take-le, drop-append-add}
 use borrow.Author.Tests.{eqb-true, eq-eqb}
 use Rattle.text.proofs.Stores.{sets-append}
-use Rattle.cells.proofs.Rows.{and-left, and-right}
+use Rattle.words.proofs.Bools.{and-left, and-right}
 use Rattle.cells.specs.declared.cell.Cell.{Cell}
 use Rattle.saved.specs.Headers.{Bytes}
 use Rattle.saved.specs.Record.{cellField, fieldsFrom, bigEndian, bigValue, sameBytes}

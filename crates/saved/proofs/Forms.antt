@@ -15,7 +15,7 @@ use Rattle.cells.specs.declared.cell.Cell.{Cell}
 use Rattle.cells.specs.State.{stateOf, cellOf}
 use Rattle.cells.specs.Table.{largestConfig, constantType, largestConstant}
 use Rattle.cells.proofs.Laws.{constant-largest}
-use Rattle.cells.proofs.Rows.{and-right}
+use Rattle.words.proofs.Bools.{and-right}
 use Rattle.card.specs.declared.card.Card.{Card}
 use Rattle.card.specs.declared.card.Connector.{Connector}
 use Rattle.card.specs.Address.{cellRoom, connectorCount}

@@ -2,24 +2,25 @@
 -- numbers of cells and addresses of connectors are right. Over the number n of cells and the width of a configuration.
 use Prim.Native.Nat.{ℕ, zero, suc, _+_, _*_, _/_, _%_, _≤_, _<_}
 use mathlib.Core.Path.{_≡_, refl, sym, ap, ap₂, _∙_}
-use mathlib.Core.Bool.{Bool, true, false, not, _&&_, cond, and-true}
+use mathlib.Core.Bool.{Bool, true, false, not, _&&_, _||_, cond, and-true, or-false}
 use mathlib.Core.List.{List, [], _∷_, _++_}
 use native.Mathlib.Decide.{decLt}
 use native.Mathlib.Nat.{zero-mul, suc-mul, zero-add, mul-le-mul-right}
 use native.Mathlib.Numerals.{add-one}
 use native.Mathlib.Omega.{arith}
-use lib.Dec.{eqb}
+use lib.Dec.{eqb, leb}
 use lib.ListN.{length, getD, take, drop, length-append, length-take, length-drop, List·getD-eq-default}
 use lib.Seq.{drop-cons, drop-drop, take-add, take-all, length-take-le, getD-take, getD-drop}
-use borrow.Author.Tests.{eq-eqb, eqb-true, eqb-false}
-use Rattle.cells.proofs.Rows.{and-left}
+use borrow.Author.Tests.{eq-eqb, ne-eqb, eqb-true, eqb-false}
+use Rattle.words.proofs.Bools.{and-left}
 use Rattle.words.specs.Listed.{listed}
 use Rattle.words.proofs.Listed.{length-listed}
-use Rattle.card.specs.Address.{firstCell, firstConnector, connectorCount}
+use Rattle.card.specs.Address.{cellCount, firstCell, firstConnector, connectorCount}
 use Rattle.card.specs.Valid.{valid}
 use Rattle.saved.specs.Record.{field, bigEndian, bigValue, triggerField, cellField, connectorField, fieldsFrom, encode, triggerLength, cellLength}
 use Rattle.saved.specs.Record.{connectorLength, recordLength, triggerIn, cellIn, connectorIn, cellsIn, loadCells, connectorsIn, sameBytes, loadNumberAs}
-use Rattle.saved.specs.Headers.{Bytes, everyBelow, startsAt, numberedAt, triggerHeaded, cellHeaded, connectorHeaded, headed}
+use Rattle.saved.specs.Record.{configWidth, narrowWidth, widthOf, loadNumber}
+use Rattle.saved.specs.Headers.{Bytes, everyBelow, startsAt, numberedAt, triggerHeaded, cellHeaded, connectorHeaded, headed, headedEither}
 use Rattle.saved.proofs.Fields.{fields-snoc, big-back, same-eq, same-append}
 use Rattle.saved.proofs.Forms.{cell-length, connector-length, other-length}
 
@@ -247,17 +248,50 @@ module _ (n width : ℕ) (bytes : List ℕ) (all : Bytes bytes) where
       go true e = sized-same n width bytes all (eqb-true (length bytes) (recordLength n width) e)
       go false e = other-length n width bytes (eqb-false (length bytes) (recordLength n width) e)
 
-  -- so the number of a load goes by the heads first and then by the values
+  -- so the number of a load by one form goes by the heads first and then by the values
   pub number-headed : loadNumberAs n width bytes
       ≡ cond (headed n width bytes) (cond (valid n (triggerIn bytes) (loadCells n width bytes) (connectorsIn n width bytes)) 0 15) 14
   unfolding loadNumberAs
   number-headed = rw same-headed
 
+-- ---- a load, by the form that the length tells
+
+-- bytes that have the length of one form have no heads of the other
+form-headed : (n : ℕ) (bytes : List ℕ) → 1 ≤ n → headed n (widthOf n bytes) bytes ≡ headedEither n bytes
+unfolding headedEither headed
+form-headed n bytes some = go (leb n cellCount) (eqb (length bytes) (recordLength n narrowWidth)) refl
+  where
+    values : ℕ → Bool
+    values width = triggerHeaded bytes && (everyBelow (cellHeaded width bytes) n && everyBelow (connectorHeaded n width bytes) connectorCount)
+
+    go : (small short : Bool) → eqb (length bytes) (recordLength n narrowWidth) ≡ short
+        → headed n (cond (small && short) narrowWidth configWidth) bytes
+        ≡ ((small && (short && values narrowWidth)) || (eqb (length bytes) (recordLength n configWidth) && values configWidth))
+    go true true e =
+        let long = eqb-true (length bytes) (recordLength n narrowWidth) e in
+        let other : eqb (length bytes) (recordLength n configWidth) ≡ false =
+        ne-eqb (length bytes) (recordLength n configWidth) (λ same. omega (arith, same)) in
+        ap (λ (b : Bool). b && values narrowWidth) e ∙ sym (or-false (values narrowWidth))
+        ∙ ap (λ (b : Bool). values narrowWidth || (b && values configWidth)) (sym other)
+    go true false e = refl
+    go false short e = refl
+
+-- of a card with cells, whatever its bytes
+module _ (n : ℕ) (some : 1 ≤ n) (bytes : List ℕ) (all : Bytes bytes) where
+  -- the number of a load goes by the heads first and then by the values
+  pub load-number : loadNumber n bytes
+      ≡ cond (headedEither n bytes)
+      (cond (valid n (triggerIn bytes) (loadCells n (widthOf n bytes) bytes) (connectorsIn n (widthOf n bytes) bytes)) 0 15) 14
+  unfolding loadNumber
+  load-number =
+      let ok = valid n (triggerIn bytes) (loadCells n (widthOf n bytes) bytes) (connectorsIn n (widthOf n bytes) bytes) in
+      number-headed n (widthOf n bytes) bytes all ∙ ap (λ (h : Bool). cond h (cond ok 0 15) 14) (form-headed n bytes some)
+
   -- 14, exactly where a length, a tag, a number or an address is wrong
-  pub fourteen : eqb (loadNumberAs n width bytes) 14 ≡ not (headed n width bytes)
-  fourteen =
-      ap (λ (k : ℕ). eqb k 14) number-headed
-      ∙ told (headed n width bytes) (valid n (triggerIn bytes) (loadCells n width bytes) (connectorsIn n width bytes))
+  pub load-fourteen : eqb (loadNumber n bytes) 14 ≡ not (headedEither n bytes)
+  load-fourteen =
+      ap (λ (k : ℕ). eqb k 14) load-number
+      ∙ told (headedEither n bytes) (valid n (triggerIn bytes) (loadCells n (widthOf n bytes) bytes) (connectorsIn n (widthOf n bytes) bytes))
     where
       told : (h v : Bool) → eqb (cond h (cond v 0 15) 14) 14 ≡ not h
       told true true = refl

@@ -23,7 +23,8 @@ use Rattle.saved.specs.Record.{fieldsFrom, encode, configWidth, narrowWi
 use Rattle.saved.specs.Record.{normalCell, loadCells, poweredUp, loadNumberAs, loadedAs, widthOf, loadNumber, loaded, normalRecord}
 use Rattle.saved.specs.Record.{SmallConstants, savedTo}
 use Rattle.saved.proofs.Forms.{FourSlots, Fit, encode-length, cell-count, four-slots, connector-count, all-fit, cells-all, loaded-from}
-use Rattle.saved.proofs.Forms.{load-refused-as, wrong-length, tests, normal-same, save-load-as, loaded-valid-as, trigger-back, connectors-back, loads-back}
+use Rattle.saved.proofs.Forms.{load-refused-as, wrong-length, tests, normal-same, save-load-as}
+use Rattle.saved.proofs.Forms.{loaded-valid-as, trigger-back, connectors-back, loads-back}
 use Rattle.saved.proofs.Forms.{load-accepts-as, load-save-as}
 
 -- ---- saves

@@ -1,12 +1,12 @@
 -- Document 01, row 14 of "When the card says no", byte by byte: what a record has besides its values. Nothing is written and compared here; the law
 -- is that a load gives 14 exactly where this fails (proofs/Headers.antt).
 use Prim.Native.Nat.{ℕ, zero, suc, _+_, _*_, _/_, _%_, _<_}
-use mathlib.Core.Bool.{Bool, true, _&&_}
+use mathlib.Core.Bool.{Bool, true, _&&_, _||_}
 use mathlib.Core.List.{List}
-use lib.Dec.{eqb}
+use lib.Dec.{eqb, leb}
 use lib.ListN.{length, getD}
-use Rattle.card.specs.Address.{firstCell, firstConnector, connectorCount}
-use Rattle.saved.specs.Record.{triggerLength, cellLength, connectorLength, recordLength}
+use Rattle.card.specs.Address.{cellCount, firstCell, firstConnector, connectorCount}
+use Rattle.saved.specs.Record.{configWidth, narrowWidth, triggerLength, cellLength, connectorLength, recordLength}
 
 -- each entry is a byte
 abbrev pub Bytes : List ℕ → Type 0
@@ -44,3 +44,7 @@ unfoldable pub headed : ℕ → ℕ → List ℕ → Bool
 headed n width bytes =
     eqb (length bytes) (recordLength n width)
     && (triggerHeaded bytes && (everyBelow (cellHeaded width bytes) n && everyBelow (connectorHeaded n width bytes) connectorCount))
+
+-- by either form, of which the older is only that of a card of sixteen cells: "The 276-byte record still loads"
+unfoldable pub headedEither : ℕ → List ℕ → Bool
+headedEither n bytes = (leb n cellCount && headed n narrowWidth bytes) || headed n configWidth bytes

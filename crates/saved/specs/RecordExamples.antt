@@ -10,6 +10,7 @@ use Rattle.cells.specs.Table.{rowOf}
 use Rattle.card.specs.Address.{cellCount, cellRoom}
 use Rattle.card.specs.Fresh.{clearState, freshOf, fresh}
 use Rattle.card.specs.Context.{configShown}
+use Rattle.card.specs.Edits.{withPointer}
 use Rattle.card.specs.Valid.{permittedBase, badClock, frontDriven, badCellType, badConnectorType, badAddress, validSlot, validSlots, validCell}
 use Rattle.card.specs.Valid.{validConnector, every, valid}
 use Rattle.saved.specs.Record.{bigEndian, cellField, connectorField, fieldsFrom, encode, configWidth, bigValue, triggerIn, cellIn, connectorIn, recordOf}
@@ -115,6 +116,10 @@ load bytes = loadNumber cellCount bytes ∷ []
 saved : List ℕ → List ℕ
 saved bytes = recordOf cellCount configWidth (loaded cellCount fresh bytes)
 
+-- where the pointer of a card stands after a load, if it stood at BNC3 before
+pointerAfter : List ℕ → List ℕ
+pointerAfter bytes = loaded cellCount (withPointer fresh 35) bytes .pointer ∷ []
+
 with : List (ℕ × ℕ) → List ℕ
 with changes = load (changed changes whole)
 
@@ -131,6 +136,9 @@ table =
     (load whole, 0 ∷ [])
     ∷ (saved whole, changed ((11, 0) ∷ (12, 1) ∷ []) whole)
     ∷ (constantRead 258, 1 ∷ [])
+    -- "A load is a power-up": the pointer is at 1 then; a refused load leaves it
+    ∷ (pointerAfter whole, 1 ∷ [])
+    ∷ (pointerAfter [], 35 ∷ [])
     -- so is every other above 1, not by its low bit and not by its low bytes; 1 and 0 stay
     ∷ (constantRead 4294967295, 1 ∷ [])
     ∷ (constantRead 65537, 1 ∷ [])
@@ -234,7 +242,7 @@ table =
     ∷ []
 
 examples : map (λ (e : List ℕ × List ℕ). e .0) table ≡ map (λ (e : List ℕ × List ℕ). e .1) table
-unfolding whole part oldCell old changed saved cellRead connectorRead load with constantRead configShown listed rowOf fresh permittedBase badClock frontDriven badCellType badConnectorType badAddress validSlot validSlots validCell validConnector every valid bigEndian cellField connectorField fieldsFrom encode bigValue cellIn normalCell connectorIn recordOf sameBytes loadNumberAs loadedAs loadNumber loaded
+unfolding whole part oldCell old changed saved pointerAfter cellRead connectorRead load with constantRead configShown listed rowOf fresh permittedBase badClock frontDriven badCellType badConnectorType badAddress validSlot validSlots validCell validConnector every valid bigEndian cellField connectorField fieldsFrom encode bigValue cellIn normalCell connectorIn recordOf sameBytes loadNumberAs loadedAs loadNumber loaded
 examples = refl
 
 -- ---- document 02, "Thirty-two cells": "A record has 32 cell fields and 516 bytes, the only length that a 32-cell card loads or saves"

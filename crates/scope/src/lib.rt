@@ -2,11 +2,15 @@
 //
 // `step` is one line of input: it leaves the card and the store that a line of plrun leaves, and gives what a tick showed in place of what it prints.
 // `next` goes on to the next tick that ran. It takes constant memory, whatever the input: a block, the line that has not ended, and the store. No
-// contract can say which bytes are read.
+// contract can say which bytes are read. `sink` is the way back: what such a program writes.
+pub mod sink;
+
+ghost use mathlib.Core.Bool.{true};
 ghost use mathlib.Core.Path.{_≡_};
 ghost use Prim.Native.Nat.{_≤_, _<_};
 ghost use lib.ListN.{length};
 ghost use Rattle.card.specs.Address.{cellsFor};
+ghost use Rattle.card.specs.Fresh.{fresh};
 ghost use Rattle.console.specs.Console.{entered};
 ghost use Rattle.scope.specs.Steps;
 ghost use Rattle.scope.specs.Steps.{wordsIn, shownBy, shownAt, blockLength, kept};
@@ -262,7 +266,12 @@ fn turn(feed: Feed, block: &mut [u8; BLOCK], line: &mut [u8; LINE], store: &mut 
 }
 
 // A fresh card before the first byte of the input.
-pub fn start() -> Feed {
+pub fn start() -> Feed
+    ensures { λ r. ⌜ r .card ≡ fresh ⌝ }
+    ensures { λ r. ⌜ r .shown ≡ Steps.nothing ⌝ }
+    ensures { λ r. ⌜ (r .at ≡ 0) × (r .got ≡ 0) × (r .len ≡ 0) ⌝ }
+    ensures { λ r. ⌜ r .going ≡ true ⌝ }
+{
     let card = card::card::fresh();
     let shown = nothing();
     Feed {

@@ -9,6 +9,7 @@ use lib.Dec.{eqb}
 use lib.ListN.{getD, length}
 use borrow.Author.Tests.{eq-eqb, ne-eqb}
 use Rattle.words.specs.Bits.{bitAt, wordOf}
+use Rattle.words.proofs.Bools.{and-both}
 use Rattle.words.proofs.Laws.{bit-zero, built-fits}
 use Rattle.cells.specs.declared.table.Slots.{Slots}
 use Rattle.cells.specs.State.{stateOf}
@@ -50,9 +51,6 @@ pub record Still (n : ℕ) (c : Card) (input : Input) : Type 0 where
   pub cells : allRest n (viewLast n (c .memory)) (c .cells) ≡ true
 
 -- ---- the test of the words
-
-and-both : (a b : Bool) → a ≡ true → b ≡ true → (a && b) ≡ true
-and-both a b p q = rw (p, q)
 
 pub memory-steady : (m : Memory) → StillMemory m → steady (wiresOf m (m .levels)) ≡ true
 memory-steady m s =

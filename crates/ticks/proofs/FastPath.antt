@@ -20,7 +20,7 @@ use Rattle.cells.specs.declared.table.Slots.{Slots}
 use Rattle.cells.specs.State.{stateOf}
 use Rattle.cells.specs.Wake.{stirred, wakes}
 use Rattle.cells.proofs.Laws.{wakes-splits, disagree-self}
-use Rattle.cells.proofs.Rows.{and-left, and-right}
+use Rattle.words.proofs.Bools.{and-left, and-right}
 use Rattle.card.specs.Fresh.{noCell}
 use Rattle.ticks.specs.declared.tick.Wires.{Wires}
 use Rattle.ticks.specs.Tick.{Turn}

@@ -3,6 +3,7 @@ pub mod AtRest
 pub mod Counting
 pub mod Counts
 pub mod Effective
+pub mod Exact
 pub mod FastPath
 pub mod Quarters
 pub mod Sleep

@@ -14,6 +14,7 @@ use borrow.Author.Tests.{not-false}
 use lib.Seq.{drop-cons, getD-at, append-snoc}
 use Rattle.words.specs.Bits.{bitAt, withBit, wordOf}
 use Rattle.words.specs.Listed.{listed}
+use Rattle.words.proofs.Bools.{or-left, or-right}
 use Rattle.words.proofs.Laws.{bit-zero, bit-xor, bit-with-same, bit-with-other, with-zero, with-lt, with-unique, built-of-bits, built-same}
 use Rattle.words.proofs.Listed.{length-listed}
 use Rattle.cells.specs.declared.cell.Cell.{Cell}
@@ -140,14 +141,6 @@ beq-same true true e = refl
 beq-same true false e = absurd (true≢false (sym e))
 beq-same false true e = absurd (true≢false (sym e))
 beq-same false false e = refl
-
-or-left : (a b : Bool) → (a || b) ≡ false → a ≡ false
-or-left true b e = e
-or-left false b e = refl
-
-or-right : (a b : Bool) → (a || b) ≡ false → b ≡ false
-or-right true b e = absurd (true≢false e)
-or-right false b e = e
 
 pub same-bit : (a b : Bool) → not (Bool·beq a b) ≡ false → a ≡ b
 same-bit a b e = beq-same a b (not-false (Bool·beq a b) e)

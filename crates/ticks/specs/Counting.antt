@@ -1,15 +1,15 @@
--- Document 02, "Counter cells", as the course teaches it of type 19: over any list of ticks that find its reset low, the count grows by the number of
--- ticks that ran with A, B and the clock high, up to 65535. Said of any card and of ticks of either kind.
-use Prim.Native.Nat.{ℕ, _+_, _<_, _≤_}
+-- Document 02, "Counter cells", over any list of ticks that find the reset of a counter low: its count grows by the number of ticks that ran with its
+-- clock high while it was active, up to 65535. Said of all four counters, of any card and of ticks of either kind.
+use Prim.Native.Nat.{ℕ, _<_}
 use mathlib.Core.Path.{_≡_}
-use mathlib.Core.Bool.{Bool, true, false, _&&_, cond}
+use mathlib.Core.Bool.{Bool, false, cond}
 use mathlib.Core.List.{List, [], _∷_}
-use lib.Dec.{eqb, ltb}
+use lib.Dec.{eqb}
 use lib.ListN.{getD}
-use Rattle.words.specs.Bits.{bitNumber}
 use Rattle.cells.specs.declared.table.Slots.{Slots}
+use Rattle.cells.specs.declared.table.CounterKind.{CounterKind}
 use Rattle.cells.specs.declared.cell.Cell.{Cell}
-use Rattle.cells.specs.Work.{largestCount}
+use Rattle.cells.specs.Counting.{counterType, countedIn, grown}
 use Rattle.card.specs.declared.card.Card.{Card}
 use Rattle.card.specs.Fresh.{noCell}
 use Rattle.ticks.specs.declared.tick.Input.{Input}
@@ -37,23 +37,20 @@ readsIn n c t i = readIn n (t .0) c (t .1) i (cellAt c i .slots)
 abbrev pub runs : Card → Bool × Input → Bool
 runs c t = eqb (t .1 .code) (c .trigger)
 
--- a tick that ran with A, B and the clock high, and how many of a list's ticks did
-abbrev pub allHigh : Slots → Bool
-allHigh r = (r .x && r .f) && r .y
+-- what they read in those ticks of a list that ran, in order
+unfoldable pub readings : ℕ → Card → Ticks → ℕ → List Slots
+readings n c [] i = []
+readings n c (t ∷ ts) i =
+    let rest = readings n (afterTick n c t) ts i in
+    cond (runs c t) (readsIn n c t i ∷ rest) rest
 
-unfoldable pub highTicks : ℕ → Card → Ticks → ℕ → ℕ
-highTicks n c [] i = 0
-highTicks n c (t ∷ ts) i = bitNumber (runs c t && allHigh (readsIn n c t i)) + highTicks n (afterTick n c t) ts i
+-- none of them found the reset high
+unfoldable pub ResetLow : List Slots → Type 0
+ResetLow [] = Unit {0}
+ResetLow (r ∷ rs) = (r .z ≡ false) × ResetLow rs
 
--- no tick that runs finds the reset high
-unfoldable pub ResetLow : ℕ → Card → Ticks → ℕ → Type 0
-ResetLow n c [] i = Unit {0}
-ResetLow n c (t ∷ ts) i = (runs c t ≡ true → readsIn n c t i .z ≡ false) × ResetLow n (afterTick n c t) ts i
-
--- "up to 65535"
-abbrev pub upToLargest : ℕ → ℕ
-upToLargest v = cond (ltb v largestCount) v largestCount
-
+-- the count grows by what the readings have a counter count that keeps the cell's bit and has its count
 unfoldable pub CountsOn : ℕ → Type 0
-CountsOn n = (c : Card) (ts : Ticks) (i : ℕ) → i < n → cellAt c i .kind ≡ 19 → cellAt c i .count .0 ≤ largestCount → ResetLow n c ts i
-    → cellAt (afterTicks n c ts) i .count .0 ≡ upToLargest (cellAt c i .count .0 + highTicks n c ts i)
+CountsOn n = (k : CounterKind) (c : Card) (ts : Ticks) (i : ℕ) → i < n → cellAt c i .kind ≡ counterType k → ResetLow (readings n c ts i)
+    → let cell = cellAt c i in
+    cellAt (afterTicks n c ts) i .count .0 ≡ grown (cell .count .0) (countedIn k (cell .bit) (eqb (cell .count .0) 0) (readings n c ts i))

@@ -2,19 +2,20 @@
 -- a card whose quick and full ticks differ.
 use Prim.Native.Nat.{ℕ}
 use mathlib.Core.Path.{_≡_, refl}
-use mathlib.Core.Bool.{true, false}
+use mathlib.Core.Bool.{Bool, true, false}
 use mathlib.Core.List.{List, [], _∷_, _++_, map}
 use lib.Count.{ones, onesIn}
-use lib.ListN.{replicate, set}
+use lib.ListN.{replicate, set, getD}
 use Rattle.words.specs.Bits.{bitAt, wordOf}
 use Rattle.words.specs.Listed.{listed}
 use Rattle.cells.specs.declared.cell.Cell.{Cell}
 use Rattle.cells.specs.Table.{rowOf}
-use Rattle.cells.specs.Work.{taken, workAs, workOut}
+use Rattle.cells.specs.State.{cellOf}
+use Rattle.cells.specs.Work.{pulses, taken, workAs, workOut}
 use Rattle.cells.specs.Wake.{stirredAs, stirred, disagree, wakes}
 use Rattle.card.specs.declared.card.Card.{Card}
 use Rattle.card.specs.Address.{cellCount, connectorCount}
-use Rattle.card.specs.Fresh.{fresh}
+use Rattle.card.specs.Fresh.{fresh, noCell}
 use Rattle.card.specs.Presets.{whole}
 use Rattle.ticks.specs.declared.tick.Answer.{Answer}
 use Rattle.ticks.specs.declared.tick.Input.{Input}
@@ -55,6 +56,10 @@ downward = card (twoCells (whole 6 0 (2 ∷ 0 ∷ 0 ∷ 0 ∷ [])) (whole 6 0 (4
 -- a card that is not settled: nobody edited cell 1, an AND2 of two low inputs, and its output is high
 unfoldable pub unsettled : Card
 unsettled = card (set (fresh .cells) 0 (whole 5 0 (0 ∷ 0 ∷ 0 ∷ 0 ∷ []))) 1 0
+
+-- another: nobody edited cell 1, a D-flop whose reset is on 64, always high, and its bit and its output are set
+unfoldable pub unsettledState : Card
+unsettledState = card (set (fresh .cells) 0 (cellOf 1 0 (0 ∷ 128 ∷ 64 ∷ 0 ∷ []) (record { count = pulses 0; bit = true; pulse = false }))) 1 0
 
 -- these cells, and every connector of this type and driven from this address
 wired : List Cell → (kind source : ℕ) → Card
@@ -146,3 +151,15 @@ wrong-stays = refl
 pub wrong-goes : tick cellCount true unsettled (clock0 0) .answer .cells ≡ 0
 unfolding unsettled bitAt wordOf listed rowOf taken workAs workOut stirredAs stirred disagree wakes fresh levelAt readsLevels reads slotsRead mixed view effectiveSample linesOf readNow readLast named turnAt outputsBelow turned tick
 wrong-goes = refl
+
+-- and so does a wrong state of a sleeping flip-flop: its bit, and its output
+pub firstBit : Ticked → Bool × ℕ
+firstBit t = (getD (t .card .cells) 0 noCell .bit, t .answer .cells)
+
+pub state-stays : firstBit (tick cellCount false unsettledState (clock0 0)) ≡ (true, 1)
+unfolding unsettledState firstBit bitAt wordOf listed rowOf taken workAs workOut stirredAs stirred disagree wakes fresh levelAt readsLevels reads slotsRead mixed view effectiveSample linesOf readNow readLast named turnAt outputsBelow turned tick
+state-stays = refl
+
+pub state-goes : firstBit (tick cellCount true unsettledState (clock0 0)) ≡ (false, 0)
+unfolding unsettledState firstBit bitAt wordOf listed rowOf taken workAs workOut stirredAs stirred disagree wakes fresh levelAt readsLevels reads slotsRead mixed view effectiveSample linesOf readNow readLast named turnAt outputsBelow turned tick
+state-goes = refl

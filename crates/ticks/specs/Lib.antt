@@ -3,7 +3,6 @@ pub mod Reading
 pub mod Levels
 pub mod Tick
 pub mod Rest
-pub mod Counting
 pub mod Examples
 pub mod Sizes
 pub mod RestExamples
@@ -11,3 +10,6 @@ pub mod RestExamples
 pub mod Words
 pub mod FastPath
 pub mod Settled
+-- What is said of ticks on any card, and of lists of them.
+pub mod Exact
+pub mod Counting

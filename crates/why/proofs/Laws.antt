@@ -13,10 +13,10 @@ use Rattle.words.specs.Listed.{listed}
 use Rattle.words.proofs.Laws.{bit-zero, built-same, built-of-bits, built-fits}
 use Rattle.words.proofs.Listed.{listed-at, listed-same}
 use Rattle.cells.specs.declared.table.Slots.{Slots}
-use Rattle.cells.specs.declared.reasons.Reasons.{Reasons}
+use Rattle.why.specs.declared.cell.Reasons.{Reasons}
 use Rattle.cells.specs.State.{stateOf}
-use Rattle.cells.specs.Reasons.{reasonsOf, anyReason}
-use Rattle.cells.proofs.Named.{reason-named}
+use Rattle.why.specs.CellReasons.{reasonsOf, anyReason}
+use Rattle.why.proofs.Named.{reason-named}
 use Rattle.cells.specs.declared.cell.Cell.{Cell}
 use Rattle.card.specs.declared.card.Card.{Card}
 use Rattle.card.specs.declared.card.Memory.{Memory}

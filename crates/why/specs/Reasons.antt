@@ -7,10 +7,10 @@ use lib.ListN.{getD, replicate}
 use Rattle.words.specs.Bits.{bitAt}
 use Rattle.words.specs.Listed.{listed}
 use Rattle.cells.specs.declared.cell.Cell.{Cell}
-use Rattle.cells.specs.declared.reasons.Reasons.{Reasons}
+use Rattle.why.specs.declared.cell.Reasons.{Reasons}
 use Rattle.cells.specs.Table.{no-slot}
 use Rattle.cells.specs.State.{stateOf}
-use Rattle.cells.specs.Reasons.{reasonsOf}
+use Rattle.why.specs.CellReasons.{reasonsOf}
 use Rattle.card.specs.declared.card.Card.{Card}
 use Rattle.card.specs.Fresh.{noCell}
 use Rattle.ticks.specs.declared.tick.Input.{Input}

@@ -1,4 +1,6 @@
 // Why the cells of a card wake in a tick.
+pub mod cell;
+
 ghost use mathlib.Core.List.{_++_};
 ghost use mathlib.Core.Path.{_≡_};
 ghost use Prim.Native.Nat.{_^_, _<_, _≤_};
@@ -9,6 +11,8 @@ ghost use Rattle.card.specs.Fresh.{noCell};
 ghost use Rattle.ticks.specs.Tick;
 ghost use Rattle.ticks.specs.Words.{Fits};
 ghost use Rattle.why.specs.Reasons.{reasonsAt, noReasons, tickReasons};
+use crate::cell::Reasons;
+use crate::cell::reasons_of;
 use card::card::Card;
 use card::limits::CELLS;
 use card::limits::CellWord;
@@ -18,8 +22,6 @@ use cells::cell::Cell;
 use cells::cell::state_of;
 use cells::reading::address;
 use cells::reading::four;
-use cells::reasons::Reasons;
-use cells::reasons::reasons_of;
 use cells::table::Slots;
 use ticks::tick::Input;
 use ticks::tick::Ticked;

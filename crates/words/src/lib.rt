@@ -21,15 +21,6 @@ pub fn pushed(w: u64, i: u32, b: bool) -> u64
     w | ((b as u64) << i)
 }
 
-// The same step for a word of at most 16 bits.
-pub fn pushed16(w: u16, i: u32, b: bool) -> u16
-    requires { ⌜ i < 16 ⌝ }
-    requires { ⌜ w < 2 ^ i ⌝ }
-    ensures { λ r. ⌜ r ≡ w + bitNumber b * 2 ^ i ⌝ }
-{
-    pushed(w as u64, i, b) as u16
-}
-
 // The word with bit i set.
 pub fn with_set(w: u64, i: u32) -> u64
     requires { ⌜ i < 64 ⌝ }

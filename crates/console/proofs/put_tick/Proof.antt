@@ -27,7 +27,8 @@ unfolding tickText
 returns c =
     let s = c .before .before .before .before .before .before .before .before in
     let a = s .args .a in
-    within (rw (not-true (a .ran) (c .before .before .before .before .before .if1 .taken)) (c .before .before .copy .ensures)) (tick-short (cellsFor (s .args .size)) a (search needs))
+    let idle = not-true (a .ran) (c .before .before .before .before .before .if1 .taken) in
+    within (rw idle (c .before .before .copy .ensures)) (tick-short (cellsFor (s .args .size)) a (search needs))
 
 slice-aggregate-copy-2 : tie.Need-slice-aggregate-copy-2
 slice-aggregate-copy-2 c = search needs

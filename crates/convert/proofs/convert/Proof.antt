@@ -37,7 +37,8 @@ unfolding cellsFor
 size-is true = refl
 size-is false = refl
 
-sized : (f : tie.After-fresh-of) → cellsFor (f .fresh-of .result .size) ≡ cellsOf cellCount (f .before .before .before .before .before .before .before .before .args .bytes .now)
+sized : (f : tie.After-fresh-of) → cellsFor (f .fresh-of .result .size)
+    ≡ cellsOf cellCount (f .before .before .before .before .before .before .before .before .args .bytes .now)
 sized f =
     let bytes = f .before .before .before .before .before .before .before .before .args .bytes .now in
     ap (λ (c : Card). cellsFor (c .size)) (f .fresh-of .ensures)
@@ -72,7 +73,8 @@ found e =
     let count = load .before .before .cells-of .ensures .0 in
     let to = load .before .before .before .before .before in
     let bytes = to .before .before .before .before .args .bytes .now in
-    let cells = (λ i. take (count i) (card-at load i .cells)) ∙ loaded-cells (cellsOf cellCount bytes) _ bytes (taken (e .before .before .before .before .before)) in
+    let cells = (λ i. take (count i) (card-at load i .cells))
+    ∙ loaded-cells (cellsOf cellCount bytes) _ bytes (taken (e .before .before .before .before .before)) in
     let all = e .all-narrow .ensures ∙ ap (every narrowCell) cells in
     ap₂ (λ (w : ℕ) (q : Bool). eqb w narrowWidth && not q) (sym (to .other-form .ensures .0)) (sym all)
 
@@ -216,9 +218,11 @@ returns-6 c =
     let m = cellsOf cellCount bytes in
     let long = found narrow ∙ last .before .before .before .if4 .left in
     let above = found-above (last .before) ∙ last .if5 .left in
-    let number = number-is cellCount (length buffer) bytes false false false false 0 (known (room .before .before .before)) (enough room) (taken e) long above in
+    let number = number-is cellCount (length buffer) bytes false false false false 0 (known (room .before .before .before)) (enough room)
+    (taken e) long above in
     let is = converted-as cellCount bytes buffer number in
-    let form = held-form cellCount bytes (load .before .fresh-of .result) (at-least m _ (count .0) (count .1 .0)) (at-most m _ (count .0) (count .1 .1)) (taken e) in
+    let form = held-form cellCount bytes (load .before .fresh-of .result) (at-least m _ (count .0) (count .1 .0)) (at-most m _ (count .0) (count .1 .1))
+    (taken e) in
     let written = ap (recordOf cellCount (to .result .width)) (card-at load) ∙ form (to .result .width) (to .ensures .0) in (
       sym number,
       (

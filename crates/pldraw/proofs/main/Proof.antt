@@ -44,6 +44,9 @@ loop-again c = search needs
 count-rest-requires : tie.Need-count-rest-requires Inv-loop μ-loop
 count-rest-requires c κs = search needs
 
+empty-requires : tie.Need-empty-requires Inv-loop μ-loop
+empty-requires c κs = search needs
+
 put-page-requires : tie.Need-put-page-requires Inv-loop μ-loop
 put-page-requires c κs = search needs
 
@@ -67,5 +70,6 @@ main-spec =
     loop-less
     loop-again
     count-rest-requires
+    empty-requires
     put-page-requires
     returns)

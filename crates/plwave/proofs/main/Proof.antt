@@ -8,10 +8,13 @@ abbrev most : ℕ
 most = 18446744073709551615
 
 abbrev Inv-loop : tie.InvT-loop
-Inv-loop block₀ line₀ store₀ feed₀ last₀ t₀ block line store feed last t = t ≤ most
+Inv-loop block₀ line₀ store₀ out₀ s₀ feed₀ last₀ t₀ block line store out s feed last t = t ≤ most
 
 abbrev μ-loop : tie.MeasureT-loop
-μ-loop block₀ line₀ store₀ feed₀ last₀ t₀ block line store feed last t = most - t
+μ-loop block₀ line₀ store₀ out₀ s₀ feed₀ last₀ t₀ block line store out s feed last t = most - t
+
+empty-requires : tie.Need-empty-requires Inv-loop μ-loop
+empty-requires c κs = search needs
 
 put-header-requires : tie.Need-put-header-requires Inv-loop μ-loop
 put-header-requires c κs = search needs
@@ -37,8 +40,8 @@ loop-less c = search needs
 loop-again : tie.Need-loop-again Inv-loop μ-loop
 loop-again c = search needs
 
-put-time-requires : tie.Need-put-time-requires Inv-loop μ-loop
-put-time-requires c κs = search needs
+finish-requires : tie.Need-finish-requires Inv-loop μ-loop
+finish-requires c κs = search needs
 
 returns : tie.Need-returns Inv-loop μ-loop
 returns c = search needs
@@ -49,6 +52,7 @@ main-spec =
     (tie.spec
     Inv-loop
     μ-loop
+    empty-requires
     put-header-requires
     start-requires
     loop-holds
@@ -57,5 +61,5 @@ main-spec =
     add-t
     loop-less
     loop-again
-    put-time-requires
+    finish-requires
     returns)

@@ -5,10 +5,10 @@ use Rattle.plwave.proofs.put_wires.Statement.{statement}
 use Rattle.plwave.proofs.put_wires.Tie as tie
 
 abbrev Inv-loop : tie.InvT-loop
-Inv-loop from count name first k₀ k = k ≤ count
+Inv-loop out₀ from count name first w₀ k₀ out w k = k ≤ count
 
 abbrev μ-loop : tie.MeasureT-loop
-μ-loop from count name first k₀ k = count - k
+μ-loop out₀ from count name first w₀ k₀ out w k = count - k
 
 loop-holds : tie.Need-loop-holds Inv-loop μ-loop
 loop-holds c = search needs

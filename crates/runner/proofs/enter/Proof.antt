@@ -1,6 +1,8 @@
 -- `runner::enter` meets its contract: the line is entered, and what it prints stands behind what is printed already.
 use native.Mathlib.Omega.{arith}
-use Rattle.runner.proofs.Runs.{printed-behind}
+use Rattle.card.specs.Address.{cellsFor}
+use Rattle.console.specs.Console.{entered}
+use Rattle.runner.proofs.Runs.{printed-behind, printed-beyond}
 use borrow.Author.Needs.{needs}
 use Rattle.runner.proofs.enter.Statement.{statement}
 use Rattle.runner.proofs.enter.Tie as tie
@@ -35,7 +37,9 @@ returns c =
     let a = n .before .before .before .before .before .before .before .args in
     let e = n .enter .ensures in
     let behind = printed-behind (a .out .now) _ _ _ (a .state .used) (n .enter .result .len) (search needs) (e .1 .1 .1 .1) (e .1 .1 .1 .0) (e .1 .1 .0) in
-    (e .0, (e .1 .0, (behind, omega (arith, e .1 .1 .1 .1))))
+    let p = entered (cellsFor (a .state .card .size)) (a .state .card) (a .text .now) (a .store .now) .printed in
+    let beyond = printed-beyond (a .out .now) _ p (a .state .used) (n .enter .result .len) (search needs) (e .1 .1 .1 .1) (e .1 .1 .1 .0) (e .1 .1 .0) in
+    (e .0, (e .1 .0, (behind, (omega (arith, e .1 .1 .1 .1), (omega arith, beyond)))))
 
 pub enter-spec : {M : Type 1} → statement M
 enter-spec =

@@ -14,10 +14,10 @@ use Rattle.runner.proofs.run_with.Statement.{statement}
 use Rattle.runner.proofs.run_with.Tie as tie
 
 abbrev Inv-loop : tie.InvT-loop
-Inv-loop input shows block₀ out₀ line₀ store₀ r₀ block out line store r = Underway cellCount r store line out
+Inv-loop input output block₀ out₀ line₀ store₀ r₀ block out line store r = Underway cellCount r store line out
 
 abbrev μ-loop : tie.MeasureT-loop
-μ-loop input shows block₀ out₀ line₀ store₀ r₀ block out line store r = r .left
+μ-loop input output block₀ out₀ line₀ store₀ r₀ block out line store r = r .left
 
 start-requires : tie.Need-start-requires Inv-loop μ-loop
 start-requires c κs = search needs
@@ -53,10 +53,10 @@ loop-again c =
     let left = totals .1 .1 .0 in
     let fronts = totals .1 .1 .1 .1 in
     let less : c .turn .result .left < mostReads = omega (arith, left, u .counted .by-reads) in
-    let block = c .turn .last .1 .1 .0 in
+    let block = c .turn .last .1 .1 .1 .0 in
     let q = c .turn .result in
     let bytes = part-length block (l .r .len) (l .r .len + q .got) (fronts .0) in
-    let printed = length-take-le (q .used) (c .turn .last .1 .1 .1 .1 .1 .0) (fronts .1) in
+    let printed = length-take-le (q .used) (c .turn .last .1 .1 .1 .1 .1 .1 .0) (fronts .1) in
     record {
       short = e .1 .1 .1 .0;
       whole = e .1 .1 .1 .1 .0;

@@ -8,7 +8,7 @@ use borrow.Author.Needs.{needs}
 use Rattle.words.specs.Listed.{listed}
 use Rattle.words.proofs.Listed.{listed-next}
 use Rattle.cells.specs.declared.cell.Cell.{Cell}
-use Rattle.cells.specs.declared.reasons.Reasons.{Reasons}
+use Rattle.why.specs.declared.cell.Reasons.{Reasons}
 use Rattle.card.specs.Fresh.{noCell}
 use Rattle.ticks.specs.declared.tick.Wires.{Wires}
 use Rattle.why.specs.Reasons.{reasonsAt, noReasons}

@@ -5,7 +5,7 @@ use mathlib.Core.Bool.{Bool, true, false, cond}
 use mathlib.Core.List.{List, _++_}
 use lib.Dec.{eqb}
 use lib.ListN.{drop, replicate}
-use Rattle.cells.specs.declared.reasons.Reasons.{Reasons}
+use Rattle.why.specs.declared.cell.Reasons.{Reasons}
 use Rattle.card.specs.declared.card.Memory.{Memory}
 use Rattle.card.specs.Address.{cellCount, cellRoom, cellsFor}
 use Rattle.ticks.specs.declared.tick.Wires.{Wires}
@@ -36,7 +36,8 @@ returns c =
     let a = n .before .args in
     let size = a .card .size in
     n .none .ensures ∙ filled size noReasons
-    ∙ ap (λ (l : List Reasons). l ++ drop (cellsFor size) (replicate cellRoom noReasons)) (idle-none (cellsFor size) (a .full) (a .card) (a .input) (c .if1 .taken))
+    ∙ ap (λ (l : List Reasons). l ++ drop (cellsFor size) (replicate cellRoom noReasons))
+    (idle-none (cellsFor size) (a .full) (a .card) (a .input) (c .if1 .taken))
 
 cells-for-requires : tie.Need-cells-for-requires
 cells-for-requires c κs = search needs

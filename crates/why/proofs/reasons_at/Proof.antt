@@ -3,7 +3,7 @@ use Prim.Native.Nat.{ℕ}
 use mathlib.Core.Path.{ap, ap₂, _∙_}
 use mathlib.Core.Bool.{Bool}
 use Rattle.cells.specs.declared.table.Slots.{Slots}
-use Rattle.cells.specs.Reasons.{reasonsOf}
+use Rattle.why.specs.CellReasons.{reasonsOf}
 use Rattle.ticks.specs.Tick.{seesNow, sawLast, sawEarlier, readNow, readLast}
 use Rattle.ticks.proofs.Words.{Holds, slots-as}
 use Rattle.why.specs.Reasons.{reasonsAt}
@@ -76,7 +76,8 @@ returns c =
       at-z = d .before .address3 .ensures;
       at-f = d .address4 .ensures;
     } in
-    let reads = s .before .before .before .four .ensures ∙ slots-as now last _ (cell .slots) _ _ _ _ (o .before .words-now .ensures (a .n) (pre .0) (pre .1 .1 .0) (pre .1 .1 .1)) held in
+    let reads = s .before .before .before .four .ensures
+    ∙ slots-as now last _ (cell .slots) _ _ _ _ (o .before .words-now .ensures (a .n) (pre .0) (pre .1 .1 .0) (pre .1 .1 .1)) held in
     let read = s .before .four2 .ensures
     ∙ slots-as last (sawEarlier (a .n) (a .i) (a .w)) _ (cell .slots) _ _ _ _ (o .words-last .ensures (a .n) (pre .0) (pre .1 .1 .1)) held in
     c .reasons-of .ensures

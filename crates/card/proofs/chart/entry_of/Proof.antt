@@ -28,7 +28,8 @@ returns c =
     let a = e .before .before .args in
     let first = e .entry-in .ensures ∙ entry-at (a .chart .now) (search needs) (a .a) (search needs) in
     let small = ap (λ (v : Entry). v .permitted) first in
-    let more = c .before .is-upper .ensures ∙ ap (λ (b : ℕ). eqb (a .size) cellRoom && (ltb cellCount b && leb b cellRoom)) (ap (λ (v : Entry). v .base) first) in
+    let more = c .before .is-upper .ensures
+    ∙ ap (λ (b : ℕ). eqb (a .size) cellRoom && (ltb cellCount b && leb b cellRoom)) (ap (λ (v : Entry). v .base) first) in
     let all = ap₂ _||_ small more ∙ bases-for (a .size) (baseOf (a .a)) (search needs) in
     λ k. record { base = first k .base; inverted = first k .inverted; edge = first k .edge; permitted = all k }
 

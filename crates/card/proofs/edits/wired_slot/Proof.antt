@@ -1,7 +1,7 @@
 -- `card::edits::wired_slot` meets its contract: each arm is a case of the definition.
 use native.Mathlib.Omega.{arith}
 use borrow.Author.Tests.{ltb-true}
-use Rattle.cells.proofs.Rows.{and-right}
+use Rattle.words.proofs.Bools.{and-right}
 use Rattle.card.proofs.edits.wired_slot.Statement.{statement}
 use Rattle.card.proofs.edits.wired_slot.Tie as tie
 

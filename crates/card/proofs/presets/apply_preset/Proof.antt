@@ -58,10 +58,12 @@ returns c =
     let connectors = c .before .connectors-under .ensures
     ∙ listed-same (λ k. sourced (sourceUnder (c .before .before .source-row .result) k) (getD (a .card .connectors) k noConnector))
     (connectorWithPreset n (a .card) (a .v)) connectorCount
-    (λ k h. ap (λ (o : Option ℕ). sourced o (getD (a .card .connectors) k noConnector)) (c .before .before .source-row .ensures k h ∙ ap (λ (m : ℕ). presetSource m (a .v) k) (sym (sized .0)))) in
+    (λ k h. ap (λ (o : Option ℕ). sourced o (getD (a .card .connectors) k noConnector))
+    (c .before .before .source-row .ensures k h ∙ ap (λ (m : ℕ). presetSource m (a .v) k) (sym (sized .0)))) in
     let edited = c .edited-under .ensures
     ∙ built-same (λ i. bitAt (a .card .edited) i || covers (row .0) i) (editedWithPreset (a .card) (a .v)) n
-    (λ i h. ap (λ (b : Bool). bitAt (a .card .edited) i || b) (sym (has-cell (row .0) (row .1) i) ∙ ap (λ (o : Option Cell). has o) (says i (omega (arith, sized .1, h))))) in
+    (λ i h. ap (λ (b : Bool). bitAt (a .card .edited) i || b)
+    (sym (has-cell (row .0) (row .1) i) ∙ ap (λ (o : Option Cell). has o) (says i (omega (arith, sized .1, h))))) in
     (λ k. withSettings (a .card) (a .card .trigger) (cells k) (connectors k) (edited k))
     ∙ ap (λ (m : ℕ). preset m (a .card) (a .v)) (sized .0)
 

@@ -24,7 +24,8 @@ returns c = rw (lt-ltb largestAddress (c .before .args .a) (c .if1 .taken))
 returns-2 : tie.Need-returns-2
 returns-2 c =
     let e = c .before in
-    ap (λ (e : Entry). not (e .permitted)) (e .entry-of .ensures) ∙ sym (entry-refused (cellsFor (e .before .before .args .size)) (e .before .before .args .a) (omega arith))
+    ap (λ (e : Entry). not (e .permitted)) (e .entry-of .ensures)
+    ∙ sym (entry-refused (cellsFor (e .before .before .args .size)) (e .before .before .args .a) (omega arith))
 
 pub refused-spec : {M : Type 1} → statement M
 refused-spec = tie.close (tie.spec returns cast-entry-of entry-of-requires returns-2)

@@ -39,7 +39,8 @@ loop-less c = search needs
 loop-again : tie.Need-loop-again Inv-loop μ-loop
 loop-again c =
     let l = c .before .before .before .loop in
-    tested-next (validConnector (cellsFor (c .before .before .before .before .args .size))) connectorCount (l .k) (c .before .before .before .before .args .t2) noConnector _ _ (l .inv)
+    tested-next (validConnector (cellsFor (c .before .before .before .before .args .size))) connectorCount (l .k)
+    (c .before .before .before .before .args .t2) noConnector _ _ (l .inv)
     (search needs) (search needs) (c .valid-connector .ensures)
 
 returns : tie.Need-returns Inv-loop μ-loop

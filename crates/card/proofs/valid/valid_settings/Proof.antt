@@ -51,7 +51,16 @@ returns c =
     let n = cellsFor (a .size) in
     let taken = eq-eqb (length (take n (a .cells))) n (length-take-le n (a .cells) (omega (arith, cells-most (a .size)))) in
     let others : length (a .t3) ≡ connectorCount = search (needs, b .before .before .good) in
-    rw (b .bad-clock .ensures, f .front-driven .ensures, v .valid-cells .ensures, s .cells-for .ensures .0, c .valid-connectors .ensures, taken, others, and-true)
+    rw (
+      b .bad-clock .ensures,
+      f .front-driven .ensures,
+      v .valid-cells .ensures,
+      s .cells-for .ensures .0,
+      c .valid-connectors .ensures,
+      taken,
+      others,
+      and-true,
+    )
 
 pub valid-settings-spec : {M : Type 1} → statement M
 valid-settings-spec =

@@ -202,14 +202,16 @@ unfolding rowOf Wake.stirred stirredAs moved
 returns-9 c =
     let a = c .before .before .before .args in
     at (a .kind) 8 _ _ _ _ (c .before .before .match .keys9)
-    (c .timer-wakes .ensures ∙ stirred-on (timerStirred (a .count .0) (a .pulse)) (c .before .two .result) _ (readFrom (a .d .now) (a .z)) (c .before .two .ensures))
+    (c .timer-wakes .ensures ∙ stirred-on (timerStirred (a .count .0) (a .pulse)) (c .before .two .result) _ (readFrom (a .d .now) (a .z))
+    (c .before .two .ensures))
 
 returns-10 : tie.Need-returns-10
 unfolding rowOf Wake.stirred stirredAs moved
 returns-10 c =
     let a = c .before .before .before .args in
     at (a .kind) 9 _ _ _ _ (c .before .before .match .keys10)
-    (c .timer-wakes2 .ensures ∙ stirred-on (timerStirred (a .count .0) (a .pulse)) (c .before .two2 .result) _ (readFrom (a .d .now) (a .z)) (c .before .two2 .ensures))
+    (c .timer-wakes2 .ensures ∙ stirred-on (timerStirred (a .count .0) (a .pulse)) (c .before .two2 .result) _ (readFrom (a .d .now) (a .z))
+    (c .before .two2 .ensures))
 
 returns-11 : tie.Need-returns-11
 unfolding rowOf Wake.stirred stirredAs moved
@@ -238,28 +240,32 @@ unfolding rowOf Wake.stirred stirredAs moved
 returns-15 c =
     let a = c .before .before .before .args in
     at (a .kind) 14 _ _ _ _ (c .before .before .match .keys15)
-    (c .timer-wakes3 .ensures ∙ stirred-on (timerStirred (a .count .0) (a .pulse)) (c .before .two3 .result) _ (readFrom (a .d .now) (a .z)) (c .before .two3 .ensures))
+    (c .timer-wakes3 .ensures ∙ stirred-on (timerStirred (a .count .0) (a .pulse)) (c .before .two3 .result) _ (readFrom (a .d .now) (a .z))
+    (c .before .two3 .ensures))
 
 returns-16 : tie.Need-returns-16
 unfolding rowOf Wake.stirred stirredAs moved
 returns-16 c =
     let a = c .before .before .before .args in
     at (a .kind) 15 _ _ _ _ (c .before .before .match .keys16)
-    (c .timer-wakes4 .ensures ∙ stirred-on (timerStirred (a .count .0) (a .pulse)) (c .before .two4 .result) _ (readFrom (a .d .now) (a .z)) (c .before .two4 .ensures))
+    (c .timer-wakes4 .ensures ∙ stirred-on (timerStirred (a .count .0) (a .pulse)) (c .before .two4 .result) _ (readFrom (a .d .now) (a .z))
+    (c .before .two4 .ensures))
 
 returns-17 : tie.Need-returns-17
 unfolding rowOf Wake.stirred stirredAs moved
 returns-17 c =
     let a = c .before .before .before .args in
     at (a .kind) 16 _ _ _ _ (c .before .before .match .keys17)
-    (c .timer-wakes5 .ensures ∙ stirred-on (timerStirred (a .count .0) (a .pulse)) (c .before .four .result) _ (readFrom (a .d .now) (a .z)) (c .before .four .ensures))
+    (c .timer-wakes5 .ensures ∙ stirred-on (timerStirred (a .count .0) (a .pulse)) (c .before .four .result) _ (readFrom (a .d .now) (a .z))
+    (c .before .four .ensures))
 
 returns-18 : tie.Need-returns-18
 unfolding rowOf Wake.stirred stirredAs moved
 returns-18 c =
     let a = c .before .before .before .args in
     at (a .kind) 17 _ _ _ _ (c .before .before .match .keys18)
-    (c .timer-wakes6 .ensures ∙ stirred-on (timerStirred (a .count .0) (a .pulse)) (c .before .four2 .result) _ (readFrom (a .d .now) (a .z)) (c .before .four2 .ensures))
+    (c .timer-wakes6 .ensures ∙ stirred-on (timerStirred (a .count .0) (a .pulse)) (c .before .four2 .result) _ (readFrom (a .d .now) (a .z))
+    (c .before .four2 .ensures))
 
 returns-19 : tie.Need-returns-19
 unfolding rowOf Wake.stirred stirredAs moved

@@ -7,10 +7,10 @@ use Rattle.explain.proofs.ticked.put_connectors.Statement.{statement}
 use Rattle.explain.proofs.ticked.put_connectors.Tie as tie
 
 abbrev Inv-loop : tie.InvT-loop
-Inv-loop out₀ at attached before now connectors n₀ k₀ out n k = k ≤ connectorCount
+Inv-loop out₀ at attached drove drives before now connectors n₀ k₀ out n k = k ≤ connectorCount
 
 abbrev μ-loop : tie.MeasureT-loop
-μ-loop out₀ at attached before now connectors n₀ k₀ out n k = connectorCount - k
+μ-loop out₀ at attached drove drives before now connectors n₀ k₀ out n k = connectorCount - k
 
 loop-holds : tie.Need-loop-holds Inv-loop μ-loop
 loop-holds c = search needs

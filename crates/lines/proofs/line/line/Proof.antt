@@ -11,7 +11,7 @@ use Rattle.card.specs.Change.{changed}
 use Rattle.card.specs.Context.{contextOf}
 use Rattle.card.specs.declared.context.Context.{Context}
 use Rattle.saved.specs.Record.{configWidth, savedTo}
-use Rattle.lines.specs.declared.grammar.Parsed.{Parsed}
+use Rattle.commands.specs.declared.grammar.Parsed.{Parsed}
 use Rattle.lines.specs.declared.decision.Decision.{Decision}
 use Rattle.lines.specs.Line.{shortestReply, decisionFor, lineDecision, lineOutcome, lineReply, replyAfter, storeAfter}
 use Rattle.lines.proofs.Replies.{reply-is}

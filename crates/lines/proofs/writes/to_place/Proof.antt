@@ -24,7 +24,8 @@ write-requires c κs = search needs
 returns : tie.Need-returns
 returns c =
     let v = c .before .before .before .before .args .v in
-    cc (same-decided _ (Pointer _) (Pointer v) silent (λ z. ap Pointer (mod-eq-of-lt (place-fits _ v (cells-most (c .before .before .before .before .args .size)) (judged-none v _ 4 z .1)))))
+    cc (same-decided _ (Pointer _) (Pointer v) silent
+    (λ z. ap Pointer (mod-eq-of-lt (place-fits _ v (cells-most (c .before .before .before .before .args .size)) (judged-none v _ 4 z .1)))))
 
 pub to-place-spec : {M : Type 1} → statement M
 to-place-spec =

@@ -8,7 +8,7 @@ use Rattle.lines.proofs.Decisions.{last-none, none-of, same-decided, wi
 use mathlib.Core.Bool.{not}
 use Rattle.card.specs.Address.{cellsFor}
 use Rattle.card.specs.Valid.{unusedSlot}
-use Rattle.lines.specs.declared.grammar.Command.the-variants.{SetSlots}
+use Rattle.commands.specs.declared.grammar.Command.the-variants.{SetSlots}
 use borrow.Author.Needs.{needs}
 use Rattle.lines.proofs.writes.to_slots.Statement.{statement}
 use Rattle.lines.proofs.writes.to_slots.Tie as tie

@@ -8,10 +8,10 @@ use Rattle.pldraw.proofs.page.put_bands.Statement.{statement}
 use Rattle.pldraw.proofs.page.put_bands.Tie as tie
 
 abbrev Inv-loop : tie.InvT-loop
-Inv-loop words s set y₀ r₀ t7 t8 t9 y r = (r ≤ mostRows) × (y ≤ 18 + 22 * r)
+Inv-loop out₀ words s set w₀ y₀ r₀ out w y r = (r ≤ mostRows) × (y ≤ 18 + 22 * r)
 
 abbrev μ-loop : tie.MeasureT-loop
-μ-loop words s set y₀ r₀ t7 t8 t9 y r = mostRows - r
+μ-loop out₀ words s set w₀ y₀ r₀ out w y r = mostRows - r
 
 loop-holds : tie.Need-loop-holds Inv-loop μ-loop
 loop-holds c = search needs
@@ -22,26 +22,8 @@ bit-of-requires c κs = search needs
 bit-requires : tie.Need-bit-requires Inv-loop μ-loop
 bit-requires c κs = search needs
 
-slice-aggregate-put-with : tie.Need-slice-aggregate-put-with Inv-loop μ-loop
-slice-aggregate-put-with c = search needs
-
-slice-aggregate-put-with-2 : tie.Need-slice-aggregate-put-with-2 Inv-loop μ-loop
-slice-aggregate-put-with-2 c = search needs
-
-put-with-requires : tie.Need-put-with-requires Inv-loop μ-loop
-put-with-requires c κs = search needs
-
-add-put-band : tie.Need-add-put-band Inv-loop μ-loop
-add-put-band c = search needs
-
-put-band-requires : tie.Need-put-band-requires Inv-loop μ-loop
-put-band-requires c κs = search needs
-
-slice-aggregate-put : tie.Need-slice-aggregate-put Inv-loop μ-loop
-slice-aggregate-put c = search needs
-
-put-requires : tie.Need-put-requires Inv-loop μ-loop
-put-requires c κs = search needs
+put-row-band-requires : tie.Need-put-row-band-requires Inv-loop μ-loop
+put-row-band-requires c κs = search needs
 
 add-y : tie.Need-add-y Inv-loop μ-loop
 add-y c = search needs
@@ -67,13 +49,7 @@ put-bands-spec =
     loop-holds
     bit-of-requires
     bit-requires
-    slice-aggregate-put-with
-    slice-aggregate-put-with-2
-    put-with-requires
-    add-put-band
-    put-band-requires
-    slice-aggregate-put
-    put-requires
+    put-row-band-requires
     add-y
     add-r
     loop-less

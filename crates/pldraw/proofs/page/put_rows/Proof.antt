@@ -8,10 +8,10 @@ use Rattle.pldraw.proofs.page.put_rows.Statement.{statement}
 use Rattle.pldraw.proofs.page.put_rows.Tie as tie
 
 abbrev Inv-loop : tie.InvT-loop
-Inv-loop card words s set y₀ r₀ y r = (r ≤ mostRows) × (y ≤ 18 + 22 * r)
+Inv-loop out₀ card words s set w₀ y₀ r₀ out w y r = (r ≤ mostRows) × (y ≤ 18 + 22 * r)
 
 abbrev μ-loop : tie.MeasureT-loop
-μ-loop card words s set y₀ r₀ y r = mostRows - r
+μ-loop out₀ card words s set w₀ y₀ r₀ out w y r = mostRows - r
 
 loop-holds : tie.Need-loop-holds Inv-loop μ-loop
 loop-holds c = search needs

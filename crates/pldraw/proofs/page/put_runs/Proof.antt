@@ -5,10 +5,10 @@ use Rattle.pldraw.proofs.page.put_runs.Statement.{statement}
 use Rattle.pldraw.proofs.page.put_runs.Tie as tie
 
 abbrev Inv-loop : tie.InvT-loop
-Inv-loop words s i start end last₀ t₀ t9 last t = (start ≤ t) × (t ≤ end)
+Inv-loop out₀ words s i start end w₀ last₀ t₀ tail out w last t = (start ≤ t) × (t ≤ end)
 
 abbrev μ-loop : tie.MeasureT-loop
-μ-loop words s i start end last₀ t₀ t9 last t = end - t
+μ-loop out₀ words s i start end w₀ last₀ t₀ tail out w last t = end - t
 
 loop-holds : tie.Need-loop-holds Inv-loop μ-loop
 loop-holds c = search needs

@@ -5,10 +5,10 @@ use Rattle.pldraw.proofs.page.put_strips.Statement.{statement}
 use Rattle.pldraw.proofs.page.put_strips.Tie as tie
 
 abbrev Inv-loop : tie.InvT-loop
-Inv-loop card words n set low start₀ y₀ t9 t10 t11 start y = (start ≤ n + 60) × (y ≤ 34 + 816 * start)
+Inv-loop out₀ card words n set low w₀ start₀ y₀ out w start y = (start ≤ n + 60) × (y ≤ 34 + 816 * start)
 
 abbrev μ-loop : tie.MeasureT-loop
-μ-loop card words n set low start₀ y₀ t9 t10 t11 start y = n - start
+μ-loop out₀ card words n set low w₀ start₀ y₀ out w start y = n - start
 
 loop-holds : tie.Need-loop-holds Inv-loop μ-loop
 loop-holds c = search needs
@@ -19,23 +19,8 @@ end-of-requires c κs = search needs
 is-wide-requires : tie.Need-is-wide-requires Inv-loop μ-loop
 is-wide-requires c κs = search needs
 
-slice-aggregate-put-with : tie.Need-slice-aggregate-put-with Inv-loop μ-loop
-slice-aggregate-put-with c = search needs
-
-slice-aggregate-put-with-2 : tie.Need-slice-aggregate-put-with-2 Inv-loop μ-loop
-slice-aggregate-put-with-2 c = search needs
-
-put-with-requires : tie.Need-put-with-requires Inv-loop μ-loop
-put-with-requires c κs = search needs
-
-put-strip-requires : tie.Need-put-strip-requires Inv-loop μ-loop
-put-strip-requires c κs = search needs
-
-slice-aggregate-put : tie.Need-slice-aggregate-put Inv-loop μ-loop
-slice-aggregate-put c = search needs
-
-put-requires : tie.Need-put-requires Inv-loop μ-loop
-put-requires c κs = search needs
+put-strip-at-requires : tie.Need-put-strip-at-requires Inv-loop μ-loop
+put-strip-at-requires c κs = search needs
 
 add-y : tie.Need-add-y Inv-loop μ-loop
 add-y c = search needs
@@ -64,12 +49,7 @@ put-strips-spec =
     loop-holds
     end-of-requires
     is-wide-requires
-    slice-aggregate-put-with
-    slice-aggregate-put-with-2
-    put-with-requires
-    put-strip-requires
-    slice-aggregate-put
-    put-requires
+    put-strip-at-requires
     add-y
     add-y-2
     add-start

@@ -5,25 +5,16 @@ use Rattle.pldraw.proofs.page.put_wave.Statement.{statement}
 use Rattle.pldraw.proofs.page.put_wave.Tie as tie
 
 abbrev Inv-loop : tie.InvT-loop
-Inv-loop words s i start end last₀ t₀ t11 t12 t13 t14 last t = (start ≤ t) × (t ≤ end)
+Inv-loop out₀ words s i start end last₀ w₀ t₀ tail tail₂ out last w t = (start ≤ t) × (t ≤ end)
 
 abbrev μ-loop : tie.MeasureT-loop
-μ-loop words s i start end last₀ t₀ t11 t12 t13 t14 last t = end - t
+μ-loop out₀ words s i start end last₀ w₀ t₀ tail tail₂ out last w t = end - t
 
 before-requires : tie.Need-before-requires Inv-loop μ-loop
 before-requires c κs = search needs
 
-slice-aggregate-put-with : tie.Need-slice-aggregate-put-with Inv-loop μ-loop
-slice-aggregate-put-with c = search needs
-
-slice-aggregate-put-with-2 : tie.Need-slice-aggregate-put-with-2 Inv-loop μ-loop
-slice-aggregate-put-with-2 c = search needs
-
-put-with-requires : tie.Need-put-with-requires Inv-loop μ-loop
-put-with-requires c κs = search needs
-
-put-y-requires : tie.Need-put-y-requires Inv-loop μ-loop
-put-y-requires c κs = search needs
+put-start-requires : tie.Need-put-start-requires Inv-loop μ-loop
+put-start-requires c κs = search needs
 
 loop-holds : tie.Need-loop-holds Inv-loop μ-loop
 loop-holds c = search needs
@@ -36,6 +27,21 @@ element-copy-out-bit c = search needs
 
 bit-requires : tie.Need-bit-requires Inv-loop μ-loop
 bit-requires c κs = search needs
+
+sub-put-step : tie.Need-sub-put-step Inv-loop μ-loop
+sub-put-step c = search needs
+
+put-step-requires : tie.Need-put-step-requires Inv-loop μ-loop
+put-step-requires c κs = search needs
+
+add-t : tie.Need-add-t Inv-loop μ-loop
+add-t c = search needs
+
+loop-less : tie.Need-loop-less Inv-loop μ-loop
+loop-less c = search needs
+
+loop-again : tie.Need-loop-again Inv-loop μ-loop
+loop-again c = search needs
 
 slice-aggregate-put-x : tie.Need-slice-aggregate-put-x Inv-loop μ-loop
 slice-aggregate-put-x c = search needs
@@ -52,33 +58,6 @@ slice-aggregate-put c = search needs
 put-requires : tie.Need-put-requires Inv-loop μ-loop
 put-requires c κs = search needs
 
-put-y-requires-2 : tie.Need-put-y-requires-2 Inv-loop μ-loop
-put-y-requires-2 c κs = search needs
-
-add-t : tie.Need-add-t Inv-loop μ-loop
-add-t c = search needs
-
-loop-less : tie.Need-loop-less Inv-loop μ-loop
-loop-less c = search needs
-
-loop-again : tie.Need-loop-again Inv-loop μ-loop
-loop-again c = search needs
-
-slice-aggregate-put-x-2 : tie.Need-slice-aggregate-put-x-2 Inv-loop μ-loop
-slice-aggregate-put-x-2 c = search needs
-
-sub-put-x-2 : tie.Need-sub-put-x-2 Inv-loop μ-loop
-sub-put-x-2 c = search needs
-
-put-x-requires-2 : tie.Need-put-x-requires-2 Inv-loop μ-loop
-put-x-requires-2 c κs = search needs
-
-slice-aggregate-put-2 : tie.Need-slice-aggregate-put-2 Inv-loop μ-loop
-slice-aggregate-put-2 c = search needs
-
-put-requires-2 : tie.Need-put-requires-2 Inv-loop μ-loop
-put-requires-2 c κs = search needs
-
 returns : tie.Need-returns Inv-loop μ-loop
 returns c = search needs
 
@@ -89,26 +68,19 @@ put-wave-spec =
     Inv-loop
     μ-loop
     before-requires
-    slice-aggregate-put-with
-    slice-aggregate-put-with-2
-    put-with-requires
-    put-y-requires
+    put-start-requires
     loop-holds
     mul-bit
     element-copy-out-bit
     bit-requires
+    sub-put-step
+    put-step-requires
+    add-t
+    loop-less
+    loop-again
     slice-aggregate-put-x
     sub-put-x
     put-x-requires
     slice-aggregate-put
     put-requires
-    put-y-requires-2
-    add-t
-    loop-less
-    loop-again
-    slice-aggregate-put-x-2
-    sub-put-x-2
-    put-x-requires-2
-    slice-aggregate-put-2
-    put-requires-2
     returns)

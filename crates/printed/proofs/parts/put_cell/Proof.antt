@@ -6,8 +6,8 @@ use mathlib.Core.List.{_++_}
 use native.Mathlib.Omega.{arith}
 use Rattle.cells.specs.declared.table.Row.{Row}
 use Rattle.card.specs.Address.{firstCell}
-use Rattle.lines.specs.declared.grammar.Slot.the-variants.{Y, Z}
-use Rattle.lines.specs.Grammar.{M-E=}
+use Rattle.commands.specs.declared.grammar.Slot.the-variants.{Y, Z}
+use Rattle.commands.specs.Grammar.{M-E=}
 use Rattle.printed.specs.Parts.{part, slotsText}
 use Rattle.printed.proofs.PartLaws.{Placed, placed-then, placed-as, LF, cca, cell-parts}
 use borrow.Author.Needs.{needs}

@@ -6,7 +6,7 @@ use native.Mathlib.Omega.{arith}
 use lib.ListN.{take}
 use borrow.Author.Needs.{needs}
 use Rattle.card.specs.Fresh.{noCell}
-use Rattle.lines.specs.Wiring.{cellCommands, commandsFrom}
+use Rattle.printed.specs.Wiring.{cellCommands, commandsFrom}
 use Rattle.printed.specs.Parts.{commandsText, cellMost}
 use Rattle.printed.proofs.PartLaws.{Placed, Written, written-none, written-next}
 use Rattle.printed.proofs.parts.put_cells.Statement.{statement}

@@ -4,8 +4,8 @@ use mathlib.Core.Path.{_≡_, ap}
 use mathlib.Core.Bool.{true}
 use native.Mathlib.Omega.{arith}
 use Rattle.card.specs.Address.{firstConnector}
-use Rattle.lines.specs.declared.grammar.Slot.the-variants.{Y, Z}
-use Rattle.lines.specs.Grammar.{M-E=}
+use Rattle.commands.specs.declared.grammar.Slot.the-variants.{Y, Z}
+use Rattle.commands.specs.Grammar.{M-E=}
 use Rattle.printed.specs.Parts.{part}
 use Rattle.printed.proofs.PartLaws.{Placed, placed-then, placed-as, LF, cca, connector-parts}
 use borrow.Author.Needs.{needs}

@@ -9,7 +9,7 @@ use lib.ListN.{take}
 use borrow.Author.Needs.{needs}
 use Rattle.card.specs.Address.{connectorCount}
 use Rattle.card.specs.Connectors.{noConnector}
-use Rattle.lines.specs.Wiring.{connectorCommands, commandsFrom}
+use Rattle.printed.specs.Wiring.{connectorCommands, commandsFrom}
 use Rattle.printed.specs.Parts.{commandsText, connectorMost}
 use Rattle.printed.proofs.PartLaws.{placed-as, Written, written-none, written-next}
 use Rattle.printed.proofs.parts.put_connectors.Statement.{statement}

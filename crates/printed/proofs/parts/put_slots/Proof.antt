@@ -6,9 +6,9 @@ use native.Mathlib.Omega.{arith}
 use borrow.Author.Tests.{not-true, not-false}
 use Rattle.cells.specs.declared.table.Row.{Row}
 use Rattle.cells.specs.Table.{rowOf}
-use Rattle.lines.specs.declared.grammar.Slot.the-variants.{X, Y, Z, F}
-use Rattle.lines.specs.Grammar.{CCB}
-use Rattle.lines.specs.Wiring.{cardLine}
+use Rattle.commands.specs.declared.grammar.Slot.the-variants.{X, Y, Z, F}
+use Rattle.commands.specs.Grammar.{CCB}
+use Rattle.commands.specs.Texts.{cardLine}
 use Rattle.printed.specs.Parts.{part}
 use Rattle.printed.proofs.PartLaws.{Placed, placed-then, placed-as, LF, pair, no-slots, slot-parts}
 use borrow.Author.Needs.{needs}

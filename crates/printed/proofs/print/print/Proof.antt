@@ -18,7 +18,8 @@ use Rattle.printed.proofs.print.print.Tie as tie
 whole : (c : tie.After-put-wiring) → length (c .put-wiring .last .0) ≡ textMost
 whole c =
     ap length (c .put-wiring .ensures .0)
-    ∙ length-sets _ 0 (wiringText (cellsFor (c .before .before .before .args .card .size)) (c .before .before .before .args .card)) ∙ length-replicate {A = ℕ} textMost 0
+    ∙ length-sets _ 0 (wiringText (cellsFor (c .before .before .before .args .card .size)) (c .before .before .before .args .card))
+    ∙ length-replicate {A = ℕ} textMost 0
 
 put-wiring-requires : tie.Need-put-wiring-requires
 put-wiring-requires c κs = search needs

@@ -6,8 +6,8 @@ use native.Mathlib.Nat.{zero-add}
 use native.Mathlib.Omega.{arith}
 use lib.ListN.{length, take}
 use lib.Seq.{sets}
-use Rattle.lines.specs.Grammar.{PM-E=}
-use Rattle.lines.specs.Wiring.{cellCommands, connectorCommands, commandsFrom}
+use Rattle.commands.specs.Grammar.{PM-E=}
+use Rattle.printed.specs.Wiring.{cellCommands, connectorCommands, commandsFrom}
 use Rattle.printed.specs.Parts.{commandsText, part, textMost}
 use Rattle.printed.specs.Print.{wiringText}
 use Rattle.printed.proofs.PartLaws.{Placed, placed-then, placed-as, LF, wiring-parts}

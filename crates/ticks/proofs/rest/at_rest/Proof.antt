@@ -7,8 +7,7 @@ use lib.Dec.{eqb}
 use lib.Pow.{pow-pos}
 use borrow.Author.Tests.{eqb-true, eq-eqb, not-false}
 use borrow.Author.Needs.{needs}
-use Rattle.cells.proofs.Laws.{or-left, or-right}
-use Rattle.cells.proofs.Rows.{and-left, and-right}
+use Rattle.words.proofs.Bools.{or-left, or-right, and-left, and-right, and-both}
 use Rattle.card.specs.declared.card.Card.{Card}
 use Rattle.card.specs.declared.card.Memory.{Memory}
 use Rattle.card.specs.Address.{cellsFor}
@@ -31,9 +30,6 @@ holds-still-requires : tie.Need-holds-still-requires
 holds-still-requires c κs = search needs
 
 -- the test of the words, of a memory whose words are those of n cells
-both : (a b : Bool) → a ≡ true → b ≡ true → (a && b) ≡ true
-both a b p q = rw (p, q)
-
 whole : (n o : ℕ) → eqb o (o % 2 ^ n) ≡ true → o < 2 ^ n
 whole n o e = subst (λ (x : ℕ). x < 2 ^ n) (sym (eqb-true o (o % 2 ^ n) e)) (mod-lt o (pow-pos n))
 
@@ -49,7 +45,7 @@ returns-2 c =
           let at = subst (λ (k : ℕ). AtRest k (a .card) (a .input)) (sym (z .cells-for .ensures .0)) rest in
           let s = rests-still n (a .card) (a .input) (i .if1 .left) at in
           let fits = eq-eqb (m .outputs) (m .outputs % 2 ^ n) (sym (mod-eq-of-lt (rest-fits n (a .card) (a .input) (i .if1 .left) at))) in
-          sym (ap₂ (λ (x y : Bool). not x || not y) (eq-eqb _ _ (s .edited)) (u .holds-still .ensures ∙ both _ _ fits (memory-steady m (s .memory))))
+          sym (ap₂ (λ (x y : Bool). not x || not y) (eq-eqb _ _ (s .edited)) (u .holds-still .ensures ∙ and-both _ _ fits (memory-steady m (s .memory))))
           ∙ c .if2 .taken,
     )
 

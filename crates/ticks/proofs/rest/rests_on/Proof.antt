@@ -5,7 +5,7 @@ use lib.Dec.{eqb}
 use borrow.Author.Tests.{eqb-true, eq-eqb, not-false}
 use native.Mathlib.Omega.{arith}
 use borrow.Author.Needs.{needs}
-use Rattle.cells.proofs.Laws.{or-left, or-right}
+use Rattle.words.proofs.Bools.{or-left, or-right}
 use Rattle.ticks.specs.declared.connectors.Lines.{Lines}
 use Rattle.ticks.specs.Tick
 use Rattle.ticks.proofs.FastPath.{steady-wires, rest-seen}
@@ -54,7 +54,8 @@ returns-2 c =
     let w = d .lines-in .result in
     let still = known d .0 in
     let lines = known d .1 in
-    let seen = rest-seen (a .n) (viewLast (a .n) m) (v .sees .result) (a .card .cells) (v .sees .ensures (a .n) (pre .0) (pre .1 .1 .1 .0) (pre .1 .1 .1 .0)) in (
+    let seen = rest-seen (a .n) (viewLast (a .n) m) (v .sees .result) (a .card .cells)
+    (v .sees .ensures (a .n) (pre .0) (pre .1 .1 .1 .0) (pre .1 .1 .1 .0)) in (
       λ e. still-rests (a .n) (a .card) (a .input) (omega (arith, c .all-rest .ensures .1, pre .0)) (pre .1 .1 .1 .0)
           (record {
             edited = pre .1 .1 .0;

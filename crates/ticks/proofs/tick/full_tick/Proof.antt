@@ -37,8 +37,11 @@ lines-in-requires c κs = search needs
 turn-each-requires : tie.Need-turn-each-requires
 turn-each-requires c κs =
     let s = c .before .before in
-    let n = s .before .cells-for .result in
-    (s .before .cells-for .ensures .1, subst (λ (v : Memory). FitsMemory n v) (sym (s .seen-memory .ensures)) (trim-fits n (s .before .before .before .before .args .card .memory)))
+    let n = s .before .cells-for .result in (
+      s .before .cells-for .ensures .1,
+      subst (λ (v : Memory). FitsMemory n v) (sym (s .seen-memory .ensures))
+          (trim-fits n (s .before .before .before .before .args .card .memory)),
+    )
 
 returns-2 : tie.Need-returns-2
 unfolding tick

@@ -32,7 +32,8 @@ returns-3 c h =
     let a = u .before .before .args in
     let o = a .w .outputs in
     let l = a .w .levels in
-    let rest = rest-seen (a .n) (view (a .n) 0 o o l) (c .before .sees .result) (a .cells) (c .before .sees .ensures (a .n) (search needs) (search needs) (search needs))
+    let rest = rest-seen (a .n) (view (a .n) 0 o o l) (c .before .sees .result) (a .cells)
+    (c .before .sees .ensures (a .n) (search needs) (search needs) (search needs))
     ∙ sym (c .all-rest .ensures .0) ∙ h in
     let edited : a .edited ≡ 0 = u .before .if1 .left in
     let words = steady-wires (a .w) (sym (u .unchanged .ensures) ∙ not-false _ (e .if2 .left)) in

@@ -26,7 +26,8 @@ returns c n room fits =
     let a = now .before .args in
     let sample = effectiveSample (a .input .sample) (a .input .attached) in
     c .drive .ensures
-    ∙ (λ k. linesOf (bitAt (now .sees .ensures n room (fits .0) (fits .0) k)) (bitAt (e .before .sees2 .ensures n room (fits .1) (fits .1) k)) (a .connectors) (e .effective .ensures k))
+    ∙ (λ k. linesOf (bitAt (now .sees .ensures n room (fits .0) (fits .0) k)) (bitAt (e .before .sees2 .ensures n room (fits .1) (fits .1) k))
+    (a .connectors) (e .effective .ensures k))
     ∙ lines-built _ _ (a .connectors) sample
 
 pub lines-in-spec : {M : Type 1} → statement M

@@ -15,7 +15,8 @@ quarters-requires c κs = search needs
 
 returns : tie.Need-returns
 returns c n room fits =
-    reads-views _ _ _ _ _ (c .before .before .sees .ensures n room (fits .0) (fits .1)) (c .before .sees2 .ensures n room (fits .1) (fits .2)) (c .quarters .ensures)
+    reads-views _ _ _ _ _ (c .before .before .sees .ensures n room (fits .0) (fits .1)) (c .before .sees2 .ensures n room (fits .1) (fits .2))
+    (c .quarters .ensures)
 
 pub words-last-spec : {M : Type 1} → statement M
 words-last-spec = tie.close (tie.spec sees-requires sees-requires-2 quarters-requires returns)

@@ -1,0 +1,7 @@
+-- The theorems over lists of calls.
+pub mod Honest
+pub mod Lists
+pub mod Reached
+pub mod Rest
+pub mod SaveLoad
+pub mod Sizes

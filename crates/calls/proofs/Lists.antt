@@ -1,0 +1,117 @@
+-- Demand 3 over every list of calls, lifted from one call to whole lists by one induction: every call keeps a card settled, and on a settled
+-- card quick and full ticks do the same.
+use Prim.Native.Nat.{ℕ}
+use mathlib.Core.Path.{_≡_, refl, sym, ap, _∙_, subst}
+use mathlib.Core.Bool.{Bool, true, false, cond}
+use mathlib.Core.List.{List, [], _∷_}
+use lib.Dec.{eqb, ltb}
+use lib.ListN.{length}
+use Rattle.card.specs.declared.card.Card.{Card}
+use Rattle.card.specs.declared.change.Change.the-variants.{Nothing}
+use Rattle.card.specs.declared.context.Context.{Context}
+use Rattle.card.specs.Change.{changed}
+use Rattle.card.specs.Context.{contextOf}
+use Rattle.card.specs.Fresh.{freshOf}
+use Rattle.card.specs.Untouched.{Edit}
+use Rattle.card.proofs.ChangeLaws.{changed-edit}
+use Rattle.ticks.specs.declared.tick.Input.{Input}
+use Rattle.ticks.specs.Tick
+use Rattle.ticks.specs.Settled.{Settled, AlikeTicks}
+use Rattle.ticks.proofs.Sleep.{fresh-settled, tick-settled, same-ticks, edit-settled, powered-settled}
+use Rattle.saved.specs.Record.{loadNumber}
+use Rattle.saved.proofs.Records.{loaded-by}
+use Rattle.commands.specs.declared.grammar.Parsed.{Parsed}
+use Rattle.commands.specs.declared.grammar.Parsed.the-variants.{Malformed, Elsewhere, Here}
+use Rattle.commands.specs.Grammar.{parse}
+use Rattle.lines.specs.Line.{decision, decisionFor, refused, shortestReply, lineDecision, lineChange, lineOutcome}
+use Rattle.calls.specs.Calls.{Call, afterCall, answer, end, answers}
+use Rattle.calls.specs.Calls.Call.{line, load, tick}
+use Rattle.calls.specs.Demand3.{SameCall, SameCalls, AlikeReply, AlikeReplies, Demand3}
+use Rattle.calls.specs.Demand3.SameCall.{same-line, same-load, same-tick}
+use Rattle.calls.specs.Demand3.SameCalls.{no-calls, more-calls}
+use Rattle.calls.specs.Demand3.AlikeReply.{alike-line, alike-load, alike-tick}
+use Rattle.calls.specs.Demand3.AlikeReplies.{no-replies, more-replies}
+
+-- ---- one line
+
+-- accepted or refused, a line is an edit
+pub line-edit : (n : ℕ) (c : Card) (text : List ℕ) (reply store : ℕ) → Edit n c (lineOutcome n c text reply store .card)
+unfolding lineOutcome
+line-edit n c text reply store = changed-edit n c (lineChange n c text reply store)
+
+-- a line that is refused changes nothing
+short-nothing : (n : ℕ) (x : Context) (b : Bool) (store : ℕ) (p : Parsed) → let d = cond b (refused 1) (decisionFor n x store p) in
+    eqb (d .k) 0 ≡ false → d .change ≡ Nothing
+unfolding decisionFor decision
+short-nothing n x true store p e = refl
+short-nothing n x false store Malformed e = refl
+short-nothing n x false store Elsewhere e = refl
+short-nothing n x false store (Here command) e = rw e
+
+pub refused-kept : (n : ℕ) (c : Card) (text : List ℕ) (reply store : ℕ) → eqb (lineOutcome n c text reply store .k) 0 ≡ false
+    → lineOutcome n c text reply store .card ≡ c
+unfolding changed lineDecision lineOutcome
+refused-kept n c text reply store e =
+    ap (changed n c) (short-nothing n (contextOf n c) (ltb reply shortestReply) store (parse n text) e)
+
+module _ (n : ℕ) where
+  -- ---- one call
+
+  load-settled : (c : Card) (b : Bool) (d : Card) → Settled n d → Settled n c → Settled n (cond b d c)
+  load-settled c true d p q = p
+  load-settled c false d p q = q
+
+  -- every call keeps a card settled
+  pub call-settled : (c : Card) (call : Call) → Settled n c → Settled n (afterCall n c call)
+  unfolding afterCall
+  call-settled c (line text reply store) s = edit-settled n c _ (line-edit n c text (length reply) (length store)) s
+  call-settled c (load bytes) s = rw (loaded-by n c bytes) (load-settled c (eqb (loadNumber n bytes) 0) _ (powered-settled n _ _ _ _) s)
+  call-settled c (tick full input) s = tick-settled n full c input s
+
+  -- two ticks of any kinds do the same on a settled card
+  pub ticks-alike : (c : Card) (full quick : Bool) (input : Input) → Settled n c
+      → AlikeTicks (Tick.tick n full c input) (Tick.tick n quick c input)
+  ticks-alike c true true input s = record { card = refl; ran = refl; driven = refl; cells = refl }
+  ticks-alike c false false input s = record { card = refl; ran = refl; driven = refl; cells = refl }
+  ticks-alike c false true input s = same-ticks n c input s
+  ticks-alike c true false input s =
+      let a = same-ticks n c input s in
+      record { card = sym (a .card); ran = sym (a .ran); driven = sym (a .driven); cells = sym (a .cells) }
+
+  same-after : (c : Card) {a b : Call} → SameCall a b → Settled n c → afterCall n c a ≡ afterCall n c b
+  unfolding afterCall
+  same-after c (same-line text reply other store another p q) s = λ i. lineOutcome n c text (p i) (q i) .card
+  same-after c (same-load bytes) s = refl
+  same-after c (same-tick full quick input) s = ticks-alike c full quick input s .card
+
+  same-answer : (c : Card) {a b : Call} → SameCall a b → Settled n c → AlikeReply (answer n c a) (answer n c b)
+  unfolding answer
+  same-answer c (same-line text reply other store another p q) s = rw (p, q) (alike-line _ _ _)
+  same-answer c (same-load bytes) s = alike-load _
+  same-answer c (same-tick full quick input) s =
+      let a = ticks-alike c full quick input s in
+      alike-tick (a .ran) (a .driven) (a .cells)
+
+  -- ---- lists
+
+  -- from one settled card on
+  pub same-lists : (c : Card) {calls others : List Call} → SameCalls calls others → Settled n c
+      → (end n c calls ≡ end n c others) × AlikeReplies (answers n c calls) (answers n c others)
+  unfolding end answers
+  same-lists c no-calls s = (refl, no-replies)
+  same-lists c (more-calls {a = a} {b = b} {s = before} {t = t} p ps) s =
+      let e = same-after c p s in
+      let rest = same-lists (afterCall n c a) ps (call-settled c a s) in (
+        rest .0 ∙ ap (λ (d : Card). end n d t) e,
+        more-replies (same-answer c p s) (subst (λ (d : Card). AlikeReplies (answers n (afterCall n c a) before) (answers n d t)) e (rest .1)),
+      )
+
+  pub demand3 : Demand3 n
+  unfolding Demand3
+  demand3 calls others same = same-lists (freshOf n) same (fresh-settled n)
+
+  -- every card that a list reaches is settled
+  pub reached-settled : (c : Card) (calls : List Call) → Settled n c → Settled n (end n c calls)
+  unfolding end
+  reached-settled c [] s = s
+  reached-settled c (call ∷ calls) s = reached-settled (afterCall n c call) calls (call-settled c call s)

@@ -1,0 +1,55 @@
+-- Document 01, "Lists of calls": calls of any kind in any order, each on the card that the one before it returned, over the number n of cells. Built from the definitions
+-- that the contracts of `line`, `load`, `full_tick` and `quick_tick` cite.
+use Prim.Native.Nat.{ℕ}
+use mathlib.Core.Bool.{Bool, _&&_, cond}
+use mathlib.Core.List.{List, [], _∷_}
+use lib.Dec.{eqb}
+use lib.ListN.{length}
+use Rattle.card.specs.declared.card.Card.{Card}
+use Rattle.ticks.specs.declared.tick.Input.{Input}
+use Rattle.ticks.specs.declared.tick.Answer.{Answer}
+use Rattle.ticks.specs.Tick
+use Rattle.saved.specs.Record.{configWidth, recordOf, loadNumber, loaded}
+use Rattle.lines.specs.Line
+use Rattle.lines.specs.Line.{lineOutcome}
+
+-- a line with its text and the two buffers as lent, a load of any bytes, a tick of either kind with what comes in with it
+pub data Call : Type 0 where
+  line : (text reply store : List ℕ) → Call
+  load : (bytes : List ℕ) → Call
+  tick : (full : Bool) (input : Input) → Call
+
+-- what each call answers: of a line its number, the reply (with its length) and the bytes that it saved; of a load its number; of a tick its
+-- answer
+pub data Reply : Type 0 where
+  lineReply : (k : ℕ) (reply saved : List ℕ) → Reply
+  loadReply : (k : ℕ) → Reply
+  tickReply : (answer : Answer) → Reply
+
+module _ (n : ℕ) where
+  -- "the bytes that `36SS Z` wrote"
+  unfoldable pub savedBytes : Card → (text : List ℕ) → (reply store : ℕ) → List ℕ
+  savedBytes c text reply store =
+      cond (eqb (lineOutcome n c text reply store .k) 0 && lineOutcome n c text reply store .response .saves) (recordOf n configWidth c) []
+
+  -- the card after a call, and the call's answer
+  unfoldable pub afterCall : Card → Call → Card
+  afterCall c (line text reply store) = lineOutcome n c text (length reply) (length store) .card
+  afterCall c (load bytes) = loaded n c bytes
+  afterCall c (tick full input) = Tick.tick n full c input .card
+
+  unfoldable pub answer : Card → Call → Reply
+  answer c (line text reply store) =
+      lineReply (lineOutcome n c text (length reply) (length store) .k) (Line.lineReply n c text (length reply) (length store))
+      (savedBytes c text (length reply) (length store))
+  answer c (load bytes) = loadReply (loadNumber n bytes)
+  answer c (tick full input) = tickReply (Tick.tick n full c input .answer)
+
+  -- a list of calls: the card at its end, and the answers
+  unfoldable pub end : Card → List Call → Card
+  end c [] = c
+  end c (call ∷ calls) = end (afterCall c call) calls
+
+  unfoldable pub answers : Card → List Call → List Reply
+  answers c [] = []
+  answers c (call ∷ calls) = answer c call ∷ answers (afterCall c call) calls

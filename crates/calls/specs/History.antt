@@ -1,0 +1,90 @@
+-- Document 01, "Lists of calls": ""Who wakes" goes by the calls made since the last tick that ran, or since the start, and by what that tick
+-- read." What a list of calls has edited, what its last tick read and what its last ticks were, said of the calls and not of the card's own
+-- fields; and who wakes behind it.
+use Prim.Native.Nat.{ℕ, _<_}
+use mathlib.Core.Path.{_≡_}
+use mathlib.Core.Bool.{Bool, true, false, _||_, cond}
+use mathlib.Core.List.{List, [], _∷_}
+use lib.Dec.{eqb}
+use lib.ListN.{length, getD}
+use Rattle.words.specs.Bits.{bitAt}
+use Rattle.cells.specs.declared.table.Slots.{Slots}
+use Rattle.cells.specs.State.{stateOf}
+use Rattle.cells.specs.Wake.{wakes}
+use Rattle.card.specs.declared.card.Card.{Card}
+use Rattle.card.specs.declared.card.Memory.{Memory}
+use Rattle.card.specs.Change.{editsCell}
+use Rattle.card.specs.Fresh.{noCell, noMemory, freshOf}
+use Rattle.ticks.specs.declared.tick.Input.{Input}
+use Rattle.ticks.specs.Reading.{slotsRead}
+use Rattle.ticks.specs.Tick
+use Rattle.ticks.specs.Tick.{trimmed, moved, readIn}
+use Rattle.saved.specs.Record.{loadNumber}
+use Rattle.lines.specs.Line.{lineChange}
+use Rattle.calls.specs.Calls.{Call, afterCall, end}
+use Rattle.calls.specs.Calls.Call.{line, load, tick}
+
+-- the readings of four slots by their addresses: slots may be wired anew after the tick
+abbrev pub Readings : Type 0
+Readings = List ℕ → Slots
+
+-- "Everything before the first tick counts as low": every level, and every level before it
+unfoldable pub lowReadings : Readings
+lowReadings = slotsRead (λ b. false) (λ b. false)
+
+module _ (n : ℕ) where
+  -- ---- which cells are edited
+
+  -- whether cell i is edited after a call, given whether it was before: a line edits what its change edits, and a refused one changes nothing; a
+  -- tick that ran clears the edits, an accepted load sets them all
+  unfoldable pub editedNext : Card → Call → ℕ → Bool → Bool
+  editedNext c (line text reply store) i was =
+      was || editsCell n c (lineChange n c text (length reply) (length store)) i
+  editedNext c (load bytes) i was = cond (eqb (loadNumber n bytes) 0) true was
+  editedNext c (tick full input) i was = cond (Tick.tick n full c input .answer .ran) false was
+
+  -- whether cell i was edited since the last tick that ran, or since the start of the list
+  unfoldable pub editedSince : Card → List Call → ℕ → Bool → Bool
+  editedSince c [] i was = was
+  editedSince c (call ∷ calls) i was = editedSince (afterCall n c call) calls i (editedNext c call i was)
+
+  -- ---- what the last tick that ran read
+
+  -- after a call: a tick that ran is the last that read; an accepted load starts anew; nothing else counts
+  unfoldable pub readNext : Card → Call → ℕ → Readings → Readings
+  readNext c (line text reply store) i was = was
+  readNext c (load bytes) i was = cond (eqb (loadNumber n bytes) 0) lowReadings was
+  readNext c (tick full input) i was = cond (Tick.tick n full c input .answer .ran) (readIn n full c input i) was
+
+  -- what a reader in position i read in the last tick that ran
+  unfoldable pub readSince : Card → List Call → ℕ → Readings → Readings
+  readSince c [] i was = was
+  readSince c (call ∷ calls) i was = readSince (afterCall n c call) calls i (readNext c call i was)
+
+  -- ---- "Who wakes", said of a list
+
+  -- behind any list of calls from a fresh card, the set that a quick tick on the card's own clock answers has a cell exactly where the rules hold
+  -- of the calls since the last tick that ran, or since the start, of what the cell's slots read now, and of what they read in that tick
+  unfoldable pub WhoWakes : Type 0
+  WhoWakes = (calls : List Call) (input : Input) (i : ℕ) → i < n
+      → let c = end n (freshOf n) calls in
+      let cell = getD (c .cells) i noCell in
+      input .code ≡ c .trigger
+      → bitAt (Tick.tick n false c input .answer .woken) i
+      ≡ wakes (cell .kind) (stateOf cell) (editedSince (freshOf n) calls i false) (readIn n false c input i (cell .slots))
+      (readSince (freshOf n) calls i lowReadings (cell .slots))
+
+  -- ---- what the last ticks were
+
+  -- a tick that ran comes before the earlier ones; an accepted load starts anew; nothing else counts
+  unfoldable pub lastNext : Card → Call → Memory → Memory
+  lastNext c (line text reply store) was = was
+  lastNext c (load bytes) was = cond (eqb (loadNumber n bytes) 0) noMemory was
+  lastNext c (tick full input) was =
+      let a = Tick.tick n full c input .answer in
+      cond (a .ran) (moved (trimmed n was) (a .driven) (a .cells) (Tick.lines n c input .levels)) was
+
+  -- the cell words of the last three ticks that ran, the levels of the last two, and the driven word of the last
+  unfoldable pub lastSince : Card → List Call → Memory → Memory
+  lastSince c [] was = was
+  lastSince c (call ∷ calls) was = lastSince (afterCall n c call) calls (lastNext c call was)

@@ -1,0 +1,9 @@
+-- What a reader must believe, in the order of document 01.
+pub mod Calls
+pub mod Demand3
+pub mod History
+pub mod Rest
+pub mod SaveLoad
+pub mod Sizes
+pub mod Replies
+pub mod Box

@@ -1,0 +1,17 @@
+-- `lines::pairs::number_from` meets its contract: past the end there is no digit.
+use Rattle.commands.proofs.Words.{number-past}
+use borrow.Author.Needs.{needs}
+use Rattle.commands.proofs.pairs.number_from.Statement.{statement}
+use Rattle.commands.proofs.pairs.number_from.Tie as tie
+
+number-at-requires : tie.Need-number-at-requires
+number-at-requires c κs = search needs
+
+returns : tie.Need-returns
+returns c = search needs
+
+returns-2 : tie.Need-returns-2
+returns-2 c = number-past _ _ (c .if1 .left)
+
+pub number-from-spec : {M : Type 1} → statement M
+number-from-spec = tie.close (tie.spec number-at-requires returns returns-2)

@@ -1,0 +1,81 @@
+-- `why::cell::clock_as` meets its contract: in each arm the family is known, and the definition answers by it.
+use borrow.Author.Needs.{needs}
+use Rattle.why.proofs.cell.clock_as.Statement.{statement}
+use Rattle.why.proofs.cell.clock_as.Tie as tie
+
+enum-told : tie.Need-enum-told
+enum-told c = search needs
+
+enum-told-2 : tie.Need-enum-told-2
+enum-told-2 c = search needs
+
+enum-told-3 : tie.Need-enum-told-3
+enum-told-3 c = search needs
+
+enum-known-class : tie.Need-enum-known-class
+enum-known-class c = search needs
+
+flop-clock-requires : tie.Need-flop-clock-requires
+flop-clock-requires c κs = search needs
+
+enum-told-4 : tie.Need-enum-told-4
+enum-told-4 c = search needs
+
+timer-clock-requires : tie.Need-timer-clock-requires
+timer-clock-requires c κs = search needs
+
+enum-told-5 : tie.Need-enum-told-5
+enum-told-5 c = search needs
+
+timer-clock-requires-2 : tie.Need-timer-clock-requires-2
+timer-clock-requires-2 c κs = search needs
+
+enum-known-class-2 : tie.Need-enum-known-class-2
+enum-known-class-2 c = search needs
+
+counter-clock-requires : tie.Need-counter-clock-requires
+counter-clock-requires c κs = search needs
+
+returns : tie.Need-returns
+returns c = search needs
+
+returns-2 : tie.Need-returns-2
+returns-2 c = search needs
+
+returns-3 : tie.Need-returns-3
+returns-3 c = search needs
+
+returns-4 : tie.Need-returns-4
+returns-4 c = rw (c .before .before .class .given .1, c .flop-clock .ensures)
+
+returns-5 : tie.Need-returns-5
+returns-5 c = rw (c .before .enum-told4 .given .1, c .timer-clock .ensures)
+
+returns-6 : tie.Need-returns-6
+returns-6 c = rw (c .before .enum-told5 .given .1, c .timer-clock2 .ensures)
+
+returns-7 : tie.Need-returns-7
+returns-7 c = rw (c .before .before .class2 .given .1, c .counter-clock .ensures)
+
+pub clock-as-spec : {M : Type 1} → statement M
+clock-as-spec =
+    tie.close
+    (tie.spec
+    enum-told
+    enum-told-2
+    enum-told-3
+    enum-known-class
+    flop-clock-requires
+    enum-told-4
+    timer-clock-requires
+    enum-told-5
+    timer-clock-requires-2
+    enum-known-class-2
+    counter-clock-requires
+    returns
+    returns-2
+    returns-3
+    returns-4
+    returns-5
+    returns-6
+    returns-7)
