@@ -127,6 +127,20 @@ static void large(void)
     free(old);
 }
 
+/* What depends on a line: TTL0 with cell 32 on its inverse and BNC1 from cell 32, a push-pull line, and places that are no connector's. */
+static void survey(void)
+{
+    trigger_card card = trigger_fresh_large();
+    must(line(&card, "M E=32", TRIGGER_REPLY, 0) == 0 && line(&card, "36CCA Y=5", TRIGGER_REPLY, 0) == 0, "an AND2 in cell 32");
+    must(line(&card, "36CCB X=105 Y=64", TRIGGER_REPLY, 0) == 0, "the inverse of TTL0");
+    must(line(&card, "M E=33", TRIGGER_REPLY, 0) == 0 && line(&card, "36CCA Z=32", TRIGGER_REPLY, 0) == 0, "BNC1 from cell 32");
+    trigger_surveyed back = trigger_survey(card, 41), front = trigger_survey(card, 33), none = trigger_survey(card, 49);
+    must(back.k == 0 && back.cells == UINT32_C(0x80000000) && back.connectors == 0x0101, "what depends on TTL0");
+    must(front.k == 0 && front.cells == 0 && front.connectors == 0, "nothing depends on a push-pull line");
+    must(none.k == 5 && none.cells == 0 && none.connectors == 0, "no connector");
+    must(trigger_survey(card, UINT64_MAX).k == 5 && trigger_survey(card, UINT64_C(0x100000029)).k == 5, "a place past all");
+}
+
 int main(void)
 {
     trigger_card card = trigger_fresh();
@@ -150,6 +164,7 @@ int main(void)
     must(convert(TRIGGER_RECORD, TRIGGER_OLD_RECORD) == 14 && convert(0, TRIGGER_RECORD) == 14, "sevens are no record to convert");
     must(convert(TRIGGER_RECORD, TRIGGER_OLD_RECORD - 1) == 1 && convert(TRIGGER_OLD_RECORD, 0) == 1, "a buffer with no room for the result");
     there_and_back(trigger_fresh());
+    survey();
     large();
     return faults == 0 ? 0 : 1;
 }

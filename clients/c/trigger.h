@@ -130,6 +130,16 @@ typedef struct {
     size_t len;
 } trigger_converted;
 
+/*
+ * 0, or 5 for a place that is no connector's; and what depends on the connector: a word of the cells, bit 0 of cell 1, and one of the connectors, in the
+ * order of the sample.
+ */
+typedef struct {
+    uint8_t k;
+    uint32_t cells;
+    uint16_t connectors;
+} trigger_surveyed;
+
 #ifdef __cplusplus
 extern "C" {
 #endif
@@ -179,6 +189,12 @@ trigger_printed trigger_print(trigger_card card, uint8_t *buffer, size_t buffer_
  * stays as it was.
  */
 trigger_converted trigger_convert(const uint8_t *bytes, size_t bytes_len, uint8_t *buffer, size_t buffer_len);
+
+/*
+ * What depends on the connector at a place, 33 to 48: what a change of its line can reach, the connector itself included unless it is push-pull. Nothing else
+ * can tell whether the line changed. The words are an upper bound: what is in them need not move. Another place gives 5 and zero words.
+ */
+trigger_surveyed trigger_survey(trigger_card card, uint64_t place);
 
 #ifdef __cplusplus
 }
@@ -257,6 +273,11 @@ TRIGGER_AT(trigger_printed, len, 8);
 TRIGGER_SIZE(trigger_converted, 16);
 TRIGGER_AT(trigger_converted, k, 0);
 TRIGGER_AT(trigger_converted, len, 8);
+
+TRIGGER_SIZE(trigger_surveyed, 12);
+TRIGGER_AT(trigger_surveyed, k, 0);
+TRIGGER_AT(trigger_surveyed, cells, 4);
+TRIGGER_AT(trigger_surveyed, connectors, 8);
 
 #undef TRIGGER_AT
 #undef TRIGGER_SIZE

@@ -40,6 +40,15 @@ pub const TEXT: usize = 4611;
 // The longest reply, which is also the fewest bytes that the library takes for a reply buffer.
 const REPLY: usize = 16;
 
+/// What depends on the line of a connector: an upper bound, since what is in it need not move.
+#[derive(Clone, Copy, Debug, PartialEq, Eq)]
+pub struct Dependents {
+    /// The cells, bit 0 of cell 1.
+    pub cells: u32,
+    /// The connectors, in the order of the sample.
+    pub connectors: u16,
+}
+
 /// The number of a refusal; docs/MANUAL.md says what each means. It displays as plrun prints it, `:N-9`.
 #[derive(Clone, Copy, Debug, PartialEq, Eq)]
 pub struct Refusal(NonZeroU8);
@@ -206,6 +215,18 @@ impl Card {
         let printed = unsafe { raw::trigger_print(self.0, buffer.as_mut_ptr(), buffer.len()) };
         accepted(printed.k)?;
         Ok(str::from_utf8(&buffer[..printed.len]).expect("a wiring is ASCII"))
+    }
+
+    /// What depends on the connector at a place, 33 to 48: what a change of its line can reach, the connector itself included unless it is push-pull.
+    /// Nothing else can tell whether the line changed. 5 for another place.
+    #[inline]
+    pub fn survey(&self, place: u64) -> Result<Dependents, Refusal> {
+        let surveyed = unsafe { raw::trigger_survey(self.0, place) };
+        accepted(surveyed.k)?;
+        Ok(Dependents {
+            cells: surveyed.cells,
+            connectors: surveyed.connectors,
+        })
     }
 
     /// The cells, from cell 1 on: sixteen or thirty-two.

@@ -129,6 +129,14 @@ pub struct Converted {
     pub len: usize,
 }
 
+// crates/survey/src/lib.rt
+#[repr(C)]
+pub struct Surveyed {
+    pub k: u8,
+    pub cells: u32,
+    pub connectors: u16,
+}
+
 // A slice of the library is a pointer and a length. Every call takes every value; what the caller sees to is that each slice is valid, and that none
 // that is written overlaps another.
 #[link(name = "trigger", kind = "static")]
@@ -155,6 +163,7 @@ extern "C" {
         buffer: *mut u8,
         buffer_len: usize,
     ) -> Converted;
+    pub fn trigger_survey(card: Card, place: u64) -> Surveyed;
 }
 
 // The size of a struct, and where each of its fields lies.
@@ -176,3 +185,4 @@ layout!(Answered: 592, card 0, k 576, len 584);
 layout!(Loaded: 584, card 0, k 576);
 layout!(Printed: 16, k 0, len 8);
 layout!(Converted: 16, k 0, len 8);
+layout!(Surveyed: 12, k 0, cells 4, connectors 8);

@@ -11,12 +11,15 @@ ghost use Rattle.saved.specs.Record.{loadNumber, loaded};
 ghost use Rattle.convert.specs.Convert.{convertNumber, convertLength, convertedTo};
 ghost use Rattle.lines.specs.Line.{shortestReply, lineResult, resultOf};
 ghost use Rattle.printed.specs.Print.{printNumber, printLength, printedTo};
+ghost use Rattle.survey.specs.Survey.{Survey};
 use card::card::Card;
 use card::limits::LARGE;
+use card::limits::Number;
 use convert::Converted;
 use lines::line::Answered;
 use printed::print::Printed;
 use saved::record::Loaded;
+use survey::Surveyed;
 use ticks::tick::Input;
 use ticks::tick::Ticked;
 
@@ -103,4 +106,12 @@ pub extern "C" fn trigger_convert(bytes: &[u8], buffer: &mut [u8]) -> Converted
     ensures { λ r. ⌜ r .len ≤ length (now (buffer .exit)) ⌝ }
 {
     convert::convert(bytes, buffer)
+}
+
+// What depends on the connector at a place, 33 to 48: the smallest set of cells and connectors that a change of its line can reach. 5 for another place.
+#[no_mangle]
+pub extern "C" fn trigger_survey(card: Card, place: Number) -> Surveyed
+    ensures { λ r. ⌜ Survey (cellsFor (card .size)) card place r ⌝ }
+{
+    survey::dependents(card, place)
 }

@@ -1,0 +1,147 @@
+// What depends on each line, for the card that an input leaves: a row for each connector that something else depends on, and behind these, for each output that
+// something else moves, the lines that can reach it. The second rows are the columns of the first: what is in no row is in no column.
+ghost use Prim.Native.Nat.{_≤_, _<_};
+use card::card::Card;
+use card::limits::Number;
+use libc::STDIN_FILENO;
+use libc::STDOUT_FILENO;
+use ticks::view::sees;
+
+// A cell and a connector are told by their bases: the first of the cells, of the connectors and of those on the backplane, and the one behind the last.
+const FIRST_CELL: u32 = 1;
+
+const FIRST: u32 = 33;
+
+const BACK: u32 = 41;
+
+const END: u32 = 49;
+
+// The bases of the cells in a set, and those of the connectors.
+const CELL_BASES: u64 = 0x1_ffff_fffe;
+
+const LINE_BASES: u64 = 0x1_fffe_0000_0000;
+
+fn put(text: &[u8]) {
+    io::write_all(STDOUT_FILENO, text);
+}
+
+fn put_number(n: u32) {
+    io::print_decimal(STDOUT_FILENO, n as u64);
+}
+
+// A cell by its number, a connector by its name.
+fn put_name(b: u32) {
+    if b < FIRST {
+        put_number(b);
+        return;
+    }
+    if b < BACK {
+        put(b"BNC");
+        put_number(b - 32);
+        return;
+    }
+    put(b"TTL");
+    put_number(b - BACK);
+}
+
+// A name behind a blank.
+fn put_part(b: u32) {
+    put(b" ");
+    put_name(b);
+}
+
+// The names in a set, from one base up to another.
+fn put_names(set: u64, first: u32, end: u32)
+    requires { ⌜ first ≤ end ⌝ }
+    requires { ⌜ end ≤ 64 ⌝ }
+{
+    for b in first..end {
+        if words::bit(set, b) {
+            put_part(b);
+        }
+    }
+}
+
+// What depends on a connector besides itself.
+fn others(card: Card, b: u32) -> u64
+    requires { ⌜ b < 64 ⌝ }
+{
+    let s = survey::dependents(card, b as Number);
+    let set = sees(0, s.cells, s.cells, s.connectors);
+    words::with_set(set, b) ^ words::with_set(0, b)
+}
+
+// The row of a connector, where something depends on it. Whether it does.
+fn put_row(card: Card, b: u32) -> bool
+    requires { ⌜ b < 64 ⌝ }
+{
+    let set = others(card, b);
+    if set == 0 {
+        return false;
+    }
+    put_name(b);
+    put(b":");
+    if (set & CELL_BASES) != 0 {
+        put(b" cells");
+        put_names(set, FIRST_CELL, FIRST);
+        if (set & LINE_BASES) != 0 {
+            put(b";");
+        }
+    }
+    put_names(set, FIRST, END);
+    put(b"\n");
+    true
+}
+
+// The rows of all connectors. Whether there are any.
+fn put_rows(card: Card) -> bool {
+    let mut any = false;
+    for b in FIRST..END {
+        if put_row(card, b) {
+            any = true;
+        }
+    }
+    any
+}
+
+// The other lines that can reach a connector. There are none unless it is an output.
+fn lines_to(card: Card, b: u32) -> u64
+    requires { ⌜ b < 64 ⌝ }
+{
+    let mut set: u64 = 0;
+    for a in FIRST..END {
+        if words::bit(others(card, a), b) {
+            set = words::with_set(set, a);
+        }
+    }
+    set
+}
+
+fn put_column(card: Card, b: u32)
+    requires { ⌜ b < 64 ⌝ }
+{
+    let set = lines_to(card, b);
+    if set == 0 {
+        return;
+    }
+    put_name(b);
+    put(b" <-");
+    put_names(set, FIRST, END);
+    put(b"\n");
+}
+
+fn put_columns(card: Card) {
+    for b in FIRST..END {
+        put_column(card, b);
+    }
+}
+
+fn main() {
+    let run = runner::run_from(STDIN_FILENO, runner::QUIET);
+    let card = run.card;
+    if put_rows(card) {
+        put_columns(card);
+    } else {
+        put(b"Nothing depends on any line.\n");
+    }
+}

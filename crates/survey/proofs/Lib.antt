@@ -1,0 +1,4 @@
+pub mod Outside
+pub mod Shown
+pub mod Smallest
+pub mod Ticks

@@ -1,0 +1,82 @@
+-- `survey::followers` meets its contract: after j turns the word has the first j connectors.
+use Prim.Native.Nat.{ℕ, _-_, _≤_, zero-le}
+use mathlib.Core.Path.{_≡_, refl, sym, ap, _∙_}
+use mathlib.Core.Bool.{Bool}
+use native.Mathlib.Omega.{arith}
+use lib.ListN.{getD}
+use borrow.Author.Needs.{needs}
+use Rattle.words.specs.Bits.{bitAt, wordOf}
+use Rattle.words.proofs.Laws.{built-next, built-fits}
+use Rattle.card.specs.Address.{connectorCount}
+use Rattle.card.specs.Connectors.{noConnector}
+use Rattle.survey.specs.Survey.{drivenFrom}
+use Rattle.survey.proofs.followers.Statement.{statement}
+use Rattle.survey.proofs.followers.Tie as tie
+
+abbrev Inv-loop : tie.InvT-loop
+Inv-loop set connectors w₀ j₀ w j = (j ≤ connectorCount) × (w ≡ wordOf (λ j. drivenFrom (bitAt set) (getD connectors j noConnector)) j)
+
+abbrev μ-loop : tie.MeasureT-loop
+μ-loop set connectors w₀ j₀ w j = connectorCount - j
+
+loop-holds : tie.Need-loop-holds Inv-loop μ-loop
+unfolding wordOf
+loop-holds c = (zero-le, refl)
+
+cast-driven-from : tie.Need-cast-driven-from Inv-loop μ-loop
+cast-driven-from c = search needs
+
+mul-driven-from : tie.Need-mul-driven-from Inv-loop μ-loop
+mul-driven-from c = search needs
+
+array-copy-out-driven-from : tie.Need-array-copy-out-driven-from Inv-loop μ-loop
+array-copy-out-driven-from c = search needs
+
+driven-from-requires : tie.Need-driven-from-requires Inv-loop μ-loop
+driven-from-requires c κs = search needs
+
+pushed-requires : tie.Need-pushed-requires Inv-loop μ-loop
+pushed-requires c κs = (search needs, built-fits _ _ _ (c .before .before .before .loop .inv .1))
+
+add-j : tie.Need-add-j Inv-loop μ-loop
+add-j c = search needs
+
+loop-less : tie.Need-loop-less Inv-loop μ-loop
+loop-less c = search needs
+
+loop-again : tie.Need-loop-again Inv-loop μ-loop
+loop-again c =
+    let l = c .before .before .before .before .loop in
+    let a = c .before .before .before .before .before .args in
+    let f : ℕ → Bool = λ j. drivenFrom (bitAt (a .set)) (getD (a .t1) j noConnector) in
+    (omega arith, built-next f (l .j) (l .w) _ _ (l .inv .1) (c .before .driven-from .ensures) (c .pushed .ensures))
+
+cast-result : tie.Need-cast-result Inv-loop μ-loop
+cast-result c =
+    let l = c .before .loop in
+    let end : l .j ≡ connectorCount = omega arith in
+    record { fits = built-fits _ connectorCount _ (rw end at (l .inv .1)) }
+
+returns : tie.Need-returns Inv-loop μ-loop
+returns c =
+    let l = c .before .loop in
+    let end : l .j ≡ connectorCount = omega arith in
+    rw end at (l .inv .1)
+
+pub followers-spec : {M : Type 1} → statement M
+followers-spec =
+    tie.close
+    (tie.spec
+    Inv-loop
+    μ-loop
+    loop-holds
+    cast-driven-from
+    mul-driven-from
+    array-copy-out-driven-from
+    driven-from-requires
+    pushed-requires
+    add-j
+    loop-less
+    loop-again
+    cast-result
+    returns)

@@ -1,0 +1,6 @@
+-- What a reader must believe, in the order of document 02, 11.
+pub mod Survey
+pub mod Unreached
+pub mod Examples
+-- Another view of the set, which the code and the examples take: laws say that they agree.
+pub mod Rounds
