@@ -9,6 +9,8 @@
  * written ends in one. What a length leaves no room for is refused, never written.
  *
  * `k` is 0, or the number of the refusal; docs/MANUAL.md says what each means. A refused call leaves card and store as they were.
+ *
+ * No call takes more than 6,000 bytes of stack on x86-64, on a card of either size (measured by bench/stack; docs/PERFORMANCE.md has each call).
  */
 #ifndef TRIGGER_H
 #define TRIGGER_H

@@ -3,7 +3,7 @@ ghost use mathlib.Core.Path.{_≡_};
 ghost use Prim.Native.Nat.{_-_, _^_, _<_, _≤_};
 ghost use Rattle.card.specs.Address.{cellRoom, cellsFor};
 ghost use Rattle.card.specs.Edits;
-ghost use Rattle.card.specs.Edits.{atCell, currentCell, currentConnector, putCell, putConnector, setTrigger, configuredState, statedAs, wiredSlot, bitState, countState, recountedState, clearedCells};
+ghost use Rattle.card.specs.Edits.{atCell, currentCell, currentConnector, putCell, putConnector, setTrigger, configuredState, statedAs, wiredSlot, bitState, countState, recountedState, clearedCell, clearedCells};
 ghost use Rattle.card.specs.Edits.{setType, setConfig, setState, wiredSlots, setSlots, setConnectorType, setSource, blankSlot};
 use crate::card::Card;
 use crate::card::Connector;
@@ -134,22 +134,28 @@ pub fn set_trigger(card: Card, t: u8) -> Card
     next
 }
 
-// The first n cells with their states cleared. A loop over all cells would be unrolled into every caller, and the card there copied field by field.
+// A cell with its state cleared.
+fn cleared_cell(cell: Cell) -> Cell
+    ensures { λ r. ⌜ r ≡ clearedCell cell ⌝ }
+{
+    let none = Pulses(0);
+    let mut next = cell;
+    next.count = none;
+    next.bit = false;
+    next.pulse = false;
+    next
+}
+
+// The first n cells with their states cleared. A loop up to a number that the card gives is not unrolled into its callers, as one of constant length is.
 fn cleared(cells: [Cell; CELLS], n: usize) -> [Cell; CELLS]
     requires { ⌜ n ≤ cellRoom ⌝ }
     ensures { λ r. ⌜ r ≡ clearedCells n cells ⌝ }
 {
-    if n == 0 {
-        return cells;
+    let mut next = cells;
+    for i in 0..n {
+        let cell = cleared_cell(cells[i]);
+        next[i] = cell;
     }
-    let i = n - 1;
-    let none = Pulses(0);
-    let mut cell = cells[i];
-    cell.count = none;
-    cell.bit = false;
-    cell.pulse = false;
-    let mut next = cleared(cells, i);
-    next[i] = cell;
     next
 }
 

@@ -367,18 +367,17 @@ fn connectors_under(row: u64, connectors: [Connector; CONNECTORS]) -> [Connector
     next
 }
 
-// The first n cells under a row. By recursion, as `edits::cleared`.
+// The first n cells under a row.
 fn cells_under(row: CellRow, cells: [Cell; CELLS], n: u32) -> [Cell; CELLS]
     requires { ⌜ n ≤ cellRoom ⌝ }
     ensures { λ r. ⌜ r ≡ listed (λ i. Option·getD (cellUnder (row .0) (row .1) i) (getD cells i noCell)) n ++ drop n cells ⌝ }
 {
-    if n == 0 {
-        return cells;
+    let mut next = cells;
+    for i in 0..n {
+        let at = i as usize;
+        let cell = cell_under(row, i, cells[at]);
+        next[at] = cell;
     }
-    let i = n - 1;
-    let at = i as usize;
-    let mut next = cells_under(row, cells, i);
-    next[at] = cell_under(row, i, cells[at]);
     next
 }
 

@@ -158,18 +158,18 @@ fn valid_connector(chart: &Chart, c: Connector, size: u8) -> bool
     !bad_connector_type(c.kind as Number) & e.permitted
 }
 
-// Each of the first n cells may have its settings. By recursion, as `edits::cleared`.
+// Each of the first n cells may have its settings.
 fn valid_cells(chart: &Chart, cells: [Cell; CELLS], n: usize, size: u8) -> bool
     requires { ⌜ Charted (now chart) ⌝ }
     requires { ⌜ n ≤ cellRoom ⌝ }
     ensures { λ r. ⌜ r ≡ every (validCell (cellsFor size)) (take n cells) ⌝ }
 {
-    if n == 0 {
-        return true;
+    let mut ok = true;
+    for i in 0..n {
+        let v = valid_cell(chart, cells[i], size);
+        ok = ok & v;
     }
-    let i = n - 1;
-    let below = valid_cells(chart, cells, i, size);
-    below & valid_cell(chart, cells[i], size)
+    ok
 }
 
 // So may every connector.

@@ -70,18 +70,17 @@ fn other_form(bytes: &[u8]) -> Form
     }
 }
 
-// Whether the configurations of the first n cells have room in the old form. By recursion, as `card::edits::cleared`.
+// Whether the configurations of the first n cells have room in the old form.
 fn all_narrow(cells: [Cell; CELLS], n: usize) -> bool
     requires { ⌜ n ≤ cellRoom ⌝ }
     ensures { λ r. ⌜ r ≡ every narrowCell (take n cells) ⌝ }
 {
-    if n == 0 {
-        return true;
+    let mut ok = true;
+    for i in 0..n {
+        let cell = cells[i];
+        ok = ok & (cell.config <= LARGEST_NARROW);
     }
-    let i = n - 1;
-    let below = all_narrow(cells, i);
-    let cell = cells[i];
-    below & (cell.config <= LARGEST_NARROW)
+    ok
 }
 
 // Whether the first n cells above those of a small card are constant 0.
@@ -89,13 +88,12 @@ fn all_blank(cells: [Cell; CELLS], n: usize) -> bool
     requires { ⌜ cellCount + n ≤ cellRoom ⌝ }
     ensures { λ r. ⌜ r ≡ every isBlank (take n (drop cellCount cells)) ⌝ }
 {
-    if n == 0 {
-        return true;
+    let mut ok = true;
+    for i in 0..n {
+        let cell = cells[SMALL as usize + i];
+        ok = ok & ((cell.kind == CONSTANT) & (cell.config == 0));
     }
-    let i = n - 1;
-    let below = all_blank(cells, i);
-    let cell = cells[SMALL as usize + i];
-    below & ((cell.kind == CONSTANT) & (cell.config == 0))
+    ok
 }
 
 // A record in its other form, constants above 1 made 1, to the front of a buffer; beyond it the buffer is as it was. That of a large card comes out as

@@ -52,7 +52,7 @@ module _ {A : Type 0} (f : ℕ → A → List ℕ) where
   -- the fields of the first i entries were stored, and now that of the next one
   module _ (w at i : ℕ) (l : List A) (d : A) (bytes : List ℕ)
       (h : i < length l) (e : bytes ≡ f i (getD l i d)) (n : length (fieldsFrom f 0 (take i l)) ≡ i * w) where
-    pub field-next : (out next : List ℕ) (place : ℕ) → next ≡ sets out at (fieldsFrom f 0 (take i l)) → place ≡ at + i * w
+    field-next : (out next : List ℕ) (place : ℕ) → next ≡ sets out at (fieldsFrom f 0 (take i l)) → place ≡ at + i * w
         → sets next place bytes ≡ sets out at (fieldsFrom f 0 (take (i + 1) l))
     field-next out next place stored p =
         let there : place ≡ at + length (fieldsFrom f 0 (take i l)) = omega arith in
@@ -61,7 +61,7 @@ module _ {A : Type 0} (f : ℕ → A → List ℕ) where
         ∙ sets-append out at (fieldsFrom f 0 (take i l)) (f i (getD l i d))
         ∙ ap (sets out at) (sym (fields-next l i d h))
 
-    pub field-longer : length bytes ≡ w → length (fieldsFrom f 0 (take (i + 1) l)) ≡ (i + 1) * w
+    field-longer : length bytes ≡ w → length (fieldsFrom f 0 (take (i + 1) l)) ≡ (i + 1) * w
     field-longer long =
         let one : length (f i (getD l i d)) ≡ w = sym (ap length e) ∙ long in
         ap length (fields-next l i d h) ∙ length-append (fieldsFrom f 0 (take i l)) (f i (getD l i d)) ∙ omega (arith, add-mul i 1 w)

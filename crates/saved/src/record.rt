@@ -161,7 +161,7 @@ fn connector_bytes(k: u8, c: Connector) -> [u8; CONNECTOR_LENGTH]
     ]
 }
 
-// The fields of the first n cells, after that of the trigger. By recursion, as `card::edits::cleared`.
+// The fields of the first n cells, after that of the trigger.
 fn put_cells(out: &mut [u8], width: usize, cells: [Cell; CELLS], n: u8)
     requires { ⌜ triggerLength + n * cellLength width ≤ length (now out) ⌝ }
     requires { ⌜ width ≤ configWidth ⌝ }
@@ -169,20 +169,17 @@ fn put_cells(out: &mut [u8], width: usize, cells: [Cell; CELLS], n: u8)
     ensures { λ _. ⌜ now (out .exit) ≡ sets (now (out .entry)) triggerLength (fieldsFrom (cellField width) 0 (take n cells)) ⌝ }
     ensures { λ _. ⌜ length (fieldsFrom (cellField width) 0 (take n cells)) ≡ n * cellLength width ⌝ }
 {
-    if n == 0 {
-        return;
+    for i in 0..n {
+        let at = i as usize;
+        let cell = cells[at];
+        put_cell(
+            out,
+            TRIGGER_LENGTH + at * (CELL_LENGTH + width),
+            width,
+            i,
+            cell,
+        );
     }
-    let i = n - 1;
-    let at = i as usize;
-    put_cells(out, width, cells, i);
-    let cell = cells[at];
-    put_cell(
-        out,
-        TRIGGER_LENGTH + at * (CELL_LENGTH + width),
-        width,
-        i,
-        cell,
-    );
 }
 
 // The fields of all connectors, from a place on.
@@ -296,19 +293,17 @@ fn load_cell(bytes: &[u8], width: usize, i: usize) -> Cell
     cell
 }
 
-// The first n cells that a load gives, in the place of others. By recursion, as `card::edits::cleared`.
+// The first n cells that a load gives, in the place of others.
 fn cells_in(bytes: &[u8], width: usize, cells: [Cell; CELLS], n: usize) -> [Cell; CELLS]
     requires { ⌜ triggerLength + n * cellLength width ≤ length (now bytes) ⌝ }
     requires { ⌜ width ≤ configWidth ⌝ }
     requires { ⌜ n ≤ cellRoom ⌝ }
     ensures { λ r. ⌜ r ≡ loadCells n width (now (bytes .entry)) ++ drop n cells ⌝ }
 {
-    if n == 0 {
-        return cells;
+    let mut next = cells;
+    for i in 0..n {
+        next[i] = load_cell(bytes, width, i);
     }
-    let i = n - 1;
-    let mut next = cells_in(bytes, width, cells, i);
-    next[i] = load_cell(bytes, width, i);
     next
 }
 
