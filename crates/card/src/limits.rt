@@ -29,7 +29,7 @@ pub const LARGEST_ADDRESS: Number = 255;
 // A word with a bit for each cell.
 pub type CellWord = u32;
 
-// A set of edited cells, a bit for each, and the one with all of them. It has 64 bits, so that a card is aligned to 8 bytes and copied by whole words.
+// A set of edited cells, a bit for each. It has 64 bits, so that a card is aligned to 8 bytes and copied by whole words.
 pub type EditedSet = u64;
 
 // The types of a connector.
