@@ -51,11 +51,15 @@ typedef struct {
     bool pulse;
 } trigger_cell;
 
-/* A connector: its type (0 input, 1 open-drain, 2 push-pull) and the address that it is driven from. */
+/*
+ * The connectors, BNC1 to BNC8 and TTL0 to TTL7: the addresses that they are driven from, and the words of those that are push-pull and of those that are
+ * open-drain, in the order of the sample. One in both words is push-pull, one in neither an input.
+ */
 typedef struct {
-    uint8_t kind;
-    uint8_t source;
-} trigger_connector;
+    uint8_t sources[TRIGGER_CONNECTORS];
+    uint16_t push_pull;
+    uint16_t open_drain;
+} trigger_connectors;
 
 /* The words of the last tick that ran, of the one before it (2), and of the one before that (3). */
 typedef struct {
@@ -68,13 +72,13 @@ typedef struct {
 } trigger_memory;
 
 /*
- * The card: its cells from 1 on, connectors BNC1 to BNC8 and TTL0 to TTL7, the set of edited cells, what is remembered of ticks, the place that lines are
+ * The card: its cells from 1 on, its connectors, the set of edited cells, what is remembered of ticks, the place that lines are
  * for (a cell's number or 33 to 48), the code of the clock that it ticks by, and its number of cells: TRIGGER_LARGE, and any other number stands for
  * TRIGGER_SMALL. No call changes that number. Read the card as you like; to change it, use lines.
  */
 typedef struct {
     trigger_cell cells[TRIGGER_CELLS];
-    trigger_connector connectors[TRIGGER_CONNECTORS];
+    trigger_connectors connectors;
     uint64_t edited;
     trigger_memory memory;
     uint8_t pointer;
@@ -222,9 +226,10 @@ TRIGGER_AT(trigger_cell, kind, 12);
 TRIGGER_AT(trigger_cell, bit, 13);
 TRIGGER_AT(trigger_cell, pulse, 14);
 
-TRIGGER_SIZE(trigger_connector, 2);
-TRIGGER_AT(trigger_connector, kind, 0);
-TRIGGER_AT(trigger_connector, source, 1);
+TRIGGER_SIZE(trigger_connectors, 20);
+TRIGGER_AT(trigger_connectors, sources, 0);
+TRIGGER_AT(trigger_connectors, push_pull, 16);
+TRIGGER_AT(trigger_connectors, open_drain, 18);
 
 TRIGGER_SIZE(trigger_memory, 20);
 TRIGGER_AT(trigger_memory, driven, 0);
@@ -234,14 +239,14 @@ TRIGGER_AT(trigger_memory, outputs3, 12);
 TRIGGER_AT(trigger_memory, levels, 16);
 TRIGGER_AT(trigger_memory, levels2, 18);
 
-TRIGGER_SIZE(trigger_card, 576);
+TRIGGER_SIZE(trigger_card, 568);
 TRIGGER_AT(trigger_card, cells, 0);
 TRIGGER_AT(trigger_card, connectors, 512);
-TRIGGER_AT(trigger_card, edited, 544);
-TRIGGER_AT(trigger_card, memory, 552);
-TRIGGER_AT(trigger_card, pointer, 572);
-TRIGGER_AT(trigger_card, trigger, 573);
-TRIGGER_AT(trigger_card, size, 574);
+TRIGGER_AT(trigger_card, edited, 536);
+TRIGGER_AT(trigger_card, memory, 544);
+TRIGGER_AT(trigger_card, pointer, 564);
+TRIGGER_AT(trigger_card, trigger, 565);
+TRIGGER_AT(trigger_card, size, 566);
 
 TRIGGER_SIZE(trigger_input, 6);
 TRIGGER_AT(trigger_input, code, 0);
@@ -255,18 +260,18 @@ TRIGGER_AT(trigger_answer, cells, 4);
 TRIGGER_AT(trigger_answer, woken, 8);
 TRIGGER_AT(trigger_answer, count, 12);
 
-TRIGGER_SIZE(trigger_ticked, 592);
+TRIGGER_SIZE(trigger_ticked, 584);
 TRIGGER_AT(trigger_ticked, card, 0);
-TRIGGER_AT(trigger_ticked, answer, 576);
+TRIGGER_AT(trigger_ticked, answer, 568);
 
-TRIGGER_SIZE(trigger_answered, 592);
+TRIGGER_SIZE(trigger_answered, 584);
 TRIGGER_AT(trigger_answered, card, 0);
-TRIGGER_AT(trigger_answered, k, 576);
-TRIGGER_AT(trigger_answered, len, 584);
+TRIGGER_AT(trigger_answered, k, 568);
+TRIGGER_AT(trigger_answered, len, 576);
 
-TRIGGER_SIZE(trigger_loaded, 584);
+TRIGGER_SIZE(trigger_loaded, 576);
 TRIGGER_AT(trigger_loaded, card, 0);
-TRIGGER_AT(trigger_loaded, k, 576);
+TRIGGER_AT(trigger_loaded, k, 568);
 
 TRIGGER_SIZE(trigger_printed, 16);
 TRIGGER_AT(trigger_printed, k, 0);

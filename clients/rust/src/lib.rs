@@ -23,7 +23,7 @@ use core::fmt;
 use core::num::NonZeroU8;
 use core::str;
 
-pub use raw::{Answer, Cell, Connector, Input, CELLS, CONNECTORS};
+pub use raw::{Answer, Cell, Connectors, Input, CELLS, CONNECTORS};
 
 /// The length of a record of sixteen cells: a store needs as many bytes for `36SS Z`.
 pub const RECORD: usize = 308;
@@ -235,8 +235,8 @@ impl Card {
         &self.0.cells[..n]
     }
 
-    /// The connectors: BNC1 to BNC8, then TTL0 to TTL7.
-    pub fn connectors(&self) -> &[Connector; CONNECTORS] {
+    /// The connectors: their types and sources.
+    pub fn connectors(&self) -> &Connectors {
         &self.0.connectors
     }
 

@@ -27,15 +27,17 @@ pub struct Cell {
     pub pulse: bool,
 }
 
-/// A front or backplane connector.
+/// The connectors: BNC1 to BNC8, then TTL0 to TTL7. Those that are in neither word are inputs.
 // crates/card/src/card.rt
 #[repr(C)]
 #[derive(Clone, Copy, Debug, PartialEq, Eq)]
-pub struct Connector {
-    /// Its type: 0 input, 1 open-drain, 2 push-pull.
-    pub kind: u8,
-    /// The address that it is driven from.
-    pub source: u8,
+pub struct Connectors {
+    /// The addresses that they are driven from.
+    pub sources: [u8; CONNECTORS],
+    /// Those that are push-pull, in the order of the sample. One that is in both words is push-pull.
+    pub push_pull: u16,
+    /// Those that are open-drain.
+    pub open_drain: u16,
 }
 
 // crates/card/src/card.rt
@@ -55,7 +57,7 @@ pub struct Memory {
 #[derive(Clone, Copy, Debug, PartialEq, Eq)]
 pub struct Card {
     pub cells: [Cell; CELLS],
-    pub connectors: [Connector; CONNECTORS],
+    pub connectors: Connectors,
     pub edited: u64,
     pub memory: Memory,
     pub pointer: u8,
@@ -175,14 +177,14 @@ macro_rules! layout {
 }
 
 layout!(Cell: 16, config 0, count 4, slots 8, kind 12, bit 13, pulse 14);
-layout!(Connector: 2, kind 0, source 1);
+layout!(Connectors: 20, sources 0, push_pull 16, open_drain 18);
 layout!(Memory: 20, driven 0, outputs 4, outputs2 8, outputs3 12, levels 16, levels2 18);
-layout!(Card: 576, cells 0, connectors 512, edited 544, memory 552, pointer 572, trigger 573, size 574);
+layout!(Card: 568, cells 0, connectors 512, edited 536, memory 544, pointer 564, trigger 565, size 566);
 layout!(Input: 6, code 0, sample 2, attached 4);
 layout!(Answer: 16, ran 0, driven 2, cells 4, woken 8, count 12);
-layout!(Ticked: 592, card 0, answer 576);
-layout!(Answered: 592, card 0, k 576, len 584);
-layout!(Loaded: 584, card 0, k 576);
+layout!(Ticked: 584, card 0, answer 568);
+layout!(Answered: 584, card 0, k 568, len 576);
+layout!(Loaded: 576, card 0, k 568);
 layout!(Printed: 16, k 0, len 8);
 layout!(Converted: 16, k 0, len 8);
 layout!(Surveyed: 12, k 0, cells 4, connectors 8);

@@ -1,7 +1,7 @@
-//! The stored sessions of a card of thirty-two cells: what its lines and ticks answer and the wiring it prints at the end must be what crates/large prints.
+//! The stored sessions of a card of thirty-two cells: what its lines and ticks answer and the wiring it prints at the end must be what crates/gate_large prints.
 use trigger::{Card, Input, LARGE_RECORD, TEXT};
 
-const CRATE: &str = concat!(env!("CARGO_MANIFEST_DIR"), "/../../crates/large");
+const CRATE: &str = concat!(env!("CARGO_MANIFEST_DIR"), "/../../crates/gate_large");
 
 const SESSIONS: [&str; 4] = ["cells32-1", "cells32-2", "cells32-3", "cells32-corners"];
 

@@ -1,7 +1,7 @@
-//! The stored surveys: what depends on each line of the cards that stored lines make must be what crates/surveys prints.
+//! The stored surveys: what depends on each line of the cards that stored lines make must be what crates/gate_surveys prints.
 use trigger::{Card, LARGE_RECORD};
 
-const CRATE: &str = concat!(env!("CARGO_MANIFEST_DIR"), "/../../crates/surveys");
+const CRATE: &str = concat!(env!("CARGO_MANIFEST_DIR"), "/../../crates/gate_surveys");
 
 const SMALL: [&str; 3] = ["survey16-1", "survey16-3", "survey16-corners"];
 

@@ -3,22 +3,22 @@
 use Prim.Native.Nat.{ℕ, _-_, _^_, _≤_, _<_}
 use mathlib.Core.Path.{_≡_, refl, ap, ap₂, _∙_}
 use mathlib.Core.Bool.{Bool, true, false, cond}
-use mathlib.Core.List.{List, [], _∷_}
+use mathlib.Core.List.{List}
 use native.Mathlib.Nat.{le-of-lt}
 use lib.Dec.{eqb}
 use lib.ListN.{length, getD}
-use borrow.Author.Tests.{eq-eqb}
 use Rattle.words.specs.Bits.{bitAt}
 use Rattle.words.proofs.Laws.{bit-zero, bit-ones}
 use Rattle.cells.specs.declared.table.Slots.{Slots}
 use Rattle.cells.specs.State.{stateOf}
 use Rattle.cells.specs.Wake.{wakes}
 use Rattle.card.specs.declared.card.Card.{Card}
-use Rattle.card.specs.Address.{cellCount}
 use Rattle.card.specs.Fresh.{noCell, noMemory, freshOf}
 use Rattle.card.proofs.ChangeLaws.{changed-bit}
+use Rattle.ticks.specs.declared.tick.Ticked.{Ticked}
 use Rattle.ticks.specs.Settled.{remembered}
 use Rattle.ticks.specs.Tick
+use Rattle.ticks.proofs.Cases.{by-tick, tick-own}
 use Rattle.ticks.proofs.Sleep.{quick-set, remembers, recalls, started-low}
 use Rattle.saved.specs.Record.{loadNumber}
 use Rattle.saved.proofs.Records.{loaded-by}
@@ -27,32 +27,27 @@ use Rattle.calls.specs.Calls.{Call, afterCall, end}
 use Rattle.calls.specs.Calls.Call.{line, load, tick}
 use Rattle.calls.specs.History.{editedNext, editedSince, Readings, lowReadings, readNext, readSince, WhoWakes, lastNext, lastSince}
 use Rattle.calls.proofs.Lists.{line-edit}
+use Rattle.calls.proofs.Runs.{honest}
 
 module _ (n : ℕ) where
   -- ---- edits
 
   -- after a call a cell is edited as the calls say
   pub call-edited : (c : Card) (call : Call) (i : ℕ) → i < n → bitAt (afterCall n c call .edited) i ≡ editedNext n c call i (bitAt (c .edited) i)
-  unfolding afterCall editedNext lineOutcome Tick.tick
+  unfolding afterCall editedNext lineOutcome
   call-edited c (line text reply store) i h = changed-bit n c (lineChange n c text (length reply) (length store)) i h
   call-edited c (load bytes) i h = rw (loaded-by n c bytes) (go (eqb (loadNumber n bytes) 0) _ refl)
     where
       go : (b : Bool) (d : Card) → d .edited ≡ 2 ^ n - 1 → bitAt (cond b d c .edited) i ≡ cond b true (bitAt (c .edited) i)
       go true d e = rw e (bit-ones n i h)
       go false d e = refl
-  call-edited c (tick full input) i h = go (eqb (input .code) (c .trigger))
-    where
-      go : (b : Bool) → let t = cond b (Tick.ticked n full c input) (Tick.idle c) in
-          bitAt (t .card .edited) i ≡ cond (t .answer .ran) false (bitAt (c .edited) i)
-      go true = bit-zero i
-      go false = refl
+  call-edited c (tick full input) i h =
+      by-tick n full c input (λ t. bitAt (t .card .edited) i ≡ cond (t .answer .ran) false (bitAt (c .edited) i)) (λ _. bit-zero i) (λ _. refl)
 
   -- over every list
   pub edited-honest : (c : Card) (calls : List Call) (i : ℕ) → i < n → bitAt (end n c calls .edited) i ≡ editedSince n c calls i (bitAt (c .edited) i)
-  unfolding end editedSince
-  edited-honest c [] i h = refl
-  edited-honest c (call ∷ calls) i h =
-      edited-honest (afterCall n c call) calls i h ∙ ap (editedSince n (afterCall n c call) calls i) (call-edited c call i h)
+  edited-honest c calls i h =
+      honest (afterCall n) (λ d. bitAt (d .edited) i) (λ d call. editedNext n d call i) (λ d call. call-edited d call i h) c calls
 
   -- from a fresh card, where none is edited
   pub edited-from-fresh : (calls : List Call) (i : ℕ) → i < n → bitAt (end n (freshOf n) calls .edited) i ≡ editedSince n (freshOf n) calls i false
@@ -62,26 +57,22 @@ module _ (n : ℕ) where
 
   -- after a call the memory is what the calls say
   pub call-last : (c : Card) (call : Call) → afterCall n c call .memory ≡ lastNext n c call (c .memory)
-  unfolding afterCall lastNext Tick.tick
+  unfolding afterCall lastNext
   call-last c (line text reply store) = line-edit n c text (length reply) (length store) .memory
   call-last c (load bytes) = rw (loaded-by n c bytes) (go (eqb (loadNumber n bytes) 0) _ refl)
     where
       go : (b : Bool) (d : Card) → d .memory ≡ noMemory → cond b d c .memory ≡ cond b noMemory (c .memory)
       go true d e = e
       go false d e = refl
-  call-last c (tick full input) = go (eqb (input .code) (c .trigger))
-    where
-      go : (b : Bool) → let t = cond b (Tick.ticked n full c input) (Tick.idle c) in
-          let next = Tick.moved (Tick.trimmed n (c .memory)) (t .answer .driven) (t .answer .cells) (Tick.lines n c input .levels) in
-          t .card .memory ≡ cond (t .answer .ran) next (c .memory)
-      go true = refl
-      go false = refl
+  call-last c (tick full input) =
+      by-tick n full c input
+      (λ t. t .card .memory
+      ≡ cond (t .answer .ran) (Tick.moved (Tick.trimmed n (c .memory)) (t .answer .driven) (t .answer .cells) (Tick.lines n c input .levels)) (c .memory))
+      (λ _. refl) (λ _. refl)
 
   -- over every list
   pub last-honest : (c : Card) (calls : List Call) → end n c calls .memory ≡ lastSince n c calls (c .memory)
-  unfolding end lastSince
-  last-honest c [] = refl
-  last-honest c (call ∷ calls) = last-honest (afterCall n c call) calls ∙ ap (lastSince n (afterCall n c call) calls) (call-last c call)
+  last-honest = honest (afterCall n) (λ d. d .memory) (lastNext n) call-last
 
   -- ---- readings
 
@@ -93,7 +84,7 @@ module _ (n : ℕ) where
   -- after a call the memory says what the last tick that ran read, as the calls say it
   pub call-read : (c : Card) (call : Call) (i : ℕ) → i ≤ n
       → remembered n i (afterCall n c call .memory) ≡ readNext n c call i (remembered n i (c .memory))
-  unfolding afterCall readNext lowReadings Tick.tick
+  unfolding afterCall readNext lowReadings
   call-read c (line text reply store) i h = ap (remembered n i) (line-edit n c text (length reply) (length store) .memory)
   call-read c (load bytes) i h = rw (loaded-by n c bytes) (go (eqb (loadNumber n bytes) 0) _ (started-low n i))
     where
@@ -101,19 +92,16 @@ module _ (n : ℕ) where
           → remembered n i (cond b d c .memory) ≡ cond b lowReadings (remembered n i (c .memory))
       go true d e = e
       go false d e = refl
-  call-read c (tick full input) i h = go (eqb (input .code) (c .trigger))
-    where
-      go : (b : Bool) → let t = cond b (Tick.ticked n full c input) (Tick.idle c) in
-          remembered n i (t .card .memory) ≡ cond (t .answer .ran) (Tick.readIn n full c input i) (remembered n i (c .memory))
-      go true = λ k s. remembers n full c input i s h k
-      go false = refl
+  call-read c (tick full input) i h =
+      by-tick n full c input
+      (λ t. remembered n i (t .card .memory) ≡ cond (t .answer .ran) (Tick.readIn n full c input i) (remembered n i (c .memory)))
+      (λ _ k s. remembers n full c input i s h k) (λ _. refl)
 
   -- over every list
   pub read-honest : (c : Card) (calls : List Call) (i : ℕ) → i ≤ n
       → remembered n i (end n c calls .memory) ≡ readSince n c calls i (remembered n i (c .memory))
-  unfolding end readSince
-  read-honest c [] i h = refl
-  read-honest c (call ∷ calls) i h = read-honest (afterCall n c call) calls i h ∙ ap (readSince n (afterCall n c call) calls i) (call-read c call i h)
+  read-honest c calls i h =
+      honest (afterCall n) (λ d. remembered n i (d .memory)) (λ d call. readNext n d call i) (λ d call. call-read d call i h) c calls
 
   -- from a fresh card
   pub read-from-fresh : (calls : List Call) (i : ℕ) → i ≤ n → remembered n i (end n (freshOf n) calls .memory) ≡ readSince n (freshOf n) calls i lowReadings
@@ -122,7 +110,7 @@ module _ (n : ℕ) where
   -- ---- the woken set of a quick tick, said of the list
 
   pub who-wakes : WhoWakes n
-  unfolding WhoWakes Tick.named Tick.tick
+  unfolding WhoWakes Tick.named
   who-wakes calls input i h own =
       let c = end n (freshOf n) calls in
       let levels = Tick.lines n c input .levels in
@@ -131,4 +119,5 @@ module _ (n : ℕ) where
       let read = read-from-fresh calls i (le-of-lt h) in
       let last = recalls n i (c .memory) levels (cell .slots) ∙ ap (λ (r : Readings). r (cell .slots)) read in
       let said = ap₂ (λ (e : Bool) (r : Slots). wakes (cell .kind) (stateOf cell) e now r) (edited-from-fresh calls i h) last in
-      rw (eq-eqb (input .code) (c .trigger) own) (quick-set n (c .cells) (c .edited) (Tick.wiresOf (c .memory) levels) i h ∙ said)
+      ap (λ (t : Ticked). bitAt (t .answer .woken) i) (tick-own n false c input own)
+      ∙ quick-set n (c .cells) (c .edited) (Tick.wiresOf (c .memory) levels) i h ∙ said

@@ -3,5 +3,6 @@ pub mod Honest
 pub mod Lists
 pub mod Reached
 pub mod Rest
+pub mod Runs
 pub mod SaveLoad
 pub mod Sizes

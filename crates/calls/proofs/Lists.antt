@@ -1,9 +1,9 @@
--- Demand 3 over every list of calls, lifted from one call to whole lists by one induction: every call keeps a card settled, and on a settled
--- card quick and full ticks do the same.
+-- Demand 3 over every list of calls, lifted from one call by the law of lists: every call keeps a card settled, and on a settled card quick and full ticks
+-- do the same.
 use Prim.Native.Nat.{ℕ}
-use mathlib.Core.Path.{_≡_, refl, sym, ap, _∙_, subst}
+use mathlib.Core.Path.{_≡_, refl, sym, ap}
 use mathlib.Core.Bool.{Bool, true, false, cond}
-use mathlib.Core.List.{List, [], _∷_}
+use mathlib.Core.List.{List}
 use lib.Dec.{eqb, ltb}
 use lib.ListN.{length}
 use Rattle.card.specs.declared.card.Card.{Card}
@@ -14,7 +14,7 @@ use Rattle.card.specs.Context.{contextOf}
 use Rattle.card.specs.Fresh.{freshOf}
 use Rattle.card.specs.Untouched.{Edit}
 use Rattle.card.proofs.ChangeLaws.{changed-edit}
-use Rattle.ticks.specs.declared.tick.Input.{Input}
+use Rattle.ticks.specs.declared.view.Input.{Input}
 use Rattle.ticks.specs.Tick
 use Rattle.ticks.specs.Settled.{Settled, AlikeTicks}
 use Rattle.ticks.proofs.Sleep.{fresh-settled, tick-settled, same-ticks, edit-settled, powered-settled}
@@ -28,9 +28,8 @@ use Rattle.calls.specs.Calls.{Call, afterCall, answer, end, answers}
 use Rattle.calls.specs.Calls.Call.{line, load, tick}
 use Rattle.calls.specs.Demand3.{SameCall, SameCalls, AlikeReply, AlikeReplies, Demand3}
 use Rattle.calls.specs.Demand3.SameCall.{same-line, same-load, same-tick}
-use Rattle.calls.specs.Demand3.SameCalls.{no-calls, more-calls}
 use Rattle.calls.specs.Demand3.AlikeReply.{alike-line, alike-load, alike-tick}
-use Rattle.calls.specs.Demand3.AlikeReplies.{no-replies, more-replies}
+use Rattle.calls.proofs.Runs.{invariant, same-runs}
 
 -- ---- one line
 
@@ -97,14 +96,8 @@ module _ (n : ℕ) where
   -- from one settled card on
   pub same-lists : (c : Card) {calls others : List Call} → SameCalls calls others → Settled n c
       → (end n c calls ≡ end n c others) × AlikeReplies (answers n c calls) (answers n c others)
-  unfolding end answers
-  same-lists c no-calls s = (refl, no-replies)
-  same-lists c (more-calls {a = a} {b = b} {s = before} {t = t} p ps) s =
-      let e = same-after c p s in
-      let rest = same-lists (afterCall n c a) ps (call-settled c a s) in (
-        rest .0 ∙ ap (λ (d : Card). end n d t) e,
-        more-replies (same-answer c p s) (subst (λ (d : Card). AlikeReplies (answers n (afterCall n c a) before) (answers n d t)) e (rest .1)),
-      )
+  same-lists c same s =
+      same-runs (afterCall n) (answer n) SameCall AlikeReply (Settled n) call-settled (λ d a b p q. same-after d p q) (λ d a b p q. same-answer d p q) c same s
 
   pub demand3 : Demand3 n
   unfolding Demand3
@@ -112,6 +105,4 @@ module _ (n : ℕ) where
 
   -- every card that a list reaches is settled
   pub reached-settled : (c : Card) (calls : List Call) → Settled n c → Settled n (end n c calls)
-  unfolding end
-  reached-settled c [] s = s
-  reached-settled c (call ∷ calls) s = reached-settled (afterCall n c call) calls (call-settled c call s)
+  reached-settled = invariant (afterCall n) (Settled n) call-settled

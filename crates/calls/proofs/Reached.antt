@@ -1,9 +1,9 @@
--- Every card that a list of calls reaches from a valid one is valid, by one induction: accepted edits, loads and ticks keep validity, and refused
+-- Every card that a list of calls reaches from a valid one is valid: accepted edits, loads and ticks keep validity, and refused
 -- calls the card.
 use Prim.Native.Nat.{ℕ, _≤_}
 use mathlib.Core.Path.{_≡_, refl, _∙_}
 use mathlib.Core.Bool.{Bool, true, false, not, _&&_, _||_, cond}
-use mathlib.Core.List.{List, [], _∷_}
+use mathlib.Core.List.{List}
 use lib.Dec.{eqb, ltb}
 use lib.ListN.{length}
 use borrow.Author.Tests.{eqb-true}
@@ -36,6 +36,7 @@ use Rattle.lines.specs.Line.{wireOf, wiresOf, changeFor, decision, decisionFor,
 use Rattle.calls.specs.Calls.{Call, afterCall, end}
 use Rattle.calls.specs.Calls.Call.{line, load, tick}
 use Rattle.lines.proofs.Decisions.{none-of, when-none, judged-none, last-none}
+use Rattle.calls.proofs.Runs.{invariant}
 
 -- ---- one line
 
@@ -145,9 +146,7 @@ module _ (n : ℕ) (more : cellCount ≤ n) where
 
   -- every card that a list reaches is valid
   pub reached-valid : (c : Card) (calls : List Call) → validCard n c ≡ true → validCard n (end n c calls) ≡ true
-  unfolding end
-  reached-valid c [] ok = ok
-  reached-valid c (call ∷ calls) ok = reached-valid (afterCall n c call) calls (call-valid c call ok)
+  reached-valid = invariant (afterCall n) (λ c. validCard n c ≡ true) call-valid
 
   pub fresh-reached-valid : (calls : List Call) → validCard n (end n (freshOf n) calls) ≡ true
   fresh-reached-valid calls = reached-valid (freshOf n) calls (fresh-valid n)

@@ -2,22 +2,22 @@
 use Prim.Native.Nat.{ℕ}
 use mathlib.Core.Path.{_≡_, refl, sym, ap, _∙_, subst}
 use mathlib.Core.Bool.{Bool, false}
-use mathlib.Core.List.{List, [], _∷_, map}
+use mathlib.Core.List.{List, [], _∷_, map, Forall₂·nil, Forall₂·cons}
 use Rattle.card.specs.declared.card.Card.{Card}
 use Rattle.card.specs.Fresh.{freshOf}
 use Rattle.ticks.specs.declared.tick.Answer.{Answer}
-use Rattle.ticks.specs.declared.tick.Input.{Input}
+use Rattle.ticks.specs.declared.view.Input.{Input}
 use Rattle.ticks.specs.Tick
 use Rattle.ticks.specs.Settled.{Settled}
 use Rattle.ticks.specs.Rest.{AtRest, restAnswer}
 use Rattle.ticks.proofs.Sleep.{fresh-settled}
 use Rattle.ticks.proofs.AtRest.{rest-answers}
+use Rattle.calls.specs.Runs.{endOf, answersOf}
 use Rattle.calls.specs.Calls.{afterCall, answer, end, answers}
 use Rattle.calls.specs.Calls.Call.{tick}
 use Rattle.calls.specs.Calls.Reply.{tickReply}
 use Rattle.calls.specs.Demand3.{AlikeReplies}
 use Rattle.calls.specs.Demand3.AlikeReply.{alike-tick}
-use Rattle.calls.specs.Demand3.AlikeReplies.{no-replies, more-replies}
 use Rattle.calls.specs.Rest.{ticksWith, RestLasts}
 use Rattle.calls.proofs.Lists.{ticks-alike, reached-settled}
 
@@ -29,15 +29,15 @@ module _ (n : ℕ) (c : Card) (input : Input) (settled : Settled n c) (rest : At
   -- any list of them
   pub stays-all : (kinds : List Bool)
       → (end n c (ticksWith input kinds) ≡ c) × AlikeReplies (answers n c (ticksWith input kinds)) (map (λ full. tickReply (restAnswer c input)) kinds)
-  unfolding end answers afterCall answer
-  stays-all [] = (refl, no-replies)
+  unfolding endOf answersOf afterCall answer
+  stays-all [] = (refl, Forall₂·nil)
   stays-all (full ∷ kinds) =
       let a = ticks-alike n c full false input settled in
       let r = rest-answers n c input rest in
       let others = map (λ full. tickReply (restAnswer c input)) kinds in
       let tail = stays-all kinds in (
         ap (λ (d : Card). end n d (ticksWith input kinds)) (stays full) ∙ tail .0,
-        more-replies
+        Forall₂·cons
             (alike-tick (a .ran ∙ ap (λ (x : Answer). x .ran) r) (a .driven ∙ ap (λ (x : Answer). x .driven) r) (a .cells ∙ ap (λ (x : Answer). x .cells) r))
             (subst (λ (d : Card). AlikeReplies (answers n d (ticksWith input kinds)) others) (sym (stays full)) (tail .1)),
       )

@@ -20,7 +20,9 @@ use native.Mathlib.Omega.{arith}
 use Rattle.card.specs.Address.{cellCount}
 use Rattle.card.specs.Fresh.{freshOf}
 use Rattle.card.specs.Valid.{validCard}
-use Rattle.saved.specs.Record.{configWidth, narrowWidth, recordLength, recordOf, triggerIn, cellIn, normalCell}
+use Rattle.card.specs.Connectors.{each, fromEach}
+use Rattle.saved.proofs.Forms.{each-in}
+use Rattle.saved.specs.Record.{loadNumberAs, configWidth, narrowWidth, recordLength, recordOf, triggerIn, cellIn, normalCell}
 use Rattle.saved.specs.Record.{loadCells, connectorsIn, poweredUp, loadNumber, loaded}
 use Rattle.saved.proofs.Records.{valid-length, saved-front, cleared-taken, load-accepts, load-powers, narrow-form, no-old-form, saved-loads, saved-loaded}
 use Rattle.saved.proofs.Records
@@ -130,16 +132,19 @@ written n c text reply store ok s =
 -- a record of the old form
 small-old-form : (n : ℕ) (d : Card) (bytes : List ℕ) → n ≤ cellCount → length bytes ≡ recordLength n narrowWidth → loadNumber n bytes ≡ 0
     → FromOldForm n bytes (loaded n d bytes)
+unfolding loadNumber
 small-old-form n d bytes few long ok =
     let cells : ℕ → List Cell = λ w. loadCells n w bytes ++ drop n (d .cells) in
-    let c : loaded n d bytes ≡ poweredUp n (d .size) (triggerIn bytes) (cells narrowWidth) (connectorsIn n narrowWidth bytes) =
+    let c : loaded n d bytes ≡ poweredUp n (d .size) (triggerIn bytes) (cells narrowWidth) (fromEach (connectorsIn n narrowWidth bytes)) =
     load-powers n d bytes ok
-    ∙ ap (λ (w : ℕ). poweredUp n (d .size) (triggerIn bytes) (cells w) (connectorsIn n w bytes)) (narrow-form n bytes few long) in
+    ∙ ap (λ (w : ℕ). poweredUp n (d .size) (triggerIn bytes) (cells w) (fromEach (connectorsIn n w bytes))) (narrow-form n bytes few long) in
     let first = take-at (loadCells n narrowWidth bytes) (drop n (d .cells)) n (length-listed (λ i. normalCell (cellIn narrowWidth bytes i)) n) in
     record {
       trigger = ap (λ (x : Card). x .trigger) c;
       cells = ap (λ (x : Card). take n (x .cells)) c ∙ first;
-      connectors = ap (λ (x : Card). x .connectors) c;
+      connectors =
+          ap (λ (x : Card). each (x .connectors)) c
+          ∙ each-in n narrowWidth bytes (ap (λ (w : ℕ). loadNumberAs n w bytes) (sym (narrow-form n bytes few long)) ∙ ok);
       saved-loads = λ text reply store s. ap (loadNumber n) (bytes-are n _ text reply store s) ∙ saved-loads n d d bytes ok;
       saved-same = λ text reply store e s. ap (loaded n e) (bytes-are n _ text reply store s) ∙ saved-loaded n d e bytes ok;
     }

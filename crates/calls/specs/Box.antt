@@ -16,8 +16,9 @@ use Rattle.cells.specs.declared.cell.Worked.{Worked}
 use Rattle.cells.specs.Table.{slots, rowOf}
 use Rattle.cells.specs.Work.{slotsOf, taken, raised, workAs, workOut}
 use Rattle.cells.specs.Wake.{stirredAs, stirred, disagree, wakes}
+use Rattle.card.specs.Connectors.{kindAt, sourceAt, withKind, withSource, each, fromEach, wellFormed}
 use Rattle.card.specs.Address.{cellCount}
-use Rattle.card.specs.Edits.{bitState, move, currentCell, currentConnector, putCell, putConnector, typed, setType, configuredState, configured, setConfig}
+use Rattle.card.specs.Edits.{bitState, move, currentCell, currentConnector, putCell, putConnectors, typed, setType, configuredState, configured, setConfig}
 use Rattle.card.specs.Edits.{statedAs, stated, setState, wired, setSlots, setSource}
 use Rattle.card.specs.Context.{configShown, stateAs}
 use Rattle.card.specs.Change.{changed}
@@ -25,13 +26,14 @@ use Rattle.card.specs.Fresh.{clearState, fresh}
 use Rattle.card.specs.Presets.{numbers, presetTable, settingOf, offered}
 use Rattle.card.specs.Valid.{permittedBase, badPlace, badCellType, badConfig, unusedSlot, badAddress, noConfig, badStateAs, badState, noState}
 use Rattle.ticks.specs.Reading.{levelAt, readsLevels, reads, slotsRead, mixed, view}
-use Rattle.ticks.specs.Levels.{effectiveSample, linesOf}
+use Rattle.ticks.specs.Levels.{effectiveSample, drivenWord, levelsFrom, linesOf}
 use Rattle.ticks.specs.Tick.{readNow, readLast, named, turnAt, outputsBelow, turned, tick}
 use Rattle.commands.specs.Grammar.{isWord, isWhole, toEnd, slotOf, gave, give, pairRead, pairsOf, writeOf, ccaWrite, ccaRead, ccaForm, slotForm, ccbForm}
 use Rattle.commands.specs.Grammar.{readOf, readForm, cardForm, plainForm, addressed, parse}
 use Rattle.lines.specs.Refusal.{alone, refusal}
 use Rattle.lines.specs.Line
 use Rattle.lines.specs.Line.{shortestReply, changeFor, responseTo, decision, decisionFor, lineDecision, lineOutcome, replyOf}
+use Rattle.calls.specs.Runs.{answersOf}
 use Rattle.calls.specs.Calls
 use Rattle.calls.specs.Calls.{Call, Reply, savedBytes, afterCall, answer, answers}
 use Rattle.calls.specs.Calls.Reply.{lineReply, tickReply}
@@ -208,5 +210,5 @@ box =
     ∷ []
 
 one-table : map (λ (e : Entry × Entry). e .0) box ≡ map (λ (e : Entry × Entry). e .1) box
-unfolding low high read lookup jk11 triggered clocked taking offeredOf line quickWith quick run counterRun said accepted ran bytesOf ones onesIn withBit wordOf bitAt listed valueBy isDigit digitsOf leads plain numberIn numberAt decimalFrom decimal rowOf slotsOf taken raised workAs workOut stirredAs stirred disagree wakes levelAt readsLevels reads slotsRead mixed view effectiveSample linesOf move currentCell currentConnector putCell putConnector typed setType configuredState configured setConfig statedAs stated setState wired setSlots setSource configShown stateAs fresh presetTable settingOf offered readNow readLast named turnAt outputsBelow turned tick permittedBase badPlace badCellType badConfig unusedSlot badAddress noConfig badStateAs badState noState isWord isWhole toEnd slotOf gave give pairRead pairsOf writeOf ccaWrite ccaRead ccaForm slotForm ccbForm readOf readForm cardForm plainForm addressed parse alone refusal changed changeFor responseTo decision decisionFor lineDecision lineOutcome replyOf Line.lineReply savedBytes afterCall answer answers
+unfolding low high read lookup jk11 triggered clocked taking offeredOf line quickWith quick run counterRun said accepted ran bytesOf ones onesIn withBit wordOf bitAt listed valueBy isDigit digitsOf leads plain numberIn numberAt decimalFrom decimal rowOf slotsOf taken raised workAs workOut stirredAs stirred disagree wakes levelAt readsLevels reads slotsRead mixed view effectiveSample linesOf move currentCell currentConnector putCell putConnectors typed setType configuredState configured setConfig statedAs stated setState wired setSlots setSource configShown stateAs fresh presetTable settingOf offered readNow readLast named turnAt outputsBelow turned tick permittedBase badPlace badCellType badConfig unusedSlot badAddress noConfig badStateAs badState noState isWord isWhole toEnd slotOf gave give pairRead pairsOf writeOf ccaWrite ccaRead ccaForm slotForm ccbForm readOf readForm cardForm plainForm addressed parse alone refusal changed changeFor responseTo decision decisionFor lineDecision lineOutcome replyOf Line.lineReply savedBytes afterCall answer answersOf kindAt sourceAt withKind withSource each fromEach wellFormed drivenWord levelsFrom
 one-table = refl

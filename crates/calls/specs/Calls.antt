@@ -2,16 +2,17 @@
 -- that the contracts of `line`, `load`, `full_tick` and `quick_tick` cite.
 use Prim.Native.Nat.{ℕ}
 use mathlib.Core.Bool.{Bool, _&&_, cond}
-use mathlib.Core.List.{List, [], _∷_}
+use mathlib.Core.List.{List, []}
 use lib.Dec.{eqb}
 use lib.ListN.{length}
 use Rattle.card.specs.declared.card.Card.{Card}
-use Rattle.ticks.specs.declared.tick.Input.{Input}
+use Rattle.ticks.specs.declared.view.Input.{Input}
 use Rattle.ticks.specs.declared.tick.Answer.{Answer}
 use Rattle.ticks.specs.Tick
 use Rattle.saved.specs.Record.{configWidth, recordOf, loadNumber, loaded}
 use Rattle.lines.specs.Line
 use Rattle.lines.specs.Line.{lineOutcome}
+use Rattle.calls.specs.Runs.{endOf, answersOf}
 
 -- a line with its text and the two buffers as lent, a load of any bytes, a tick of either kind with what comes in with it
 pub data Call : Type 0 where
@@ -46,10 +47,8 @@ module _ (n : ℕ) where
   answer c (tick full input) = tickReply (Tick.tick n full c input .answer)
 
   -- a list of calls: the card at its end, and the answers
-  unfoldable pub end : Card → List Call → Card
-  end c [] = c
-  end c (call ∷ calls) = end (afterCall c call) calls
+  abbrev pub end : Card → List Call → Card
+  end = endOf afterCall
 
-  unfoldable pub answers : Card → List Call → List Reply
-  answers c [] = []
-  answers c (call ∷ calls) = answer c call ∷ answers (afterCall c call) calls
+  abbrev pub answers : Card → List Call → List Reply
+  answers = answersOf afterCall answer

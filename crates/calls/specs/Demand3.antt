@@ -3,11 +3,11 @@
 use Prim.Native.Nat.{ℕ}
 use mathlib.Core.Path.{_≡_}
 use mathlib.Core.Bool.{Bool}
-use mathlib.Core.List.{List, [], _∷_}
+use mathlib.Core.List.{List, Forall₂}
 use lib.ListN.{length}
 use Rattle.card.specs.Fresh.{freshOf}
 use Rattle.ticks.specs.declared.tick.Answer.{Answer}
-use Rattle.ticks.specs.declared.tick.Input.{Input}
+use Rattle.ticks.specs.declared.view.Input.{Input}
 use Rattle.calls.specs.Calls.{Call, Reply, end, answers}
 use Rattle.calls.specs.Calls.Call.{line, load, tick}
 use Rattle.calls.specs.Calls.Reply.{lineReply, loadReply, tickReply}
@@ -20,9 +20,8 @@ pub data SameCall : Call → Call → Type 0 where
   same-load : (bytes : List ℕ) → SameCall (load bytes) (load bytes)
   same-tick : (full quick : Bool) (input : Input) → SameCall (tick full input) (tick quick input)
 
-pub data SameCalls : List Call → List Call → Type 0 where
-  no-calls : SameCalls [] []
-  more-calls : {a b : Call} {s t : List Call} → SameCall a b → SameCalls s t → SameCalls (a ∷ s) (b ∷ t)
+abbrev pub SameCalls : List Call → List Call → Type 0
+SameCalls = Forall₂ SameCall
 
 -- "At each call: of a line k, the reply's length and bytes, and the bytes that `36SS Z` wrote; of a load k; of a tick whether it ran
 -- ..., driven word and cell word"
@@ -31,9 +30,8 @@ pub data AlikeReply : Reply → Reply → Type 0 where
   alike-load : (k : ℕ) → AlikeReply (loadReply k) (loadReply k)
   alike-tick : {a b : Answer} → a .ran ≡ b .ran → a .driven ≡ b .driven → a .cells ≡ b .cells → AlikeReply (tickReply a) (tickReply b)
 
-pub data AlikeReplies : List Reply → List Reply → Type 0 where
-  no-replies : AlikeReplies [] []
-  more-replies : {a b : Reply} {s t : List Reply} → AlikeReply a b → AlikeReplies s t → AlikeReplies (a ∷ s) (b ∷ t)
+abbrev pub AlikeReplies : List Reply → List Reply → Type 0
+AlikeReplies = Forall₂ AlikeReply
 
 -- "Compared after the list: pointer; settings ...; states ...; outputs, levels and driven word": the whole cards are equal
 unfoldable pub Demand3 : ℕ → Type 0

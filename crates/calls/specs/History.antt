@@ -4,7 +4,7 @@
 use Prim.Native.Nat.{ℕ, _<_}
 use mathlib.Core.Path.{_≡_}
 use mathlib.Core.Bool.{Bool, true, false, _||_, cond}
-use mathlib.Core.List.{List, [], _∷_}
+use mathlib.Core.List.{List}
 use lib.Dec.{eqb}
 use lib.ListN.{length, getD}
 use Rattle.words.specs.Bits.{bitAt}
@@ -15,12 +15,13 @@ use Rattle.card.specs.declared.card.Card.{Card}
 use Rattle.card.specs.declared.card.Memory.{Memory}
 use Rattle.card.specs.Change.{editsCell}
 use Rattle.card.specs.Fresh.{noCell, noMemory, freshOf}
-use Rattle.ticks.specs.declared.tick.Input.{Input}
+use Rattle.ticks.specs.declared.view.Input.{Input}
 use Rattle.ticks.specs.Reading.{slotsRead}
 use Rattle.ticks.specs.Tick
 use Rattle.ticks.specs.Tick.{trimmed, moved, readIn}
 use Rattle.saved.specs.Record.{loadNumber}
 use Rattle.lines.specs.Line.{lineChange}
+use Rattle.calls.specs.Runs.{since}
 use Rattle.calls.specs.Calls.{Call, afterCall, end}
 use Rattle.calls.specs.Calls.Call.{line, load, tick}
 
@@ -44,9 +45,8 @@ module _ (n : ℕ) where
   editedNext c (tick full input) i was = cond (Tick.tick n full c input .answer .ran) false was
 
   -- whether cell i was edited since the last tick that ran, or since the start of the list
-  unfoldable pub editedSince : Card → List Call → ℕ → Bool → Bool
-  editedSince c [] i was = was
-  editedSince c (call ∷ calls) i was = editedSince (afterCall n c call) calls i (editedNext c call i was)
+  abbrev pub editedSince : Card → List Call → ℕ → Bool → Bool
+  editedSince c calls i was = since (afterCall n) (λ d call. editedNext d call i) c calls was
 
   -- ---- what the last tick that ran read
 
@@ -57,9 +57,8 @@ module _ (n : ℕ) where
   readNext c (tick full input) i was = cond (Tick.tick n full c input .answer .ran) (readIn n full c input i) was
 
   -- what a reader in position i read in the last tick that ran
-  unfoldable pub readSince : Card → List Call → ℕ → Readings → Readings
-  readSince c [] i was = was
-  readSince c (call ∷ calls) i was = readSince (afterCall n c call) calls i (readNext c call i was)
+  abbrev pub readSince : Card → List Call → ℕ → Readings → Readings
+  readSince c calls i was = since (afterCall n) (λ d call. readNext d call i) c calls was
 
   -- ---- "Who wakes", said of a list
 
@@ -85,6 +84,5 @@ module _ (n : ℕ) where
       cond (a .ran) (moved (trimmed n was) (a .driven) (a .cells) (Tick.lines n c input .levels)) was
 
   -- the cell words of the last three ticks that ran, the levels of the last two, and the driven word of the last
-  unfoldable pub lastSince : Card → List Call → Memory → Memory
-  lastSince c [] was = was
-  lastSince c (call ∷ calls) was = lastSince (afterCall n c call) calls (lastNext c call was)
+  abbrev pub lastSince : Card → List Call → Memory → Memory
+  lastSince = since (afterCall n) lastNext

@@ -1,4 +1,5 @@
 -- What a reader must believe, in the order of document 01.
+pub mod Runs
 pub mod Calls
 pub mod Demand3
 pub mod History

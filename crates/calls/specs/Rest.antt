@@ -4,7 +4,7 @@ use mathlib.Core.Path.{_≡_}
 use mathlib.Core.Bool.{Bool}
 use mathlib.Core.List.{List, map}
 use Rattle.card.specs.Fresh.{freshOf}
-use Rattle.ticks.specs.declared.tick.Input.{Input}
+use Rattle.ticks.specs.declared.view.Input.{Input}
 use Rattle.ticks.specs.Rest.{AtRest, restAnswer}
 use Rattle.calls.specs.Calls.{Call, end, answers}
 use Rattle.calls.specs.Calls.Call.{tick}

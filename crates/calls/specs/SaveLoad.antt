@@ -8,6 +8,7 @@ use mathlib.Core.List.{List, _++_, map}
 use lib.ListN.{length, take, drop}
 use Rattle.text.specs.Written.{bytesOf}
 use Rattle.card.specs.declared.card.Card.{Card}
+use Rattle.card.specs.Connectors.{each}
 use Rattle.card.specs.Edits.{clearedCell}
 use Rattle.card.specs.Fresh.{freshOf}
 use Rattle.saved.specs.Record.{narrowWidth, configWidth, recordLength, triggerIn, loadCells, connectorsIn}
@@ -42,7 +43,7 @@ pub record Written (n : ℕ) (c : Card) (bytes store written : List ℕ) : Type 
 pub record FromOldForm (n : ℕ) (bytes : List ℕ) (c : Card) : Type 0 where
   pub trigger : c .trigger ≡ triggerIn bytes
   pub cells : take n (c .cells) ≡ loadCells n narrowWidth bytes
-  pub connectors : c .connectors ≡ connectorsIn n narrowWidth bytes
+  pub connectors : each (c .connectors) ≡ connectorsIn n narrowWidth bytes
   pub saved-loads : (text : List ℕ) (reply store : ℕ) → Saves n c text reply store → loadNumber n (savedBytes n c text reply store) ≡ 0
   pub saved-same : (text : List ℕ) (reply store : ℕ) (e : Card) → Saves n c text reply store → loaded n e (savedBytes n c text reply store) ≡ loaded n e bytes
 

@@ -1,4 +1,4 @@
--- Laws of changes, for whoever makes one: every change is an edit, and it sets exactly the edited bits of the cells that it edits.
+-- Laws of changes, for whoever makes one: every change is an edit, it sets exactly the edited bits of the cells that it edits, and keeps the size.
 use Prim.Native.Nat.{ℕ, _-_, _<_}
 use mathlib.Core.Path.{_≡_, refl, sym, ap, _∙_}
 use mathlib.Core.Bool.{Bool, true, false, _&&_, _||_, cond, or-false, or-true}
@@ -9,12 +9,12 @@ use Rattle.words.specs.Bits.{bitAt, withBit}
 use Rattle.words.proofs.Laws.{bit-ones, bit-built, bit-with-same, bit-with-other}
 use Rattle.cells.specs.declared.cell.Cell.{Cell}
 use Rattle.card.specs.declared.card.Card.{Card}
-use Rattle.card.specs.declared.card.Connector.{Connector}
+use Rattle.card.specs.declared.card.Connectors.{Connectors}
 use Rattle.card.specs.declared.change.Change.{Change}
 use Rattle.card.specs.declared.change.Change.the-variants.{Nothing, Pointer, Trigger, Home, Preset, Kind, Config, State, Slots, ConnectorKind, Source}
 use Rattle.card.specs.Address.{firstCell}
 use Rattle.card.specs.Change.{changed, pointed, editsCell}
-use Rattle.card.specs.Edits.{atCell, atConnector, withCell, withConnector, putCell, putConnector}
+use Rattle.card.specs.Edits.{atCell, atConnector, withCell, withConnectors, putCell, putConnectors}
 use Rattle.card.specs.Edits.{move, setTrigger, home, setType, setConfig, setState, setSlots, setConnectorType, setSource}
 use Rattle.card.specs.Presets.{editedWithPreset, preset}
 use Rattle.card.specs.Untouched.{Edit}
@@ -56,15 +56,15 @@ put-bit n c cell i = go (atCell n c)
 same-bit : (c : Card) (i : ℕ) → bitAt (c .edited) i ≡ (bitAt (c .edited) i || false)
 same-bit c i = sym (or-false (bitAt (c .edited) i))
 
-connector-edited : (c : Card) (k : Connector) → putConnector c k .edited ≡ c .edited
-unfolding putConnector
-connector-edited c k = go (atConnector c) _
+connector-edited : (c : Card) (k : Connectors) → putConnectors c k .edited ≡ c .edited
+unfolding putConnectors
+connector-edited c k = go (atConnector c)
   where
-    go : (b : Bool) (i : ℕ) → cond b (withConnector c i k) c .edited ≡ c .edited
-    go true i = refl
-    go false i = refl
+    go : (b : Bool) → cond b (withConnectors c k) c .edited ≡ c .edited
+    go true = refl
+    go false = refl
 
-connector-bit : (c : Card) (k : Connector) (i : ℕ) → bitAt (putConnector c k .edited) i ≡ (bitAt (c .edited) i || false)
+connector-bit : (c : Card) (k : Connectors) (i : ℕ) → bitAt (putConnectors c k .edited) i ≡ (bitAt (c .edited) i || false)
 connector-bit c k i = ap (λ (e : ℕ). bitAt e i) (connector-edited c k) ∙ same-bit c i
 
 -- a change sets the bits of the cells that it edits, and no other
@@ -82,3 +82,32 @@ changed-bit n c (State v) i h = put-bit n c _ i
 changed-bit n c (Slots w) i h = put-bit n c _ i
 changed-bit n c (ConnectorKind kind) i h = connector-bit c _ i
 changed-bit n c (Source source) i h = connector-bit c _ i
+
+-- ---- the size
+
+either-size : (c d : Card) (b : Bool) → d .size ≡ c .size → cond b d c .size ≡ c .size
+either-size c d true e = e
+either-size c d false e = refl
+
+cell-size : (n : ℕ) (c : Card) (cell : Cell) → putCell n c cell .size ≡ c .size
+unfolding putCell
+cell-size n c cell = either-size c _ (atCell n c) refl
+
+connector-size : (c : Card) (connectors : Connectors) → putConnectors c connectors .size ≡ c .size
+unfolding putConnectors
+connector-size c connectors = either-size c _ (atConnector c) refl
+
+-- a change keeps it
+pub changed-size : (n : ℕ) (c : Card) (change : Change) → changed n c change .size ≡ c .size
+unfolding changed move setTrigger home preset setType setConfig setState setSlots setConnectorType setSource
+changed-size n c Nothing = refl
+changed-size n c (Pointer p) = refl
+changed-size n c (Trigger t) = refl
+changed-size n c Home = refl
+changed-size n c (Preset v) = refl
+changed-size n c (Kind kind) = cell-size n c _
+changed-size n c (Config v) = cell-size n c _
+changed-size n c (State v) = cell-size n c _
+changed-size n c (Slots w) = cell-size n c _
+changed-size n c (ConnectorKind kind) = connector-size c _
+changed-size n c (Source source) = connector-size c _

@@ -14,22 +14,22 @@ use Rattle.cells.specs.declared.cell.Cell.{Cell}
 use Rattle.cells.specs.declared.table.Slots.{Slots}
 use Rattle.words.proofs.Bools.{or-left, or-right}
 use Rattle.card.specs.declared.card.Card.{Card}
-use Rattle.card.specs.declared.card.Connector.{Connector}
+use Rattle.card.specs.declared.card.Connectors.{Connectors}
 use Rattle.card.specs.Fresh.{noCell}
-use Rattle.card.specs.Edits.{atCell, atConnector, withSettings, withCell, putCell, putConnector, move, setTrigger, home, setType, setConfig, setState}
+use Rattle.card.specs.Edits.{atCell, atConnector, withSettings, withCell, putCell, putConnectors, move, setTrigger, home, setType, setConfig, setState}
 use Rattle.card.specs.Edits.{setSlots, setConnectorType, setSource}
 use Rattle.card.specs.Presets.{presetCell, has, cellWithPreset, editedWithPreset, preset}
 use Rattle.card.specs.Untouched.{Edit}
 
 -- new settings leave everything else: what is to be shown is of the cells and the edits alone
-settings-edit : (n : ℕ) (c : Card) (trigger : ℕ) (cells : List Cell) (connectors : List Connector) (edited : ℕ)
+settings-edit : (n : ℕ) (c : Card) (trigger : ℕ) (cells : List Cell) (connectors : Connectors) (edited : ℕ)
     → ((i : ℕ) → i < n → bitAt edited i ≡ false → bitAt (c .edited) i ≡ false)
     → ((i : ℕ) → i < n → bitAt edited i ≡ false → getD cells i noCell ≡ getD (c .cells) i noCell)
     → Edit n c (withSettings c trigger cells connectors edited)
 settings-edit n c trigger cells connectors edited unedited kept =
     record { memory = refl; unedited = unedited; kept = kept }
 
-same-edit : (n : ℕ) (c : Card) (trigger : ℕ) (connectors : List Connector) → Edit n c (withSettings c trigger (c .cells) connectors (c .edited))
+same-edit : (n : ℕ) (c : Card) (trigger : ℕ) (connectors : Connectors) → Edit n c (withSettings c trigger (c .cells) connectors (c .edited))
 same-edit n c trigger connectors = settings-edit n c trigger (c .cells) connectors (c .edited) (λ i h e. e) (λ i h e. refl)
 
 pub no-edit : (n : ℕ) (c : Card) → Edit n c c
@@ -57,9 +57,9 @@ module _ (n : ℕ) (c : Card) where
   unfolding putCell
   put-edit cell = either-edit _ (atCell n c) (cell-edit _ cell)
 
-  put-connector-edit : (connector : Connector) → Edit n c (putConnector c connector)
-  unfolding putConnector
-  put-connector-edit connector = either-edit _ (atConnector c) (same-edit n c (c .trigger) _)
+  put-connectors-edit : (connectors : Connectors) → Edit n c (putConnectors c connectors)
+  unfolding putConnectors
+  put-connectors-edit connectors = either-edit _ (atConnector c) (same-edit n c (c .trigger) _)
 
   pub move-edit : (p : ℕ) → Edit n c (move c p)
   unfolding move
@@ -92,11 +92,11 @@ module _ (n : ℕ) (c : Card) where
 
   pub connector-type-edit : (kind : ℕ) → Edit n c (setConnectorType c kind)
   unfolding setConnectorType
-  connector-type-edit kind = put-connector-edit _
+  connector-type-edit kind = put-connectors-edit _
 
   pub source-edit : (source : ℕ) → Edit n c (setSource c source)
   unfolding setSource
-  source-edit source = put-connector-edit _
+  source-edit source = put-connectors-edit _
 
   -- a cell that a preset does not set stays
   unset : (o : Option Cell) (old : Cell) → has o ≡ false → Option·getD o old ≡ old

@@ -2,6 +2,7 @@
 pub mod Bounds
 pub mod ChangeLaws
 pub mod ChartLaws
+pub mod ConnectorLaws
 pub mod EditLaws
 pub mod Places
 pub mod PresetLaws

@@ -1,5 +1,5 @@
 -- An accepted preset keeps a card valid: what it sets is valid, by one test over the whole table, and stays so where there are more cells.
-use Prim.Native.Nat.{ℕ, _+_, _≤_}
+use Prim.Native.Nat.{ℕ, _+_, _≤_, _<_}
 use mathlib.Core.Path.{_≡_, refl, ap}
 use mathlib.Core.Bool.{Bool, true, false, not, _&&_, _||_, cond, or-true}
 use mathlib.Core.List.{List, [], _∷_, _++_}
@@ -13,22 +13,23 @@ use Rattle.words.specs.Listed.{listed}
 use Rattle.words.proofs.Listed.{length-listed, listed-at, front-at, front-length}
 use Rattle.cells.specs.declared.cell.Cell.{Cell}
 use Rattle.cells.specs.Table.{rowOf}
-use Rattle.words.proofs.Bools.{or-left, or-right, and-left, and-right}
+use Rattle.words.proofs.Bools.{or-left, or-right, and-left, and-right, and-both}
 use Rattle.card.specs.declared.card.Card.{Card}
 use Rattle.card.specs.declared.card.Connector.{Connector}
 use Rattle.card.specs.Address.{cellCount, cellRoom, connectorCount, firstCell, firstConnector, among, baseOf, edgeAddress}
-use Rattle.card.specs.Connectors.{noConnector}
+use Rattle.card.specs.Connectors.{connectorAt, each, noConnector, fromEach, wellFormed}
 use Rattle.card.specs.Fresh.{noCell}
 use Rattle.card.specs.Valid.{largestAddress, frontTrigger, permittedBase, badCellType, badConnectorType, badAddress, frontDriven}
 use Rattle.card.specs.Valid.{validSlot, validSlots, validCell, validConnector, every, validCard}
 use Rattle.card.specs.Presets.{Setting, Entry, presetTable, isLarge, largePreset, largeSources, find, has}
 use Rattle.card.specs.Presets.{cellsOf, sourcesOf, settingOf, presetCell, presetSource, setsFront, sourced}
 use Rattle.card.specs.Presets.{cellWithPreset, connectorWithPreset, preset}
+use Rattle.card.proofs.ConnectorLaws.{Known, each-from, from-formed}
 use Rattle.card.proofs.PresetRows
 use Rattle.card.proofs.PresetRows.{large-source}
 use Rattle.card.proofs.Places.{among-in, among-bounds}
 use Rattle.card.proofs.Settings.{every-listed, first-pass, taken-room, cell-slots, config-most, join}
-use Rattle.card.proofs.ValidLaws.{kind-known, sound, cell-at, connector-at}
+use Rattle.card.proofs.ValidLaws.{kind-known, kind-good, sound, cell-at, connector-at, front-free}
 use Rattle.card.proofs.WriteLaws.{slots-each}
 
 -- a test of what stands at a number, if anything does
@@ -171,22 +172,34 @@ module _ (n : ℕ) (more : cellCount ≤ n) where
   unfolding preset validCard setsFront
   valid-preset c ok v free =
       let cells = listed (cellWithPreset c v) n ++ drop n (c .cells) in
-      let connectors = listed (connectorWithPreset n c v) connectorCount in
-      let first = listed-at (connectorWithPreset n c v) connectorCount 0 noConnector (omega arith) in
       let s = sound n c ok in
       let had = taken-room n (c .cells) (s .cell-count) in
       let long : n ≤ length cells = omega (arith, had, front-length (cellWithPreset c v) n (c .cells) had) in
-      join n (c .trigger) cells connectors
+      and-both (wellFormed (fromEach connectors)) _ (from-formed connectors count known)
+      (rw (each-from connectors count known)
+      (join n (c .trigger) cells connectors
       (record {
         clock = s .clock;
-        front = rw first (either-front (c .trigger) (presetSource n v 0) (getD (c .connectors) 0 noConnector) free (s .front));
+        front =
+            rw (listed-at (connectorWithPreset n c v) connectorCount 0 noConnector (omega arith))
+            (either-front (c .trigger) (presetSource n v 0) (connectorAt (c .connectors) 0) free (front-free n c ok));
         cell-count = length-take-le n cells long;
-        connector-count = length-listed (connectorWithPreset n c v) connectorCount;
+        connector-count = count;
         cells-pass =
             first-pass (validCell n) n cells noCell long
             (λ i h. rw (front-at (cellWithPreset c v) n (c .cells) i noCell h)
             (either-cell (presetCell v i) (getD (c .cells) i noCell) (preset-cell v i) (cell-at n c ok i h)));
-        connectors-pass =
-            every-listed (validConnector n) (connectorWithPreset n c v) connectorCount
-            (λ k h. either-connector (presetSource n v k) (getD (c .connectors) k noConnector) (preset-source v k) (connector-at n c ok k h));
-      })
+        connectors-pass = every-listed (validConnector n) (connectorWithPreset n c v) connectorCount pass;
+      })))
+    where
+      connectors : List Connector
+      connectors = listed (connectorWithPreset n c v) connectorCount
+
+      count : length connectors ≡ connectorCount
+      count = length-listed (connectorWithPreset n c v) connectorCount
+
+      pass : (k : ℕ) → k < connectorCount → validConnector n (connectorWithPreset n c v k) ≡ true
+      pass k h = either-connector (presetSource n v k) (connectorAt (c .connectors) k) (preset-source v k) (connector-at n c ok k h)
+
+      known : Known connectors
+      known k h = rw (listed-at (connectorWithPreset n c v) connectorCount k noConnector h) (kind-good n (connectorWithPreset n c v k) (pass k h))

@@ -13,20 +13,24 @@ use Rattle.cells.specs.declared.table.Slots.{Slots}
 use Rattle.cells.specs.declared.table.Row.{Row}
 use Rattle.cells.specs.declared.cell.Cell.{Cell}
 use Rattle.cells.specs.Table.{rowOf}
-use Rattle.words.proofs.Bools.{or-left, or-right, and-left, and-right}
+use Rattle.words.specs.Bits.{bitAt, wordOf}
+use Rattle.words.specs.Listed.{listed}
+use Rattle.words.proofs.Bools.{or-left, or-right, and-left, and-right, and-both}
 use Rattle.cells.proofs.Rows.{every-row}
 use Rattle.card.specs.declared.card.Card.{Card}
 use Rattle.card.specs.declared.card.Connector.{Connector}
+use Rattle.card.specs.declared.card.Connectors.{Connectors}
 use Rattle.card.specs.Address.{cellRoom, connectorCount, firstCell, firstConnector}
-use Rattle.card.specs.Connectors.{noConnector}
+use Rattle.card.specs.Connectors.{input, kindAt, sourceAt, connectorAt, withKind, withSource, each, noConnector, fromEach, wellFormed}
 use Rattle.card.specs.Fresh.{noCell, freshCell, freshConnectors, freshOf}
 use Rattle.card.specs.Valid.{frontTrigger, permittedBase, badClock, badCellType, badConnectorType, badConfig, unusedSlot, badAddress, frontDriven}
-use Rattle.card.specs.Valid.{validSlot, validSlots, validCell, validConnector, every, valid, validCard}
-use Rattle.card.specs.Edits.{atCell, atConnector, withCell, withConnector, clearedCell, clearedCells, blankSlots, input, storedAddress, wiredSlot}
+use Rattle.card.specs.Valid.{validSlot, validSlots, validCell, validConnector, every, valid, validSettings, validCard}
+use Rattle.card.specs.Edits.{atCell, atConnector, withCell, withConnectors, clearedCell, clearedCells, blankSlots, storedAddress, wiredSlot}
 use Rattle.card.specs.Edits.{currentCell}
-use Rattle.card.specs.Edits.{currentConnector, putCell, putConnector, move, setTrigger, home, typed, setType, configured, setConfig, stated, setState}
+use Rattle.card.specs.Edits.{putCell, putConnectors, move, setTrigger, home, typed, setType, configured, setConfig, stated, setState}
 use Rattle.card.specs.Edits.{wired, setSlots, setConnectorType, setSource}
 use Rattle.card.proofs.Settings.{every-at, every-set, every-replicate, first-at, first-pass, taken-room, Sound, split, join, valid-cleared}
+use Rattle.card.proofs.ConnectorLaws.{length-each, each-at, each-kind, kind-formed, each-source, source-formed, type-known}
 use Rattle.card.proofs.Places.{among-bounds}
 
 -- ---- a cell by itself
@@ -132,10 +136,6 @@ wired-valid n cell given x y z f ok unused good =
 
 -- ---- a connector by itself
 
-no-connector : (n : ℕ) → validConnector n noConnector ≡ true
-unfolding validConnector badConnectorType badAddress permittedBase
-no-connector n = refl
-
 module _ (n : ℕ) where
   -- a permitted type and a permitted source
   connector-valid : (kind source : ℕ) → badConnectorType kind ≡ false → badAddress n source ≡ false
@@ -154,9 +154,17 @@ module _ (n : ℕ) where
 -- ---- the edits
 
 module _ (n : ℕ) (c : Card) (ok : validCard n c ≡ true) where
-  pub sound : Sound n (c .trigger) (c .cells) (c .connectors)
+  -- the connectors are as lines leave them
+  pub formed : wellFormed (c .connectors) ≡ true
   unfolding validCard
-  sound = split n (c .trigger) (c .cells) (c .connectors) ok
+  formed = and-left (wellFormed (c .connectors)) (valid n (c .trigger) (c .cells) (each (c .connectors))) ok
+
+  pub settings-valid : valid n (c .trigger) (c .cells) (each (c .connectors)) ≡ true
+  unfolding validCard
+  settings-valid = and-right (wellFormed (c .connectors)) (valid n (c .trigger) (c .cells) (each (c .connectors))) ok
+
+  pub sound : Sound n (c .trigger) (c .cells) (each (c .connectors))
+  sound = split n (c .trigger) (c .cells) (each (c .connectors)) settings-valid
 
   -- there are n cells
   room : n ≤ length (c .cells)
@@ -164,9 +172,10 @@ module _ (n : ℕ) (c : Card) (ok : validCard n c ≡ true) where
 
   -- with other cells, of which the first n are valid
   pub first-cells : (cells : List Cell) → n ≤ length cells → ((i : ℕ) → i < n → validCell n (getD cells i noCell) ≡ true)
-      → valid n (c .trigger) cells (c .connectors) ≡ true
+      → validSettings n (c .trigger) cells (c .connectors) ≡ true
   first-cells cells long pass =
-      join n (c .trigger) cells (c .connectors)
+      and-both (wellFormed (c .connectors)) _ formed
+      (join n (c .trigger) cells (each (c .connectors))
       (record {
         clock = sound .clock;
         front = sound .front;
@@ -174,31 +183,36 @@ module _ (n : ℕ) (c : Card) (ok : validCard n c ≡ true) where
         connector-count = sound .connector-count;
         cells-pass = first-pass (validCell n) n cells noCell long pass;
         connectors-pass = sound .connectors-pass;
-      })
+      }))
 
-  -- with another trigger, and the connector at k replaced
-  other-connector : (trigger k : ℕ) (connector : Connector) → badClock trigger ≡ false → validConnector n connector ≡ true
-      → frontDriven trigger (getD (set (c .connectors) k connector) 0 noConnector .kind) ≡ false
-      → valid n trigger (c .cells) (set (c .connectors) k connector) ≡ true
-  other-connector trigger k connector clock pass front =
-      join n trigger (c .cells) (set (c .connectors) k connector)
+  -- with another trigger, and connectors of which the one at k is another
+  other-connector : (trigger k : ℕ) (d : Connectors) (connector : Connector) → wellFormed d ≡ true → each d ≡ set (each (c .connectors)) k connector
+      → badClock trigger ≡ false → validConnector n connector ≡ true → frontDriven trigger (getD (each d) 0 noConnector .kind) ≡ false
+      → validSettings n trigger (c .cells) d ≡ true
+  other-connector trigger k d connector whole same clock pass front =
+      and-both (wellFormed d) _ whole
+      (join n trigger (c .cells) (each d)
       (record {
         clock = clock;
         front = front;
         cell-count = sound .cell-count;
-        connector-count = length-set (c .connectors) k connector ∙ sound .connector-count;
+        connector-count = length-each d;
         cells-pass = sound .cells-pass;
-        connectors-pass = every-set (validConnector n) (c .connectors) k connector (sound .connectors-pass) pass;
-      })
+        connectors-pass = rw same (every-set (validConnector n) (each (c .connectors)) k connector (sound .connectors-pass) pass);
+      }))
 
   -- at each place
   pub cell-at : (i : ℕ) → i < n → validCell n (getD (c .cells) i noCell) ≡ true
   cell-at i h = first-at (validCell n) n (c .cells) i noCell (sound .cells-pass) (sound .cell-count) h
 
-  pub connector-at : (k : ℕ) → k < connectorCount → validConnector n (getD (c .connectors) k noConnector) ≡ true
+  pub connector-at : (k : ℕ) → k < connectorCount → validConnector n (connectorAt (c .connectors) k) ≡ true
   connector-at k h =
-      let count = sound .connector-count in
-      every-at (validConnector n) (c .connectors) k noConnector (sound .connectors-pass) (omega arith)
+      rw (each-at (c .connectors) k h) at
+      (every-at (validConnector n) (each (c .connectors)) k noConnector (sound .connectors-pass) (omega (arith, length-each (c .connectors))))
+
+  -- BNC1 is no output while it brings the trigger
+  pub front-free : frontDriven (c .trigger) (kindAt (c .connectors) 0) ≡ false
+  front-free = rw (each-at (c .connectors) 0 (omega arith)) at (sound .front)
 
   -- the cell at the pointer
   current-valid : validCell n (currentCell n c) ≡ true
@@ -236,17 +250,23 @@ module _ (n : ℕ) (c : Card) (ok : validCard n c ≡ true) where
   unfolding setTrigger validCard frontDriven badConnectorType
   valid-trigger t clock = go (eqb t frontTrigger) refl
     where
-      quiet : Connector
-      quiet = record { kind = input; source = getD (c .connectors) 0 noConnector .source }
+      d : Connectors
+      d = c .connectors
 
-      go : (b : Bool) → eqb t frontTrigger ≡ b → valid n t (c .cells) (cond b (set (c .connectors) 0 quiet) (c .connectors)) ≡ true
+      quiet : Connector
+      quiet = record { kind = input; source = sourceAt d 0 }
+
+      same : each (withKind d 0 input) ≡ set (each d) 0 quiet
+      same = each-kind d formed 0 (omega arith) input refl
+
+      go : (b : Bool) → eqb t frontTrigger ≡ b → validSettings n t (c .cells) (cond b (withKind d 0 input) d) ≡ true
       go true e =
-          let count = sound .connector-count in
-          other-connector t 0 quiet clock
-          (connector-valid n input _ refl (source-good n (getD (c .connectors) 0 noConnector) (connector-at 0 (omega arith))))
-          (rw (getD-set-same (c .connectors) 0 quiet noConnector (omega arith)) (and-false (eqb t frontTrigger)))
+          other-connector t 0 (withKind d 0 input) quiet (kind-formed d formed 0 (omega arith) input refl) same clock
+          (connector-valid n input _ refl (source-good n (connectorAt d 0) (connector-at 0 (omega arith))))
+          (rw (same, getD-set-same (each d) 0 quiet noConnector (omega (arith, length-each d))) (and-false (eqb t frontTrigger)))
       go false e =
-          join n t (c .cells) (c .connectors)
+          and-both (wellFormed d) _ formed
+          (join n t (c .cells) (each d)
           (record {
             clock = clock;
             front = rw e;
@@ -254,13 +274,15 @@ module _ (n : ℕ) (c : Card) (ok : validCard n c ≡ true) where
             connector-count = sound .connector-count;
             cells-pass = sound .cells-pass;
             connectors-pass = sound .connectors-pass;
-          })
+          }))
 
   pub valid-home : validCard n (home n c) ≡ true
   unfolding home validCard
   valid-home =
       let long = length-map (take n (c .cells)) clearedCell ∙ sound .cell-count in
-      valid-cleared n (c .trigger) (clearedCells n (c .cells)) (c .cells) (c .connectors) (take-at (map clearedCell (take n (c .cells))) _ n long) ∙ ok
+      and-both (wellFormed (c .connectors)) _ formed
+      (valid-cleared n (c .trigger) (clearedCells n (c .cells)) (c .cells) (each (c .connectors)) (take-at (map clearedCell (take n (c .cells))) _ n long)
+      ∙ settings-valid)
 
   pub valid-type : (v : ℕ) → badCellType v ≡ false → validCard n (setType n c v) ≡ true
   unfolding setType
@@ -280,68 +302,72 @@ module _ (n : ℕ) (c : Card) (ok : validCard n c ≡ true) where
   valid-slots given x y z f unused good =
       put-valid (wired (currentCell n c) given (x ∷ y ∷ z ∷ f ∷ [])) (wired-valid n (currentCell n c) given x y z f current-valid unused good)
 
-  -- the connector at the pointer
-  current-connector : validConnector n (currentConnector c) ≡ true
-  unfolding currentConnector
-  current-connector = go (atConnector c) refl
-    where
-      go : (b : Bool) → atConnector c ≡ b
-          → validConnector n (cond b (getD (c .connectors) (c .pointer - firstConnector) noConnector) noConnector) ≡ true
-      go true e =
-          let h = among-bounds firstConnector connectorCount (c .pointer) e in
-          connector-at (c .pointer - firstConnector) (omega arith)
-      go false e = no-connector n
+  -- the place of the connector at the pointer
+  abbrev here : ℕ
+  here = c .pointer - firstConnector
+
+  -- what a change of the connector there has to make of it
+  abbrev Made : Connectors → Connector → Type 0
+  Made d connector = (wellFormed d ≡ true) × (each d ≡ set (each (c .connectors)) here connector) × (validConnector n connector ≡ true)
 
   -- BNC1 after it, or another, was replaced
   front-after : (k : ℕ) (connector : Connector) → Dec (k ≡ 0) → (k ≡ 0 → frontDriven (c .trigger) (connector .kind) ≡ false)
-      → frontDriven (c .trigger) (getD (set (c .connectors) k connector) 0 noConnector .kind) ≡ false
+      → frontDriven (c .trigger) (getD (set (each (c .connectors)) k connector) 0 noConnector .kind) ≡ false
   front-after k connector (yes e) free =
-      let count = sound .connector-count in
-      rw (e, getD-set-same (c .connectors) 0 connector noConnector (omega arith)) (free e)
-  front-after k connector (no e) free = rw (getD-set-other (c .connectors) k 0 connector noConnector (λ q. e (sym q))) (sound .front)
+      rw (e, getD-set-same (each (c .connectors)) 0 connector noConnector (omega (arith, length-each (c .connectors)))) (free e)
+  front-after k connector (no e) free = rw (getD-set-other (each (c .connectors)) k 0 connector noConnector (λ q. e (sym q))) (sound .front)
 
-  put-connector-valid : (connector : Connector) → validConnector n connector ≡ true
-      → (eqb (c .pointer) firstConnector && frontDriven (c .trigger) (connector .kind)) ≡ false → validCard n (putConnector c connector) ≡ true
-  unfolding putConnector validCard
-  put-connector-valid connector pass free = go (atConnector c) refl
+  put-connectors-valid : (d : Connectors) (connector : Connector) → (here < connectorCount → Made d connector)
+      → (eqb (c .pointer) firstConnector && frontDriven (c .trigger) (connector .kind)) ≡ false → validCard n (putConnectors c d) ≡ true
+  unfolding putConnectors validCard
+  put-connectors-valid d connector made free = go (atConnector c) refl
     where
-      go : (b : Bool) → atConnector c ≡ b → validCard n (cond b (withConnector c (c .pointer - firstConnector) connector) c) ≡ true
+      go : (b : Bool) → atConnector c ≡ b → validCard n (cond b (withConnectors c d) c) ≡ true
       go true e =
           let h = among-bounds firstConnector connectorCount (c .pointer) e in
-          let k = c .pointer - firstConnector in
-          other-connector (c .trigger) k connector (sound .clock) pass
-          (front-after k connector (ℕ-discrete k 0)
-          (λ q. let p : c .pointer ≡ firstConnector = omega arith in rw (eq-eqb (c .pointer) firstConnector p) at free))
+          let m = made (omega arith) in
+          other-connector (c .trigger) here d connector (m .0) (m .1) (sound .clock) (m .2)
+          (rw (m .1) (front-after here connector (ℕ-discrete here 0)
+          (λ q. let p : c .pointer ≡ firstConnector = omega arith in rw (eq-eqb (c .pointer) firstConnector p) at free)))
       go false e = ok
 
   pub valid-connector-type : (v : ℕ) → badConnectorType v ≡ false → (eqb (c .pointer) firstConnector && frontDriven (c .trigger) v) ≡ false
       → validCard n (setConnectorType c v) ≡ true
   unfolding setConnectorType
   valid-connector-type v known free =
-      put-connector-valid _ (connector-valid n v _ known (source-good n (currentConnector c) current-connector)) free
+      let d = c .connectors in
+      put-connectors-valid (withKind d here v) (record { kind = v; source = sourceAt d here })
+      (λ h. (
+        kind-formed d formed here h v known,
+        each-kind d formed here h v known,
+        connector-valid n v _ known (source-good n (connectorAt d here) (connector-at here h)),
+      ))
+      free
 
   -- the type that the connector at the pointer has drives no trigger
-  current-free : (eqb (c .pointer) firstConnector && frontDriven (c .trigger) (currentConnector c .kind)) ≡ false
-  unfolding currentConnector
+  current-free : (eqb (c .pointer) firstConnector && frontDriven (c .trigger) (kindAt (c .connectors) here)) ≡ false
   current-free = go (ℕ-discrete (c .pointer) firstConnector)
     where
-      go : Dec (c .pointer ≡ firstConnector) → (eqb (c .pointer) firstConnector && frontDriven (c .trigger) (currentConnector c .kind)) ≡ false
-      go (yes e) = rw e (sound .front)
+      go : Dec (c .pointer ≡ firstConnector) → (eqb (c .pointer) firstConnector && frontDriven (c .trigger) (kindAt (c .connectors) here)) ≡ false
+      go (yes e) = rw e front-free
       go (no e) = rw (ne-eqb (c .pointer) firstConnector e)
 
   pub valid-source : (v : ℕ) → badAddress n v ≡ false → validCard n (setSource c v) ≡ true
   unfolding setSource
   valid-source v good =
-      put-connector-valid _ (connector-valid n _ v (kind-good n (currentConnector c) current-connector) good) current-free
+      let d = c .connectors in
+      put-connectors-valid (withSource d here v) (record { kind = kindAt d here; source = v })
+      (λ h. (source-formed d formed here h v, each-source d formed here h v, connector-valid n _ v (type-known d here) good)) current-free
 
 -- ---- a fresh card
 
 pub fresh-valid : (n : ℕ) → validCard n (freshOf n) ≡ true
-unfolding validCard badClock frontDriven every validConnector badConnectorType badAddress permittedBase
+unfolding validCard wellFormed each fromEach kindAt sourceAt bitAt wordOf listed badClock frontDriven every validConnector badConnectorType badAddress permittedBase
 fresh-valid n =
     let room = replicate (cellRoom - n) freshCell in
     let all : take n (replicate n freshCell ++ room) ≡ replicate n freshCell = take-at (replicate n freshCell) room n (length-replicate n freshCell) in
-    join n 0 (replicate n freshCell ++ room) freshConnectors
+    and-both (wellFormed freshConnectors) _ refl
+    (join n 0 (replicate n freshCell ++ room) (each freshConnectors)
     (record {
       clock = refl;
       front = refl;
@@ -349,4 +375,4 @@ fresh-valid n =
       connector-count = refl;
       cells-pass = rw all (every-replicate (validCell n) n freshCell (fresh-cell n));
       connectors-pass = refl;
-    })
+    }))

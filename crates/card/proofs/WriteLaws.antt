@@ -18,16 +18,19 @@ use Rattle.words.proofs.Bools.{or-left, or-right, and-left, and-right}
 use Rattle.cells.proofs.Rows.{every-row}
 use Rattle.card.specs.declared.card.Card.{Card}
 use Rattle.card.specs.declared.card.Connector.{Connector}
+use Rattle.card.specs.declared.card.Connectors.{Connectors}
 use Rattle.card.specs.Address.{firstCell, firstConnector, connectorCount, among, edgeAddress}
-use Rattle.card.specs.Connectors.{openDrain, pushPull, isOutput, noConnector}
+use Rattle.card.specs.Connectors.{input, openDrain, pushPull, isOutput, kindAt, sourceAt, connectorAt, withKind, withSource, each, noConnector}
+use Rattle.card.specs.Connectors.{wellFormed}
 use Rattle.cells.specs.State.{cellOf}
 use Rattle.card.specs.Fresh.{clearState, noCell}
 use Rattle.card.specs.Valid.{largestAddress, frontTrigger, frontDriven, badPlace, badConnectorType, badConfig, unusedSlot, badAddress, validSlot}
 use Rattle.card.specs.Valid.{validSlots, validCell, validConnector}
-use Rattle.card.specs.Edits.{atCell, atConnector, input, blankSlot, clearedCell, storedAddress, wiredSlot, configuredState, currentCell, currentConnector}
-use Rattle.card.specs.Edits.{putCell, putConnector, move, setTrigger, typed, setType, configured, setConfig, wired, setSlots, setConnectorType}
+use Rattle.card.specs.Edits.{atCell, atConnector, withConnectors, blankSlot, clearedCell, storedAddress, wiredSlot, configuredState, currentCell}
+use Rattle.card.specs.Edits.{putCell, putConnectors, move, setTrigger, typed, setType, configured, setConfig, wired, setSlots, setConnectorType}
 use Rattle.card.specs.Edits.{setSource}
 use Rattle.card.specs.Written.{configuredAs, written}
+use Rattle.card.proofs.ConnectorLaws.{length-each, each-at, each-kind, kind-formed, each-source, source-formed, type-known, each-unique}
 use Rattle.card.proofs.Slots.{four}
 use Rattle.card.proofs.Settings.{cell-slots, config-most, every-at, Sound}
 use Rattle.card.proofs.ValidLaws.{slots-pass, all-four, none-four, badGiven, kind-good}
@@ -231,7 +234,8 @@ pub record ConnectorWritten (c : Card) (k : ℕ) (connector : Connector) (d : Ca
   pub pointer : d .pointer ≡ firstConnector + k
   pub trigger : d .trigger ≡ c .trigger
   pub cells : d .cells ≡ c .cells
-  pub connectors : d .connectors ≡ set (c .connectors) k connector
+  pub formed : wellFormed (d .connectors) ≡ true
+  pub connectors : each (d .connectors) ≡ set (each (c .connectors)) k connector
 
 module _ (c : Card) (k : ℕ) (within : k < connectorCount) where
   at-connector : (d : Card) → d .pointer ≡ firstConnector + k → atConnector d ≡ true
@@ -241,37 +245,63 @@ module _ (c : Card) (k : ℕ) (within : k < connectorCount) where
   pub beside-cells : (n : ℕ) → firstCell + n ≤ firstConnector → (d : Card) → d .pointer ≡ firstConnector + k → atCell n d ≡ false
   beside-cells n apart d p = rw p (among-above firstCell n (firstConnector + k) (omega arith))
 
-  put-connector-written : (old connector : Connector) (d : Card) → ConnectorWritten c k old d → ConnectorWritten c k connector (putConnector d connector)
-  unfolding putConnector
-  put-connector-written old connector d w =
-      let here = at-connector d (w .pointer) in
-      let index : d .pointer - firstConnector ≡ k = omega (arith, w .pointer) in
+  pub move-connector-written : wellFormed (c .connectors) ≡ true → ConnectorWritten c k (connectorAt (c .connectors) k) (move c (firstConnector + k))
+  unfolding move
+  move-connector-written ok =
+      let d = c .connectors in
       record {
-        pointer = rw here (w .pointer);
-        trigger = rw here (w .trigger);
-        cells = rw here (w .cells);
-        connectors = rw (here, index, w .connectors) (set-set (c .connectors) k old connector);
+        pointer = refl;
+        trigger = refl;
+        cells = refl;
+        formed = ok;
+        connectors = sym (ap (set (each d) k) (sym (each-at d k within)) ∙ set-getD (each d) k noConnector);
       }
 
-  pub move-connector-written : ConnectorWritten c k (getD (c .connectors) k noConnector) (move c (firstConnector + k))
-  unfolding move
-  move-connector-written = record { pointer = refl; trigger = refl; cells = refl; connectors = sym (set-getD (c .connectors) k noConnector) }
+  module _ (connector : Connector) (d : Card) (w : ConnectorWritten c k connector d) where
+    -- the connector there
+    there : connectorAt (d .connectors) k ≡ connector
+    there =
+        sym (each-at (d .connectors) k within) ∙ ap (λ (l : List Connector). getD l k noConnector) (w .connectors)
+        ∙ getD-set-same (each (c .connectors)) k connector noConnector (omega (arith, length-each (c .connectors)))
 
-  module _ (there : k < length (c .connectors)) (connector : Connector) (d : Card) (w : ConnectorWritten c k connector d) where
-    current-connector-written : currentConnector d ≡ connector
-    unfolding currentConnector
-    current-connector-written =
+    -- replaced once more
+    put-written-again : (row : Connectors) (other : Connector) → wellFormed row ≡ true → each row ≡ set (each (d .connectors)) k other
+        → ConnectorWritten c k other (putConnectors d row)
+    unfolding putConnectors
+    put-written-again row other ok same =
         let here = at-connector d (w .pointer) in
-        let index : d .pointer - firstConnector ≡ k = omega (arith, w .pointer) in
-        rw (here, index, w .connectors) (getD-set-same (c .connectors) k connector noConnector there)
+        record {
+          pointer = rw here (w .pointer);
+          trigger = rw here (w .trigger);
+          cells = rw here (w .cells);
+          formed = rw here ok;
+          connectors =
+              rw here
+              (same ∙ ap (λ (l : List Connector). set l k other) (w .connectors) ∙ set-set (each (c .connectors)) k connector other);
+        }
 
-    pub connector-type-written : (v : ℕ) → ConnectorWritten c k (record { kind = v; source = connector .source }) (setConnectorType d v)
+    pub connector-type-written : (v : ℕ) → badConnectorType v ≡ false
+        → ConnectorWritten c k (record { kind = v; source = connector .source }) (setConnectorType d v)
     unfolding setConnectorType
-    connector-type-written v = rw current-connector-written (put-connector-written connector (record { kind = v; source = connector .source }) d w)
+    connector-type-written v known =
+        let index : d .pointer - firstConnector ≡ k = omega (arith, w .pointer) in
+        let source = ap (λ (x : Connector). x .source) there in
+        rw index
+        (put-written-again (withKind (d .connectors) k v) (record { kind = v; source = connector .source })
+        (kind-formed (d .connectors) (w .formed) k within v known)
+        (each-kind (d .connectors) (w .formed) k within v known
+        ∙ (λ i. set (each (d .connectors)) k (record { kind = v; source = source i }))))
 
     pub source-written : (v : ℕ) → ConnectorWritten c k (record { kind = connector .kind; source = v }) (setSource d v)
     unfolding setSource
-    source-written v = rw current-connector-written (put-connector-written connector (record { kind = connector .kind; source = v }) d w)
+    source-written v =
+        let index : d .pointer - firstConnector ≡ k = omega (arith, w .pointer) in
+        let kind = ap (λ (x : Connector). x .kind) there in
+        rw index
+        (put-written-again (withSource (d .connectors) k v) (record { kind = connector .kind; source = v })
+        (source-formed (d .connectors) (w .formed) k within v)
+        (each-source (d .connectors) (w .formed) k within v
+        ∙ (λ i. set (each (d .connectors)) k (record { kind = kind i; source = v }))))
 
 -- ---- the trigger
 
@@ -285,21 +315,21 @@ input-kind kind known quiet =
     omega arith
 
 -- "4 also makes BNC1 an input": under a trigger of valid settings it is one already
-pub trigger-leaves : (n trigger : ℕ) (cells : List Cell) (c : Card) → Sound n trigger cells (c .connectors)
+pub trigger-leaves : (n trigger : ℕ) (cells : List Cell) (c : Card) → wellFormed (c .connectors) ≡ true → Sound n trigger cells (each (c .connectors))
     → setTrigger c trigger .connectors ≡ c .connectors
-unfolding setTrigger frontDriven
-trigger-leaves n trigger cells c s = go (eqb trigger frontTrigger) refl
+unfolding setTrigger frontDriven badConnectorType
+trigger-leaves n trigger cells c ok s = go (eqb trigger frontTrigger) refl
   where
-    front : Connector
-    front = getD (c .connectors) 0 noConnector
+    d : Connectors
+    d = c .connectors
 
-    quiet : Connector
-    quiet = record { kind = input; source = front .source }
+    front : getD (each d) 0 noConnector ≡ connectorAt d 0
+    front = each-at d 0 (omega arith)
 
-    go : (b : Bool) → eqb trigger frontTrigger ≡ b → cond b (set (c .connectors) 0 quiet) (c .connectors) ≡ c .connectors
+    go : (b : Bool) → eqb trigger frontTrigger ≡ b → cond b (withKind d 0 input) d ≡ d
     go true e =
-        let count = s .connector-count in
-        let pass = every-at (validConnector n) (c .connectors) 0 noConnector (s .connectors-pass) (omega arith) in
-        let same : input ≡ front .kind = input-kind (front .kind) (kind-good n front pass) (rw e at (s .front)) in
-        ap (λ (k : ℕ). set (c .connectors) 0 (record { kind = k; source = front .source })) same ∙ set-getD (c .connectors) 0 noConnector
+        let same : input ≡ kindAt d 0 = input-kind (kindAt d 0) (type-known d 0) (rw (front, e) at (s .front)) in
+        each-unique (withKind d 0 input) d (kind-formed d ok 0 (omega arith) input refl) ok
+        (each-kind d ok 0 (omega arith) input refl ∙ (λ i. set (each d) 0 (record { kind = same i; source = sourceAt d 0 }))
+        ∙ ap (set (each d) 0) (sym front) ∙ set-getD (each d) 0 noConnector)
     go false e = refl

@@ -17,15 +17,16 @@ use Rattle.cells.specs.State.{stateOf, cellOf, withState}
 use Rattle.cells.specs.Work.{pulses}
 use Rattle.card.specs.declared.card.Card.{Card}
 use Rattle.card.specs.declared.card.Connector.{Connector}
+use Rattle.card.specs.declared.card.Connectors.{Connectors}
 use Rattle.card.specs.Address.{firstCell, firstConnector, connectorCount, among, edgeAddress}
-use Rattle.card.specs.Connectors.{noConnector}
+use Rattle.card.specs.Connectors.{input, connectorAt, noConnector, withKind, withSource}
 use Rattle.card.specs.Fresh.{clearState, freshCell, noCell}
 use Rattle.card.specs.Valid.{frontTrigger}
 
 -- ---- parts of the card, replaced
 
 -- all that a line can replace
-abbrev pub withParts : Card → ℕ → ℕ → List Cell → List Connector → ℕ → Card
+abbrev pub withParts : Card → ℕ → ℕ → List Cell → Connectors → ℕ → Card
 withParts c pointer trigger cells connectors edited =
     record {
       pointer = pointer;
@@ -41,15 +42,15 @@ abbrev pub withPointer : Card → ℕ → Card
 withPointer c p = withParts c p (c .trigger) (c .cells) (c .connectors) (c .edited)
 
 -- the settings and states, with the cells that are now edited; nothing else of the card
-abbrev pub withSettings : Card → ℕ → List Cell → List Connector → ℕ → Card
+abbrev pub withSettings : Card → ℕ → List Cell → Connectors → ℕ → Card
 withSettings c trigger cells connectors edited = withParts c (c .pointer) trigger cells connectors edited
 
 -- the card with the cell at index i replaced, and edited
 abbrev pub withCell : Card → ℕ → Cell → Card
 withCell c i cell = withSettings c (c .trigger) (set (c .cells) i cell) (c .connectors) (withBit (c .edited) i true)
 
-abbrev pub withConnector : Card → ℕ → Connector → Card
-withConnector c k connector = withSettings c (c .trigger) (c .cells) (set (c .connectors) k connector) (c .edited)
+abbrev pub withConnectors : Card → Connectors → Card
+withConnectors c connectors = withSettings c (c .trigger) (c .cells) connectors (c .edited)
 
 -- ---- the pointer
 
@@ -65,14 +66,15 @@ unfoldable pub currentCell : ℕ → Card → Cell
 currentCell n c = cond (atCell n c) (getD (c .cells) (c .pointer - firstCell) noCell) freshCell
 
 unfoldable pub currentConnector : Card → Connector
-currentConnector c = cond (atConnector c) (getD (c .connectors) (c .pointer - firstConnector) noConnector) noConnector
+currentConnector c = cond (atConnector c) (connectorAt (c .connectors) (c .pointer - firstConnector)) noConnector
 
 -- the one at the pointer replaced; elsewhere nothing changes
 unfoldable pub putCell : ℕ → Card → Cell → Card
 putCell n c cell = cond (atCell n c) (withCell c (c .pointer - firstCell) cell) c
 
-unfoldable pub putConnector : Card → Connector → Card
-putConnector c connector = cond (atConnector c) (withConnector c (c .pointer - firstConnector) connector) c
+-- the row of connectors replaced where the pointer stands at one
+unfoldable pub putConnectors : Card → Connectors → Card
+putConnectors c connectors = cond (atConnector c) (withConnectors c connectors) c
 
 -- ---- the effects
 
@@ -80,15 +82,11 @@ putConnector c connector = cond (atConnector c) (withConnector c (c .pointer - f
 unfoldable pub move : Card → ℕ → Card
 move c p = withPointer c p
 
--- the type of a connector that is an input
-abbrev pub input : ℕ
-input = 0
-
 -- "`PM E=n` sets the trigger source; 4 also makes BNC1 an input": it keeps its source
 unfoldable pub setTrigger : Card → ℕ → Card
 setTrigger c t =
     withSettings c t (c .cells)
-    (cond (eqb t frontTrigger) (set (c .connectors) 0 (record { kind = input; source = getD (c .connectors) 0 noConnector .source })) (c .connectors))
+    (cond (eqb t frontTrigger) (withKind (c .connectors) 0 input) (c .connectors))
     (c .edited)
 
 -- "`HOME E` or `! E` clears all states"; "by HOME and by a load, all are" edited
@@ -176,7 +174,7 @@ setSlots n c given v = putCell n c (wired (currentCell n c) given v)
 
 -- "At a connector Y is 0 input, 1 open-drain, 2 push-pull, and Z the source"
 unfoldable pub setConnectorType : Card → ℕ → Card
-setConnectorType c kind = putConnector c (record { kind = kind; source = currentConnector c .source })
+setConnectorType c kind = putConnectors c (withKind (c .connectors) (c .pointer - firstConnector) kind)
 
 unfoldable pub setSource : Card → ℕ → Card
-setSource c source = putConnector c (record { kind = currentConnector c .kind; source = source })
+setSource c source = putConnectors c (withSource (c .connectors) (c .pointer - firstConnector) source)

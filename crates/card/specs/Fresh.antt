@@ -1,5 +1,5 @@
 -- Document 01, "Lines", its last sentence: the card as it powers up, with everything low and no cell edited.
-use Prim.Native.Nat.{ℕ, _-_}
+use Prim.Native.Nat.{ℕ, _-_, _^_}
 use mathlib.Core.Bool.{false}
 use mathlib.Core.List.{List, [], _++_}
 use lib.ListN.{replicate}
@@ -7,10 +7,10 @@ use Rattle.cells.specs.declared.cell.Cell.{Cell}
 use Rattle.cells.specs.declared.cell.State.{State}
 use Rattle.cells.specs.State.{cellOf}
 use Rattle.cells.specs.Work.{pulses}
-use Rattle.card.specs.declared.card.Connector.{Connector}
+use Rattle.card.specs.declared.card.Connectors.{Connectors}
 use Rattle.card.specs.declared.card.Card.{Card}
 use Rattle.card.specs.declared.card.Memory.{Memory}
-use Rattle.card.specs.Address.{cellCount, cellRoom}
+use Rattle.card.specs.Address.{cellCount, cellRoom, connectorCount, frontCount}
 
 -- all that a cell keeps between ticks, cleared
 abbrev pub clearState : State
@@ -25,15 +25,15 @@ abbrev pub noCell : Cell
 noCell = cellOf 0 0 [] clearState
 
 -- "BNCs push-pull from 0, backplane inputs from 0"
-abbrev pub freshConnectors : List Connector
-freshConnectors = replicate 8 (record { kind = 2; source = 0 }) ++ replicate 8 (record { kind = 0; source = 0 })
+abbrev pub freshConnectors : Connectors
+freshConnectors = record { sources = replicate connectorCount 0; «push_pull» = 2 ^ frontCount - 1; «open_drain» = 0 }
 
 -- "everything before the first tick counts as low"
 abbrev pub noMemory : Memory
 noMemory = record { driven = 0; outputs = 0; outputs2 = 0; outputs3 = 0; levels = 0; levels2 = 0 }
 
 -- a card as it powers up with some settings: pointer 1, and nothing remembered
-abbrev pub started : ℕ → ℕ → List Cell → List Connector → ℕ → Card
+abbrev pub started : ℕ → ℕ → List Cell → Connectors → ℕ → Card
 started size trigger cells connectors edited =
     record {
       pointer = 1;

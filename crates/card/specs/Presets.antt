@@ -12,7 +12,7 @@ use Rattle.cells.specs.State.{cellOf}
 use Rattle.card.specs.declared.card.Card.{Card}
 use Rattle.card.specs.declared.card.Connector.{Connector}
 use Rattle.card.specs.Address.{cellCount, cellRoom, connectorCount, firstCell}
-use Rattle.card.specs.Connectors.{pushPull, noConnector}
+use Rattle.card.specs.Connectors.{pushPull, connectorAt, fromEach}
 use Rattle.card.specs.Edits.{withSettings}
 use Rattle.card.specs.Fresh.{clearState, noCell}
 
@@ -235,7 +235,7 @@ abbrev pub cellWithPreset : Card → ℕ → ℕ → Cell
 cellWithPreset c v i = Option·getD (presetCell v i) (getD (c .cells) i noCell)
 
 abbrev pub connectorWithPreset : ℕ → Card → ℕ → ℕ → Connector
-connectorWithPreset n c v k = sourced (presetSource n v k) (getD (c .connectors) k noConnector)
+connectorWithPreset n c v k = sourced (presetSource n v k) (connectorAt (c .connectors) k)
 
 -- a cell is edited by "a preset that sets it"
 abbrev pub editedWithPreset : Card → ℕ → ℕ → Bool
@@ -244,5 +244,5 @@ editedWithPreset c v i = bitAt (c .edited) i || has (presetCell v i)
 -- what the preset does not set stays; so does all else of the card
 unfoldable pub preset : ℕ → Card → ℕ → Card
 preset n c v =
-    withSettings c (c .trigger) (listed (cellWithPreset c v) n ++ drop n (c .cells)) (listed (connectorWithPreset n c v) connectorCount)
+    withSettings c (c .trigger) (listed (cellWithPreset c v) n ++ drop n (c .cells)) (fromEach (listed (connectorWithPreset n c v) connectorCount))
     (wordOf (editedWithPreset c v) n)

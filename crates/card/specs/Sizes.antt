@@ -13,6 +13,7 @@ use Rattle.card.specs.declared.card.Card.{Card}
 use Rattle.card.specs.declared.card.Connector.{Connector}
 use Rattle.card.specs.declared.context.Context.{Context}
 use Rattle.card.specs.Address.{cellCount, cellRoom, cellsFor, permittedBase}
+use Rattle.card.specs.Connectors.{kindAt, sourceAt, each, fromEach}
 use Rattle.card.specs.Context.{lowerRead, upperRead}
 use Rattle.card.specs.Fresh.{freshOf, noCell}
 use Rattle.card.specs.Edits.{home}
@@ -73,9 +74,9 @@ shown : Connector → ℕ
 shown k = 100 * k .kind + k .source
 
 -- preset 51: BNC1-8 push-pull from cells 17 to 24, and nothing else
-large-preset : map shown (preset cellRoom (freshOf cellRoom) 51 .connectors)
+large-preset : map shown (each (preset cellRoom (freshOf cellRoom) 51 .connectors))
     ≡ map (λ (k : ℕ). 200 + k) (17 ∷ 18 ∷ 19 ∷ 20 ∷ 21 ∷ 22 ∷ 23 ∷ 24 ∷ []) ++ replicate 8 0
-unfolding shown preset presetTable settingOf presetSource listed
+unfolding shown preset presetTable settingOf presetSource kindAt sourceAt each fromEach bitAt wordOf listed
 large-preset = refl
 
 -- "preset 0 still sets cells 1 to 16", and 4 too: these are edited and no others; HOME edits all thirty-two

@@ -16,7 +16,8 @@ use Rattle.card.specs.declared.card.Connector.{Connector}
 use Rattle.card.specs.Address.{firstCell, firstConnector, connectorCount, among}
 use Rattle.card.specs.Chart.{entryOf}
 unfoldable pub use Rattle.card.specs.Address.{permittedBase}
-use Rattle.card.specs.Connectors.{pushPull, isOutput, noConnector}
+use Rattle.card.specs.declared.card.Connectors.{Connectors}
+use Rattle.card.specs.Connectors.{pushPull, isOutput, noConnector, each, wellFormed}
 
 -- ---- single values
 
@@ -89,15 +90,19 @@ unfoldable pub every : {A : Type 0} → (A → Bool) → List A → Bool
 every f [] = true
 every f (x ∷ xs) = f x && every f xs
 
--- the settings of a card of n cells that lines can set: what a record may hold. A list may have cells behind the first n; nothing is asked of them
+-- settings of a card of n cells as a record holds them. A list may have cells behind the first n; nothing is asked of them
 unfoldable pub valid : ℕ → ℕ → List Cell → List Connector → Bool
 valid n trigger cells connectors =
     ((not (badClock trigger) && not (frontDriven trigger (getD connectors 0 noConnector .kind)))
     && (eqb (length (take n cells)) n && eqb (length connectors) connectorCount))
     && (every (validCell n) (take n cells) && every (validConnector n) connectors)
 
+-- the settings of a card that lines can set
+abbrev pub validSettings : ℕ → ℕ → List Cell → Connectors → Bool
+validSettings n trigger cells connectors = wellFormed connectors && valid n trigger cells (each connectors)
+
 unfoldable pub validCard : ℕ → Card → Bool
-validCard n c = valid n (c .trigger) (c .cells) (c .connectors)
+validCard n c = validSettings n (c .trigger) (c .cells) (c .connectors)
 
 -- ---- what a type keeps
 

@@ -7,18 +7,25 @@ use crate::limits::CONNECTORS;
 use crate::limits::CellWord;
 use crate::limits::EditedSet;
 use crate::limits::FIRST_CELL;
-use crate::limits::INPUT;
-use crate::limits::PUSH_PULL;
+use crate::limits::FRONT_WORD;
 use crate::limits::SMALL;
 use crate::place::cells_for;
 use cells::cell::Cell;
 use cells::cell::Pulses;
 
-// A front or backplane connector: its type (0 input, 1 open-drain, 2 push-pull) and the address that it is driven from.
-#[repr(C)]
+// A front or backplane connector by itself: its type (0 input, 1 open-drain, 2 push-pull) and the address that it is driven from.
 pub struct Connector {
     pub kind: u8,
     pub source: u8,
+}
+
+// All connectors: the addresses that they are driven from, and of each type of outputs the word of those that are of it, bit 0 for BNC1 to bit 15 for
+// TTL7 as in the sample. The others are inputs. One that is in both words is push-pull; lines and loads leave none.
+#[repr(C)]
+pub struct Connectors {
+    pub sources: [u8; CONNECTORS],
+    pub push_pull: u16,
+    pub open_drain: u16,
 }
 
 // What is remembered of ticks. The words of the last tick that ran are `driven`, `outputs` and `levels`; `outputs2` and `levels2` are those of the
@@ -37,7 +44,7 @@ pub struct Memory {
 #[repr(C)]
 pub struct Card {
     pub cells: [Cell; CELLS],
-    pub connectors: [Connector; CONNECTORS],
+    pub connectors: Connectors,
     pub edited: EditedSet,
     pub memory: Memory,
     pub pointer: u8,
@@ -50,7 +57,7 @@ pub fn started(
     size: u8,
     trigger: u8,
     cells: [Cell; CELLS],
-    connectors: [Connector; CONNECTORS],
+    connectors: Connectors,
     edited: EditedSet,
 ) -> Card
     ensures { λ c. ⌜ c ≡ Fresh.started size trigger cells connectors edited ⌝ }
@@ -86,32 +93,12 @@ pub fn fresh_of(size: u8) -> Card
         bit: false,
         pulse: false,
     };
-    let front = Connector {
-        kind: PUSH_PULL,
-        source: 0,
+    let sources = [0; CONNECTORS];
+    let connectors = Connectors {
+        sources: sources,
+        push_pull: FRONT_WORD,
+        open_drain: 0,
     };
-    let back = Connector {
-        kind: INPUT,
-        source: 0,
-    };
-    let connectors = [
-        front,
-        front,
-        front,
-        front,
-        front,
-        front,
-        front,
-        front,
-        back,
-        back,
-        back,
-        back,
-        back,
-        back,
-        back,
-        back,
-    ];
     let n = cells_for(size);
     started(n, 0, [cell; CELLS], connectors, 0)
 }

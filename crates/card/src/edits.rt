@@ -3,10 +3,13 @@ ghost use mathlib.Core.Path.{_≡_};
 ghost use Prim.Native.Nat.{_-_, _^_, _<_, _≤_};
 ghost use Rattle.card.specs.Address.{cellRoom, cellsFor};
 ghost use Rattle.card.specs.Edits;
-ghost use Rattle.card.specs.Edits.{atCell, currentCell, currentConnector, putCell, putConnector, setTrigger, configuredState, statedAs, wiredSlot, bitState, countState, recountedState, clearedCell, clearedCells};
+ghost use Rattle.card.specs.Edits.{atCell, currentCell, currentConnector, putCell, putConnectors, setTrigger, configuredState, statedAs, wiredSlot, bitState, countState, recountedState, clearedCell, clearedCells};
 ghost use Rattle.card.specs.Edits.{setType, setConfig, setState, wiredSlots, setSlots, setConnectorType, setSource, blankSlot};
 use crate::card::Card;
 use crate::card::Connector;
+use crate::connectors::connector_at;
+use crate::connectors::with_kind;
+use crate::connectors::with_source;
 use crate::limits::CELLS;
 use crate::limits::EDGES;
 use crate::limits::EditedSet;
@@ -68,8 +71,8 @@ pub fn current_connector(card: Card) -> Connector
 {
     let p = card.pointer;
     if is_connector(p as Number) {
-        let at = (p - FIRST_CONNECTOR) as usize;
-        card.connectors[at]
+        let connectors = card.connectors;
+        connector_at(connectors, (p - FIRST_CONNECTOR) as u32)
     } else {
         Connector {
             kind: INPUT,
@@ -95,21 +98,6 @@ fn put_cell(card: Card, cell: Cell) -> Card
     }
 }
 
-// The connector at the pointer replaced.
-fn put_connector(card: Card, connector: Connector) -> Card
-    ensures { λ r. ⌜ r ≡ putConnector card connector ⌝ }
-{
-    let p = card.pointer;
-    if is_connector(p as Number) {
-        let at = (p - FIRST_CONNECTOR) as usize;
-        let mut next = card;
-        next.connectors[at] = connector;
-        next
-    } else {
-        card
-    }
-}
-
 pub fn move_to(card: Card, p: u8) -> Card
     ensures { λ r. ⌜ r ≡ Edits.move card p ⌝ }
 {
@@ -125,11 +113,9 @@ pub fn set_trigger(card: Card, t: u8) -> Card
     let mut next = card;
     next.trigger = t;
     if t == FRONT_TRIGGER {
-        let old = card.connectors[0];
-        next.connectors[0] = Connector {
-            kind: INPUT,
-            source: old.source,
-        };
+        let connectors = card.connectors;
+        let free = with_kind(connectors, 0, INPUT);
+        next.connectors = free;
     }
     next
 }
@@ -327,25 +313,29 @@ pub fn set_slots(card: Card, given: Slots, v: [u8; 4]) -> Card
 pub fn set_connector_type(card: Card, kind: u8) -> Card
     ensures { λ r. ⌜ r ≡ setConnectorType card kind ⌝ }
 {
-    let old = current_connector(card);
-    put_connector(
-        card,
-        Connector {
-            kind: kind,
-            source: old.source,
-        },
-    )
+    let p = card.pointer;
+    if is_connector(p as Number) {
+        let connectors = card.connectors;
+        let typed = with_kind(connectors, (p - FIRST_CONNECTOR) as u32, kind);
+        let mut next = card;
+        next.connectors = typed;
+        next
+    } else {
+        card
+    }
 }
 
 pub fn set_source(card: Card, source: u8) -> Card
     ensures { λ r. ⌜ r ≡ setSource card source ⌝ }
 {
-    let old = current_connector(card);
-    put_connector(
-        card,
-        Connector {
-            kind: old.kind,
-            source: source,
-        },
-    )
+    let p = card.pointer;
+    if is_connector(p as Number) {
+        let connectors = card.connectors;
+        let routed = with_source(connectors, (p - FIRST_CONNECTOR) as u32, source);
+        let mut next = card;
+        next.connectors = routed;
+        next
+    } else {
+        card
+    }
 }

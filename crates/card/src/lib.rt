@@ -2,6 +2,7 @@
 pub mod card;
 pub mod change;
 pub mod chart;
+pub mod connectors;
 pub mod context;
 pub mod edits;
 pub mod limits;

@@ -15,10 +15,12 @@ pub const FIRST_CONNECTOR: u8 = 33;
 
 pub const CONNECTORS_END: u8 = FIRST_CONNECTOR + CONNECTORS as u8;
 
-// How many of the connectors are on the front, and the word of those that are not: the backplane.
+// How many of the connectors are on the front, the word of those that are not, the backplane, and of those that are.
 pub const FRONT: u16 = 8;
 
 pub const BACKPLANE: u16 = 0xffff << FRONT;
+
+pub const FRONT_WORD: u16 = 0xffff ^ BACKPLANE;
 
 // A number as a line gives it: it may be too large for what it is to set. It has at most ten digits, which 32 bits do not hold.
 pub type Number = u64;

@@ -15,6 +15,8 @@ ghost use Rattle.card.specs.Presets.{offered, isLarge, presetCell, prese
 ghost use Rattle.card.specs.Fresh.{noCell};
 use crate::card::Card;
 use crate::card::Connector;
+use crate::connectors::each_of;
+use crate::connectors::from_each;
 use crate::limits::CELLS;
 use crate::limits::CONNECTORS;
 use crate::limits::EditedSet;
@@ -402,10 +404,10 @@ pub fn apply_preset(card: Card, v: Number) -> Card
     let connectors = card.connectors;
     let n = cells_for(card.size) as u32;
     let set = cells_under(row, cells, n);
-    let routed = connectors_under(source_row(v, card.size), connectors);
+    let routed = connectors_under(source_row(v, card.size), each_of(connectors));
     let mut next = card;
     next.cells = set;
-    next.connectors = routed;
+    next.connectors = from_each(routed);
     next.edited = edited_under(row.0, card.edited, n);
     next
 }

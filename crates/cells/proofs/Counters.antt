@@ -13,9 +13,8 @@ use Rattle.cells.specs.declared.table.CounterKind.the-variants.{WhileBot
 use Rattle.cells.specs.declared.cell.State.{State}
 use Rattle.cells.specs.Table.{rowOf}
 use Rattle.cells.specs.Work.{largestCount, raised, countedUp, workAs, workOut}
-use Rattle.cells.specs.Wake.{stirredAs, stirred, wakes}
+use Rattle.cells.specs.Wake.{stirredAs, stirred}
 use Rattle.cells.specs.Counting.{counterType, activeIn, countsIn, keptIn, grown}
-use Rattle.cells.proofs.Laws.{sleeps}
 use Rattle.words.proofs.Bools.{or-left, or-right}
 
 -- ---- one tick
@@ -100,9 +99,8 @@ stirless-rests FromStartAtZero s now h =
     let still = rests (now .x) (now .f) (now .y) (s .bit) (eqb (s .count .0) 0) start clock in
     record { count = unraised (countsIn FromStartAtZero (s .bit) (eqb (s .count .0) 0) now) (s .count .0) (still .0); bit = sym (still .1) }
 
-pub counter-rests : (k : CounterKind) (kind : ℕ) (s : State) (edited : Bool) (now last : Slots) → kind ≡ counterType k
-    → wakes kind s edited now last ≡ false → Follows k s s now
-counter-rests k kind s edited now last e h = stirless-rests k s now (rw e at (sleeps kind s edited now last h .1))
+pub counter-rests : (k : CounterKind) (kind : ℕ) (s : State) (now : Slots) → kind ≡ counterType k → stirred kind s now ≡ false → Follows k s s now
+counter-rests k kind s now e h = stirless-rests k s now (rw e at h)
 
 -- ---- counts that grow up to the limit
 

@@ -16,7 +16,7 @@ use Rattle.words.proofs.Bools.{and-left, and-right}
 use Rattle.card.specs.declared.card.Card.{Card}
 use Rattle.card.specs.Address.{cellRoom, cellsFor}
 use Rattle.card.proofs.Places.{cells-most}
-use Rattle.ticks.specs.declared.tick.Input.{Input}
+use Rattle.ticks.specs.declared.view.Input.{Input}
 use Rattle.ticks.specs.declared.tick.Answer.{Answer}
 use Rattle.ticks.specs.Tick.{tick}
 use Rattle.ticks.proofs.Counts.{tick-count}

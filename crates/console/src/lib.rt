@@ -14,10 +14,13 @@ use card::limits::CellWord;
 use card::limits::LARGE;
 use lines::line::SHORTEST_REPLY;
 use ticks::tick::Answer;
-use ticks::tick::Input;
 use ticks::tick::Ticked;
 use ticks::tick::full_tick;
 use ticks::tick::quick_tick;
+use ticks::view::Input;
+
+// `longestPrint`: no line prints more.
+pub const LONGEST_PRINT: usize = 36;
 
 // A line that asks for a tick: its kind, and what comes in with it.
 pub struct TickLine {

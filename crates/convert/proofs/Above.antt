@@ -23,8 +23,10 @@ use Rattle.card.specs.Valid.{largestAddress}
 use Rattle.card.proofs.Places.{among-in, among-below, among-above}
 use Rattle.card.proofs.Settings.{first-at, first-pass, taken-room, Sound, split, cell-slots}
 use Rattle.card.proofs.Slots.{four}
-use Rattle.card.proofs.ValidLaws.{all-four, slots-pass, kind-known, source-good, kind-good}
-use Rattle.saved.specs.Record.{encode, recordOf, loadNumber, loaded}
+use Rattle.card.specs.Connectors.{each}
+use Rattle.card.proofs.ValidLaws.{all-four, slots-pass, kind-known, source-good, kind-good, formed, settings-valid}
+use Rattle.saved.proofs.Forms.{each-in}
+use Rattle.saved.specs.Record.{encode, recordOf, widthOf, loadNumber, loaded}
 use Rattle.saved.proofs.Records.{load-powers, loaded-valid, loaded-cells}
 use Rattle.convert.specs.Convert.{cellsOf, cellsHeld, connectorsHeld, otherWidth, isBlank, readsAbove, slotsBelow, sourceBelow, aboveSmall}
 use Rattle.convert.specs.Convert.{otherForm}
@@ -169,19 +171,33 @@ module _ (n : ℕ) (bytes : List ℕ) (d : Card) (few : n ≤ cellsOf n bytes) (
   held-first =
       sym (take-take n (cellsOf n bytes) (loaded (cellsOf n bytes) d bytes .cells) few) ∙ ap (take n) (loaded-cells (cellsOf n bytes) d bytes ok)
 
-  pub held-connectors : loaded (cellsOf n bytes) d bytes .connectors ≡ connectorsHeld n bytes
-  held-connectors = ap (λ (x : Card). x .connectors) (load-powers (cellsOf n bytes) d bytes ok)
+  pub held-connectors : each (loaded (cellsOf n bytes) d bytes .connectors) ≡ connectorsHeld n bytes
+  unfolding loadNumber
+  held-connectors =
+      ap (λ (x : Card). each (x .connectors)) (load-powers (cellsOf n bytes) d bytes ok)
+      ∙ each-in (cellsOf n bytes) (widthOf (cellsOf n bytes) bytes) bytes ok
 
   -- "where the small card can hold it"
-  pub above-is : aboveSmall n bytes
-      ≡ (not (every isBlank (drop n (take (cellsOf n bytes) (loaded (cellsOf n bytes) d bytes .cells))))
-      || not (validCard n (loaded (cellsOf n bytes) d bytes)))
-  unfolding m c aboveSmall validCard
+  pub above-is : let l = loaded (cellsOf n bytes) d bytes in
+      aboveSmall n bytes
+      ≡ (not (every isBlank (drop n (take (cellsOf n bytes) (l .cells)))) || not (valid n (l .trigger) (l .cells) (each (l .connectors))))
+  unfolding m c aboveSmall
   above-is =
-      let below = valid-below n m few most (c .trigger) (c .cells) (c .connectors) (loaded-valid m d bytes ok) in
+      let pass = settings-valid m c (loaded-valid m d bytes ok) in
+      let below = valid-below n m few most (c .trigger) (c .cells) (each (c .connectors)) pass in
       let reads =
       ap₂ (λ (l : List Cell) (k : List Connector). every (slotsBelow n m) l && every (sourceBelow n m) k) held-first held-connectors in
       ap₂ (λ (l : List Cell) (q : Bool). not (every isBlank (drop n l)) || not q) (sym (loaded-cells m d bytes ok)) (sym (below ∙ reads))
+
+  -- said of the card
+  pub above-card : aboveSmall n bytes
+      ≡ (not (every isBlank (drop n (take (cellsOf n bytes) (loaded (cellsOf n bytes) d bytes .cells))))
+      || not (validCard n (loaded (cellsOf n bytes) d bytes)))
+  unfolding m c validCard
+  above-card =
+      let v = valid n (c .trigger) (c .cells) (each (c .connectors)) in
+      let whole = ap (λ (b : Bool). b && v) (formed m c (loaded-valid m d bytes ok)) in
+      above-is ∙ ap (λ (q : Bool). not (every isBlank (drop n (take m (c .cells)))) || not q) (sym whole)
 
   -- what a save of that card in the form of the result writes
   pub held-form : (width : ℕ) → width ≡ otherWidth n bytes → recordOf n width (loaded (cellsOf n bytes) d bytes) ≡ otherForm n bytes

@@ -26,7 +26,8 @@ use Rattle.card.specs.Fresh.{clearState, noCell, freshCell, fresh}
 use Rattle.card.specs.Valid.{validSlot, validSlots, validCell, validCard, every}
 use Rattle.card.proofs.Settings.{every-at, every-listed, config-most, split}
 use Rattle.card.proofs.Slots.{four}
-use Rattle.card.proofs.ValidLaws.{all-four, slots-pass}
+use Rattle.card.specs.Connectors.{each}
+use Rattle.card.proofs.ValidLaws.{all-four, slots-pass, settings-valid}
 use Rattle.saved.specs.Record.{encode, configWidth, narrowWidth, recordLength, triggerIn, cellIn, normalCell, loadCells, connectorsIn, recordOf, poweredUp}
 use Rattle.saved.specs.Record.{widthOf, loadNumberAs, loadedAs, loadNumber, loaded, normalRecord, SmallConstants}
 use Rattle.saved.proofs.Forms.{Fit, all-fit, cells-all, tests, normal-same, accepted-fit, load-accepts-as, load-save-as}
@@ -36,7 +37,7 @@ use Rattle.convert.specs.Convert.{largeLength, cellsOf, cellsHeld, other
 use Rattle.convert.specs.Convert.{largestNarrow, aboveSmall, convertNumber, otherForm, convertLength, convertedTo}
 use Rattle.convert.specs.Conversion.{Converts, Shrinks, Kept, Conversion}
 use Rattle.convert.proofs.Laws.{number-is, Passed, none-applies, converted-as, refused-as}
-use Rattle.convert.proofs.Above.{above-is, held-form}
+use Rattle.convert.proofs.Above.{above-card, held-form}
 
 -- ---- a record of a small card
 
@@ -58,7 +59,7 @@ module _ (n : ℕ) (bytes : List ℕ) (own : cellsOf n bytes ≡ n) where
   above-own most ok =
       let cells = loaded n fresh bytes .cells in
       let given : loadNumber (cellsOf n bytes) bytes ≡ 0 = ap (λ (k : ℕ). loadNumber k bytes) own ∙ ok in
-      above-is n bytes fresh (omega (arith, own)) (omega (arith, own)) given
+      above-card n bytes fresh (omega (arith, own)) (omega (arith, own)) given
       ∙ ap (λ (k : ℕ). not (every isBlank (drop n (take k (loaded k fresh bytes .cells)))) || not (validCard n (loaded k fresh bytes))) own
       ∙ ap₂ (λ (l : List Cell) (q : Bool). not (every isBlank l) || not q)
       (drop-of-length-le (take n cells) {i = n} (omega (arith, length-take n cells))) (loaded-valid n fresh bytes ok)
@@ -263,7 +264,7 @@ module _ (n room : ℕ) (bytes : List ℕ) (few : n ≤ cellCount) (large : leng
   only-above : loadNumber cellRoom bytes ≡ 0 → (d : Card)
       → aboveSmall n bytes ≡ (not (every isBlank (drop n (take cellRoom (loaded cellRoom d bytes .cells)))) || not (validCard n (loaded cellRoom d bytes)))
   only-above ok d =
-      above-is n bytes d (omega (arith, large-own)) (omega (arith, large-own)) (ap (λ (k : ℕ). loadNumber k bytes) large-own ∙ ok)
+      above-card n bytes d (omega (arith, large-own)) (omega (arith, large-own)) (ap (λ (k : ℕ). loadNumber k bytes) large-own ∙ ok)
       ∙ ap (λ (k : ℕ). not (every isBlank (drop n (take k (loaded k d bytes .cells)))) || not (validCard n (loaded k d bytes))) large-own
 
   module _ (enough : shortFor n room bytes ≡ false) (ok : loadNumber cellRoom bytes ≡ 0) (short : tooLong n bytes ≡ false) (below : aboveSmall n bytes ≡ false)
@@ -341,7 +342,7 @@ module _ (n room : ℕ) (bytes : List ℕ) (few : n ≤ cellCount) (large : leng
     rest-at i h =
         let cells = take cellRoom (card .cells) in
         let there = getD-drop n cells i noCell in
-        let pass = split cellRoom (card .trigger) (card .cells) (card .connectors) (loaded-valid cellRoom d bytes ok) .cells-pass in
+        let pass = split cellRoom (card .trigger) (card .cells) (each (card .connectors)) (settings-valid cellRoom card (loaded-valid cellRoom d bytes ok)) .cells-pass in
         let ok-at = every-at (validCell cellRoom) cells (n + i) noCell pass (omega (arith, length-drop n cells)) in
         let blank-at = ap isBlank (sym there) ∙ every-at isBlank (drop n cells) i noCell blank h in
         let clear-at = sym (List·getD-map clearedCell cells (n + i) noCell) ∙ ap (λ (l : List Cell). getD l (n + i) noCell) all-clear in

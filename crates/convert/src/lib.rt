@@ -6,6 +6,7 @@ ghost use Rattle.card.specs.Address.{cellCount, cellRoom};
 ghost use Rattle.card.specs.Valid.{every};
 ghost use Rattle.saved.specs.Record.{configWidth, recordLength};
 ghost use Rattle.convert.specs.Convert.{cellsOf, otherWidth, narrowCell, isBlank, convertNumber, convertLength, convertedTo};
+use card::connectors::each_of;
 use card::limits::CELLS;
 use card::limits::LARGE;
 use card::limits::SMALL;
@@ -122,10 +123,11 @@ pub fn convert(bytes: &[u8], buffer: &mut [u8]) -> Converted
     }
     let card = loaded.card;
     let cells = card.cells;
-    let connectors = card.connectors;
+    let row = card.connectors;
     if (to.width == NARROW_WIDTH) & !all_narrow(cells, n as usize) {
         return Converted { k: 17, len: 0 };
     }
+    let connectors = each_of(row);
     if !all_blank(cells, (n - SMALL) as usize)
         | !valid_settings(card.trigger, cells, connectors, SMALL)
     {

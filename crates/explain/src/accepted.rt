@@ -1,9 +1,4 @@
 // An accepted line: what it changed, or what it read.
-use crate::names::address;
-use crate::names::connector_kind;
-use crate::names::connector_name;
-use crate::names::slot_name;
-use crate::names::typed_cell;
 use crate::out::Page;
 use crate::out::around;
 use crate::out::level;
@@ -11,6 +6,11 @@ use crate::out::low;
 use crate::out::put;
 use crate::out::put_if;
 use crate::out::wide;
+use crate::terms::address;
+use crate::terms::connector_kind;
+use crate::terms::connector_name;
+use crate::terms::slot_name;
+use crate::terms::typed_cell;
 use crate::wiring::put_cell;
 use crate::wiring::put_changes;
 use crate::wiring::put_config;

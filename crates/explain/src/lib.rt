@@ -1,9 +1,9 @@
 // What a line did and why, in words for people. The one call is `explain`; what it writes is held by stored output.
 mod accepted;
 pub mod line;
-mod names;
 mod out;
 mod refused;
+mod terms;
 mod ticked;
 mod wiring;
 

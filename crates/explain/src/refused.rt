@@ -1,11 +1,11 @@
 // A refused line: the rule in words, and what to do. Every number that a line or a load can give.
-use crate::names::connector_at;
-use crate::names::type_name;
 use crate::out::Page;
 use crate::out::around;
 use crate::out::low;
 use crate::out::put;
 use crate::out::put_if;
+use crate::terms::connector_at;
+use crate::terms::type_name;
 use card::context::Context;
 use card::limits::Number;
 use card::valid;

@@ -1,20 +1,21 @@
 // A tick: each cell that was worked out, with its reasons and its output, and the connectors that changed.
 ghost use Prim.Native.Nat.{_<_, _≤_};
-use crate::names::address;
-use crate::names::connector_kind;
-use crate::names::connector_name;
-use crate::names::slot_name;
-use crate::names::typed_cell;
 use crate::out::Page;
 use crate::out::around;
 use crate::out::either;
 use crate::out::level;
 use crate::out::put;
 use crate::out::put_if;
+use crate::terms::address;
+use crate::terms::connector_kind;
+use crate::terms::connector_name;
+use crate::terms::slot_name;
+use crate::terms::typed_cell;
 use crate::wiring::put_high;
 use crate::wiring::put_set;
 use card::card::Card;
 use card::card::Connector;
+use card::connectors::each_of;
 use card::limits::CELLS;
 use card::limits::CONNECTORS;
 use card::limits::CellWord;
@@ -24,7 +25,7 @@ use cells::cell::Cell;
 use cells::cell::Pulses;
 use cells::table::Class;
 use cells::table::class_of;
-use ticks::tick::Input;
+use ticks::view::Input;
 use why::cell::Reasons;
 use why::cell::any_reason;
 
@@ -348,7 +349,8 @@ pub fn put_tick(
     let new = after.cells;
     let m = before.memory;
     let w = after.memory;
-    let connectors = before.connectors;
+    let row = before.connectors;
+    let connectors = each_of(row);
     let start = put_words(out, at, w.driven, w.outputs);
     let a = put_cells(
         out,

@@ -1,18 +1,19 @@
 // Cells and connectors with their settings, and which of them two cards have otherwise.
 ghost use Prim.Native.Nat.{_<_, _≤_};
-use crate::names::address;
-use crate::names::cell_name;
-use crate::names::connector_kind;
-use crate::names::connector_name;
-use crate::names::slot_name;
-use crate::names::type_name;
 use crate::out::Page;
 use crate::out::around;
 use crate::out::either;
 use crate::out::put;
 use crate::out::put_if;
+use crate::terms::address;
+use crate::terms::cell_name;
+use crate::terms::connector_kind;
+use crate::terms::connector_name;
+use crate::terms::slot_name;
+use crate::terms::type_name;
 use card::card::Card;
 use card::card::Connector;
+use card::connectors::each_of;
 use card::limits::CELLS;
 use card::limits::CONNECTORS;
 use card::limits::EditedSet;
@@ -168,8 +169,10 @@ pub fn put_changes(out: &mut Page, at: usize, before: Card, after: Card) -> usiz
     let a = put_trigger(out, at, before.trigger, after.trigger);
     let cells = before.cells;
     let new_cells = after.cells;
-    let connectors = before.connectors;
-    let new_connectors = after.connectors;
+    let row = before.connectors;
+    let new_row = after.connectors;
+    let connectors = each_of(row);
+    let new_connectors = each_of(new_row);
     let b = put_cells(out, a, cells, new_cells);
     let c = put_connectors(out, b, connectors, new_connectors);
     if c == at {

@@ -11,6 +11,8 @@ use Rattle.text.specs.Digits.{valueBy}
 use Rattle.text.specs.Decimal.{isDigit, digitsOf, leads, plain, numberIn, numberAt, decimalFrom, decimal}
 use Rattle.text.specs.Written.{bytesOf}
 use Rattle.cells.specs.Table.{rowOf}
+use Rattle.card.specs.Connectors.{kindAt, sourceAt, withKind, withSource, each, fromEach, wellFormed}
+use Rattle.words.specs.Bits.{bitAt, wordOf}
 use Rattle.card.specs.declared.card.Card.{Card}
 use Rattle.card.specs.Address.{cellCount, cellRoom}
 use Rattle.card.specs.Context.{configShown}
@@ -152,7 +154,7 @@ expected : Row → ℕ × ℕ
 expected e = (e .k, e .len)
 
 examples : (map (given cellCount) rows ≡ map expected rows) × (map (given cellRoom) largeRows ≡ map expected largeRows)
-unfolding given expected listed bytesOf isDigit digitsOf leads plain numberIn numberAt decimalFrom decimal fresh currentCell currentConnector isWord isWhole toEnd slotOf writeOf ccaWrite ccaRead ccaForm readForm cardForm plainForm addressed parse refusal changed changeFor responseTo decision decisionFor lineDecision lineOutcome replyOf lineReply
+unfolding given expected listed bytesOf isDigit digitsOf leads plain numberIn numberAt decimalFrom decimal fresh currentCell currentConnector isWord isWhole toEnd slotOf writeOf ccaWrite ccaRead ccaForm readForm cardForm plainForm addressed parse refusal changed changeFor responseTo decision decisionFor lineDecision lineOutcome replyOf lineReply kindAt sourceAt withKind withSource each fromEach wellFormed bitAt wordOf
 examples = (refl, refl)
 
 -- the longest reply: the duration of a timer, in a buffer of 16 bytes
@@ -163,5 +165,5 @@ longestReply : List ℕ
 longestReply = lineReply cellCount (afterLine (setType cellCount fresh 9) "36CCA Z=4294967295") (bytesOf "36CCA Z?") shortestReply 0
 
 longest-reply : (longestReply ≡ bytesOf ":A 4294967295" ++ ending) × (length longestReply ≡ 15)
-unfolding afterLine longestReply listed bytesOf valueBy isDigit digitsOf leads plain numberIn numberAt decimalFrom decimal rowOf fresh currentCell currentConnector putCell typed setType configuredState configured setConfig configShown badConfig noConfig isWord isWhole toEnd slotOf writeOf ccaWrite ccaRead ccaForm readForm cardForm plainForm addressed parse refusal changed changeFor responseTo decision decisionFor lineDecision lineOutcome replyOf lineReply
+unfolding afterLine longestReply listed bytesOf valueBy isDigit digitsOf leads plain numberIn numberAt decimalFrom decimal rowOf fresh currentCell currentConnector putCell typed setType configuredState configured setConfig configShown badConfig noConfig isWord isWhole toEnd slotOf writeOf ccaWrite ccaRead ccaForm readForm cardForm plainForm addressed parse refusal changed changeFor responseTo decision decisionFor lineDecision lineOutcome replyOf lineReply kindAt sourceAt withKind withSource each fromEach wellFormed bitAt wordOf
 longest-reply = (refl, refl)

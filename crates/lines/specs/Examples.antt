@@ -10,6 +10,7 @@ use Rattle.text.specs.Digits.{valueBy}
 use Rattle.text.specs.Decimal.{isDigit, digitsOf, leads, plain, numberIn, numberAt, decimalFrom, decimal}
 use Rattle.text.specs.Written.{bytesOf}
 use Rattle.cells.specs.Table.{rowOf}
+use Rattle.card.specs.Connectors.{kindAt, sourceAt, withKind, withSource, each, fromEach, wellFormed}
 use Rattle.card.specs.declared.card.Card.{Card}
 use Rattle.card.specs.Address.{cellCount}
 use Rattle.card.specs.Edits.{withPointer, currentCell, currentConnector, putCell, typed, setType, setTrigger}
@@ -138,7 +139,7 @@ numbers =
     ∷ []
 
 examples : map (λ (e : ℕ × ℕ). e .0) numbers ≡ map (λ (e : ℕ × ℕ). e .1) numbers
-unfolding listed bytesOf numberWith number at typedCard frontCard withBit wordOf bitAt valueBy isDigit digitsOf leads plain numberIn numberAt rowOf currentCell currentConnector putCell typed setType setTrigger fresh permittedBase badPlace badCellType badConnectorType badClock badConfig noConfig unusedSlot badAddress badStateAs badState noState frontDriven presetTable settingOf offered presetCell presetSource setsFront preset isWord isWhole toEnd slotOf gave give pairRead pairsOf writeOf ccaWrite ccaRead ccaForm slotForm ccbForm readOf readForm cardForm plainForm addressed parse alone refusal changed changeFor responseTo decision decisionFor lineDecision lineOutcome
+unfolding listed bytesOf numberWith number at typedCard frontCard withBit wordOf bitAt valueBy isDigit digitsOf leads plain numberIn numberAt rowOf currentCell currentConnector putCell typed setType setTrigger fresh permittedBase badPlace badCellType badConnectorType badClock badConfig noConfig unusedSlot badAddress badStateAs badState noState frontDriven presetTable settingOf offered presetCell presetSource setsFront preset isWord isWhole toEnd slotOf gave give pairRead pairsOf writeOf ccaWrite ccaRead ccaForm slotForm ccbForm readOf readForm cardForm plainForm addressed parse alone refusal changed changeFor responseTo decision decisionFor lineDecision lineOutcome kindAt sourceAt withKind withSource each fromEach wellFormed
 examples = refl
 
 -- ---- the whole text of a reply
@@ -174,5 +175,5 @@ replies =
     ∷ []
 
 texts : map (λ (e : String × String). replyTo (e .0)) replies ≡ map (λ (e : String × String). bytesOf (e .1)) replies
-unfolding replyTo told listed bytesOf withBit wordOf bitAt valueBy isDigit digitsOf leads plain numberIn numberAt decimalFrom decimal rowOf currentCell currentConnector putCell typed setType setTrigger fresh permittedBase badPlace badCellType badConnectorType badClock badConfig noConfig unusedSlot badAddress badStateAs badState noState frontDriven presetTable settingOf offered presetCell presetSource setsFront preset isWord isWhole toEnd slotOf gave give pairRead pairsOf writeOf ccaWrite ccaRead ccaForm slotForm ccbForm readOf readForm cardForm plainForm addressed parse alone refusal changed changeFor responseTo decision decisionFor lineDecision lineOutcome replyOf lineReply
+unfolding replyTo told listed bytesOf withBit wordOf bitAt valueBy isDigit digitsOf leads plain numberIn numberAt decimalFrom decimal rowOf currentCell currentConnector putCell typed setType setTrigger fresh permittedBase badPlace badCellType badConnectorType badClock badConfig noConfig unusedSlot badAddress badStateAs badState noState frontDriven presetTable settingOf offered presetCell presetSource setsFront preset isWord isWhole toEnd slotOf gave give pairRead pairsOf writeOf ccaWrite ccaRead ccaForm slotForm ccbForm readOf readForm cardForm plainForm addressed parse alone refusal changed changeFor responseTo decision decisionFor lineDecision lineOutcome replyOf lineReply kindAt sourceAt withKind withSource each fromEach wellFormed
 texts = refl

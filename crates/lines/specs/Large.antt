@@ -9,6 +9,7 @@ use Rattle.text.specs.Digits.{valueBy}
 use Rattle.text.specs.Decimal.{isDigit, digitsOf, leads, plain, numberIn, numberAt}
 use Rattle.text.specs.Written.{bytesOf}
 use Rattle.cells.specs.Table.{rowOf}
+use Rattle.card.specs.Connectors.{kindAt, sourceAt, withKind, withSource, each, fromEach, wellFormed}
 use Rattle.card.specs.declared.card.Card.{Card}
 use Rattle.card.specs.Address.{cellCount, cellRoom}
 use Rattle.card.specs.Edits.{currentCell, currentConnector, putCell, typed, setType, setTrigger}
@@ -65,5 +66,5 @@ number-table : map (λ (e : (ℕ × ℕ) × (ℕ × ℕ)). e .0) numbers ≡ map
 unfolding both fresh and2 front listed bytesOf withBit wordOf bitAt valueBy isDigit digitsOf leads plain numberIn numberAt rowOf currentCell
     currentConnector putCell typed setType setTrigger permittedBase badPlace unusedSlot badAddress presetTable settingOf offered presetCell presetSource setsFront preset
     isWord isWhole toEnd slotOf gave give pairRead pairsOf writeOf ccaWrite ccaRead ccaForm slotForm ccbForm readOf readForm cardForm plainForm
-    addressed parse refusal changed changeFor responseTo decision decisionFor lineDecision lineOutcome
+    addressed parse refusal changed changeFor responseTo decision decisionFor lineDecision lineOutcome kindAt sourceAt withKind withSource each fromEach wellFormed
 number-table = refl

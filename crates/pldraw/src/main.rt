@@ -8,7 +8,7 @@ mod page;
 mod rows;
 
 use page::KEPT;
-use scope::BLOCK;
+use scope::BUFFER;
 use scope::Feed;
 use scope::LINE;
 use scope::STORE;
@@ -23,7 +23,7 @@ pub struct Rest {
 
 fn count_rest(
     feed: Feed,
-    block: &mut [u8; BLOCK],
+    block: &mut [u8; BUFFER],
     line: &mut [u8; LINE],
     store: &mut [u8; STORE],
 ) -> Rest {
@@ -44,7 +44,7 @@ fn count_rest(
 }
 
 fn main() {
-    let mut block = [0u8; BLOCK];
+    let mut block = [0u8; BUFFER];
     let mut line = [0u8; LINE];
     let mut store = [0u8; STORE];
     let mut words = [0u64; KEPT];
@@ -57,8 +57,9 @@ fn main() {
         if !shown.ran {
             break;
         }
-        words[n] = shown.word;
-        set = set | (rows::wired(feed.card) | (shown.word ^ words[0]));
+        let word = scope::packed(shown.words);
+        words[n] = word;
+        set = set | (rows::wired(feed.card) | (word ^ words[0]));
         n += 1;
     }
     let rest = count_rest(feed, &mut block, &mut line, &mut store);

@@ -73,7 +73,7 @@ fn half(wide: bool) -> u64
     if wide { WIDE / 2 } else { NARROW / 2 }
 }
 
-// The bit of a tick's word that row r shows: connectors first, then cells.
+// The bit of a tick's packed words that row r shows: connectors first, then cells.
 fn bit_of(r: u32) -> u32
     requires { ⌜ r < mostRows ⌝ }
     ensures { λ i. ⌜ i < 48 ⌝ }

@@ -1,11 +1,12 @@
 // Which connectors and cells have a row: those that change, and those that are wired. A set has bit k for connector k, BNC1 first, and bit 32 + i
-// for cell i, as in a tick's word.
+// for cell i, as in a tick's packed words (scope::packed).
 //
 // A cell is wired where it is anything but a constant 0. A connector is wired where it is an output with a source other than 0, or where a wired cell
 // or such an output reads it. A fresh card's front connectors are outputs from 0, so they have no row of their own.
 ghost use Prim.Native.Nat.{_<_};
 use card::card::Card;
 use card::card::Connector;
+use card::connectors::each_of;
 use card::limits::CELLS;
 use card::limits::CONNECTORS;
 use card::limits::INPUT;
@@ -68,6 +69,7 @@ fn by_connectors(connectors: [Connector; CONNECTORS]) -> u64 {
 // All that is wired.
 pub fn wired(card: Card) -> u64 {
     let cells = card.cells;
-    let connectors = card.connectors;
+    let row = card.connectors;
+    let connectors = each_of(row);
     by_cells(cells) | by_connectors(connectors)
 }

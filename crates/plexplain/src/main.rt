@@ -2,132 +2,78 @@
 ghost use mathlib.Core.Path.{_≡_};
 ghost use Rattle.card.specs.Address.{cellsFor};
 ghost use Rattle.console.specs.Console.{entered};
-ghost use lib.ListN.{take};
+ghost use lib.ListN.{length};
 ghost use Prim.Native.Nat.{_≤_};
 use card::card::Card;
 use explain::Page;
 use explain::line::explain;
+use input::BUFFER;
+use input::LINE;
+use input::Reader;
+use input::least;
+use input::next_line;
+use input::start;
+use libc::STDIN_FILENO;
+use libc::STDOUT_FILENO;
+use saved::record::RECORD_LENGTH;
 
-// A block of input.
-const BLOCK: usize = 2048;
-
-// As in plrun: more than the 80 bytes of the longest line, so that a longer one, cut to this, is still too long.
-const LINE: usize = 96;
-
-// "The program's store starts as 308 zeros."
-const STORE: usize = 308;
-
-// A proved loop has to end, and nothing says that the input does. At a microsecond a read these last for more than four years.
-const READS: u64 = 1 << 47;
-
-// Between two bytes of the input: the card, the bytes of the line that has not ended, and whether all could be written.
-struct State {
+// The card after a line, and whether all that was said of it could be written.
+struct Said {
     card: Card,
-    len: usize,
-    going: bool,
-}
-
-fn least(a: usize, b: usize) -> usize
-    ensures { λ r. ⌜ r ≤ a ⌝ }
-    ensures { λ r. ⌜ r ≤ b ⌝ }
-{
-    if a < b { a } else { b }
+    wrote: bool,
 }
 
 // The first n bytes of a page.
 fn write_front(out: &[u8], n: usize) -> bool {
     let end = least(n, out.len());
-    io::write_all(libc::STDOUT_FILENO, &out[0..end])
+    io::write_all(STDOUT_FILENO, &out[0..end])
 }
 
 // A line has ended: it is entered, and what is said of it is written.
-fn end_line(card: Card, text: &[u8], store: &mut [u8], out: &mut Page) -> State
+fn end_line(card: Card, text: &[u8], store: &mut [u8], out: &mut Page) -> Said
     ensures { λ r. ⌜ r .card ≡ entered (cellsFor (card .size)) card (now (text .entry)) (now (store .entry)) .card ⌝ }
     ensures { λ r. ⌜ now (store .exit) ≡ entered (cellsFor (card .size)) card (now (text .entry)) (now (store .entry)) .store ⌝ }
 {
     let done = explain(card, text, store, out);
     let next = done.card;
     let wrote = write_front(out, done.len);
-    State {
+    Said {
         card: next,
-        len: 0,
-        going: wrote,
+        wrote: wrote,
     }
 }
 
-// The line so far has ended.
-fn end_at(s: State, line: &[u8], store: &mut [u8], out: &mut Page) -> State {
-    let card = s.card;
-    let len = least(s.len, line.len());
-    end_line(card, &line[0..len], store, out)
-}
-
-// A byte of the line; what is too much for it is dropped.
-fn keep(s: State, b: u8, line: &mut [u8]) -> State {
-    let card = s.card;
-    let n = s.len;
-    if n < line.len() {
-        line[n] = b;
-        return State {
+// The line that a reader has given. Where it has given none, the run is over.
+fn take_given(card: Card, r: Reader, block: &[u8], store: &mut [u8], out: &mut Page) -> Said
+    requires { ⌜ r .start ≤ r .end ⌝ }
+    requires { ⌜ r .end ≤ length (now block) ⌝ }
+{
+    if !r.going {
+        return Said {
             card: card,
-            len: n + 1,
-            going: s.going,
+            wrote: false,
         };
     }
-    s
+    let start = r.start;
+    let end = r.end;
+    end_line(card, &block[start..end], store, out)
 }
 
-// A byte of input. After a write that failed nothing more is written.
-fn feed(s: State, b: u8, line: &mut [u8], store: &mut [u8], out: &mut Page) -> State {
-    if !s.going {
-        return s;
-    }
-    if b == b'\n' {
-        return end_at(s, line, store, out);
-    }
-    keep(s, b, line)
-}
-
-// All bytes of a read.
-fn take_bytes(s: State, bytes: &[u8], line: &mut [u8], store: &mut [u8], out: &mut Page) -> State {
-    let mut r = s;
-    let mut i: usize = 0;
-    while i < bytes.len() {
-        r = feed(r, bytes[i], line, store, out);
-        i += 1;
-    }
-    r
-}
-
-// One read, and its lines. The run ends with the input, and where a write fails.
-fn turn(s: State, block: &mut [u8], line: &mut [u8], store: &mut [u8], out: &mut Page) -> State {
-    let got = libc::read(libc::STDIN_FILENO, block);
-    let n = io::count(got, block);
-    if n == 0 {
-        let card = s.card;
-        return State {
-            card: card,
-            len: s.len,
-            going: false,
-        };
-    }
-    take_bytes(s, &block[0..n], line, store, out)
-}
-
+// The run ends with the input, and where a write fails.
 fn main() {
-    let mut block = [0u8; BLOCK];
+    let mut block = [0u8; BUFFER];
     let mut line = [0u8; LINE];
-    let mut store = [0u8; STORE];
+    let mut store = [0u8; RECORD_LENGTH];
     let mut out = io::large_buffer();
     let card = card::card::fresh();
-    let mut s = State {
+    let mut s = Said {
         card: card,
-        len: 0,
-        going: true,
+        wrote: true,
     };
-    let mut left = READS;
-    while left > 0 && s.going {
-        s = turn(s, &mut block, &mut line, &mut store, &mut out);
-        left -= 1;
+    let mut r = start();
+    while r.left > 0 && s.wrote {
+        r = next_line(r, STDIN_FILENO, &mut block, &mut line);
+        let card = s.card;
+        s = take_given(card, r, &block, &mut store, &mut out);
     }
 }

@@ -20,7 +20,7 @@ fn put_byte(out: &mut Room, s: Sink, b: u8) -> Sink {
     put(out, s, &text)
 }
 
-// The identifier of the wire that shows bit i of a tick's word: one printable byte.
+// The identifier of the wire that shows bit i of a tick's packed words: one printable byte.
 fn code_of(i: u32) -> u8
     requires { ⌜ i < wires ⌝ }
     ensures { λ r. ⌜ r ≡ codeOf i ⌝ }
@@ -188,7 +188,7 @@ fn finish(out: &mut Room, s: Sink, t: u64) -> Sink {
 
 // Time has 64 bits, and the ticks after so many are left out. A write that fails ends the program.
 fn main() {
-    let mut block = [0u8; scope::BLOCK];
+    let mut block = [0u8; scope::BUFFER];
     let mut line = [0u8; scope::LINE];
     let mut store = [0u8; scope::STORE];
     let mut out = [0u8; scope::sink::ROOM];
@@ -205,8 +205,9 @@ fn main() {
         if !shown.ran {
             break;
         }
-        s = put_tick(&mut out, s, t, shown.word, last);
-        last = shown.word;
+        let word = scope::packed(shown.words);
+        s = put_tick(&mut out, s, t, word, last);
+        last = word;
         t += 1;
     }
     finish(&mut out, s, t);

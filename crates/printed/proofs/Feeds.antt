@@ -13,6 +13,7 @@ use Rattle.text.proofs.DigitLaws.{both-left, both-right, every-append}
 use Rattle.text.proofs.DecimalLaws.{digit-low, decimal-digits}
 use Rattle.card.specs.declared.card.Card.{Card}
 use Rattle.card.specs.Address.{cellCount, firstCell, firstConnector}
+use Rattle.card.specs.Connectors.{each}
 use Rattle.card.specs.Fresh.{freshOf}
 use Rattle.card.specs.Valid.{validCard}
 use Rattle.commands.specs.declared.grammar.Slot.{Slot}
@@ -99,9 +100,9 @@ lines-back [] = refl
 lines-back (c ∷ cs) =
     line-ends [] (commandText c) (commandsText cs) (line-free c) ∙ ap (λ (ls : List (List ℕ)). commandText c ∷ ls) (lines-back cs)
 
-pub text-lines : (n : ℕ) (c : Card) → linesIn (wiringText n c) ≡ wiringLines (c .trigger) (take n (c .cells)) (c .connectors)
+pub text-lines : (n : ℕ) (c : Card) → linesIn (wiringText n c) ≡ wiringLines (c .trigger) (take n (c .cells)) (each (c .connectors))
 unfolding wiringText
-text-lines n c = lines-back (wiring (c .trigger) (take n (c .cells)) (c .connectors))
+text-lines n c = lines-back (wiring (c .trigger) (take n (c .cells)) (each (c .connectors)))
 
 -- ---- of a card of n cells, which are no fewer than presets set, and whose places end before those of the connectors
 

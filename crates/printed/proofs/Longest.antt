@@ -12,13 +12,14 @@ use Rattle.text.proofs.DecimalLaws.{decimal-length}
 use Rattle.cells.specs.declared.cell.Cell.{Cell}
 use Rattle.cells.specs.Table.{rowOf, anySlot}
 use Rattle.words.proofs.Bools.{and-left, and-right}
+use Rattle.card.specs.Connectors.{each}
 use Rattle.card.specs.declared.card.Card.{Card}
 use Rattle.card.specs.declared.card.Connector.{Connector}
 use Rattle.card.specs.Address.{connectorCount, firstCell, firstConnector}
 use Rattle.card.specs.Valid.{validCell, validConnector, every, validCard}
 use Rattle.card.proofs.Bounds.{clock-most, kind-most, connector-kind-most}
 use Rattle.card.proofs.Settings.{split, cell-config}
-use Rattle.card.proofs.ValidLaws.{kind-known, kind-good, source-good}
+use Rattle.card.proofs.ValidLaws.{kind-known, kind-good, source-good, settings-valid}
 use Rattle.card.proofs.WriteLaws.{slots-each, slot-most, address-most}
 use Rattle.commands.specs.declared.grammar.Command.{Command}
 use Rattle.commands.specs.declared.grammar.Slot.the-variants.{X, Y, Z, F}
@@ -109,13 +110,13 @@ module _ {A : Type 0} (f : ℕ → A → List Command) (ok : A → Bool) (first 
 
 module _ (n : ℕ) (c : Card) (ok : validCard n c ≡ true) where
   text-most : length (wiringText n c) ≤ longest n
-  unfolding validCard longest
+  unfolding longest
   text-most =
-      let s = split n (c .trigger) (c .cells) (c .connectors) ok in
+      let s = split n (c .trigger) (c .cells) (each (c .connectors)) (settings-valid n c ok) in
       let cells = list-most cellCommands (validCell n) firstCell cellLines (λ i x pass. cell-most n x pass i) 0 (take n (c .cells)) (s .cells-pass) in
-      let connectors = list-most connectorCommands (validConnector n) firstConnector connectorLines (connector-most n) 0 (c .connectors) (s .connectors-pass) in
+      let connectors = list-most connectorCommands (validConnector n) firstConnector connectorLines (connector-most n) 0 (each (c .connectors)) (s .connectors-pass) in
       let front : length (commandsText (commandsFrom cellCommands 0 (take n (c .cells)))) ≤ places firstCell cellLines 0 n = rw (s .cell-count) at cells in
-      let back : length (commandsText (commandsFrom connectorCommands 0 (c .connectors))) ≤ places firstConnector connectorLines 0 connectorCount
+      let back : length (commandsText (commandsFrom connectorCommands 0 (each (c .connectors)))) ≤ places firstConnector connectorLines 0 connectorCount
       = rw (s .connector-count) at connectors in
       let clock = clock-most (c .trigger) (s .clock) in
       let last = part-most true PM-E= (c .trigger) LF oneDigit (lit≤ tt) (omega arith) in

@@ -14,6 +14,7 @@ pub use Rattle.text.proofs.Stores.{Placed, placed-then, placed-as}
 use Rattle.cells.specs.declared.cell.Cell.{Cell}
 use Rattle.cells.specs.declared.table.Slots.{Slots}
 use Rattle.cells.specs.Table.{rowOf, anySlot}
+use Rattle.card.specs.Connectors.{each}
 use Rattle.card.specs.declared.card.Card.{Card}
 use Rattle.card.specs.declared.card.Connector.{Connector}
 use Rattle.card.specs.Address.{firstCell, firstConnector}
@@ -172,13 +173,13 @@ module _ {A : Type 0} (f : ℕ → A → List Command) where
 -- ---- a card
 
 pub wiring-parts : (n : ℕ) (c : Card)
-    → (commandsText (commandsFrom cellCommands 0 (take n (c .cells))) ++ commandsText (commandsFrom connectorCommands 0 (c .connectors)))
+    → (commandsText (commandsFrom cellCommands 0 (take n (c .cells))) ++ commandsText (commandsFrom connectorCommands 0 (each (c .connectors))))
     ++ part true PM-E= (c .trigger) LF
     ≡ wiringText n c
 unfolding wiringText wiring
 wiring-parts n c =
     let cells = commandsFrom cellCommands 0 (take n (c .cells)) in
-    let connectors = commandsFrom connectorCommands 0 (c .connectors) in
+    let connectors = commandsFrom connectorCommands 0 (each (c .connectors)) in
     append-assoc (commandsText cells) (commandsText connectors) (part true PM-E= (c .trigger) LF)
     ∙ ap (λ (t : List ℕ). commandsText cells ++ (commandsText connectors ++ t)) (sym (trigger-part (c .trigger)))
     ∙ ap (λ (t : List ℕ). commandsText cells ++ t) (sym (commands-append connectors (Trigger (c .trigger) ∷ [])))

@@ -18,7 +18,7 @@ use Rattle.words.proofs.Bools.{and-left, and-right}
 use Rattle.card.specs.declared.card.Card.{Card}
 use Rattle.card.specs.declared.card.Connector.{Connector}
 use Rattle.card.specs.Address.{cellRoom, connectorCount, firstCell, firstConnector}
-use Rattle.card.specs.Connectors.{noConnector}
+use Rattle.card.specs.Connectors.{sourceAt, each, wellFormed}
 use Rattle.card.specs.Change.{changed}
 use Rattle.card.specs.Context.{contextOf}
 use Rattle.card.specs.Edits.{currentCell, clearedCell, typed, configured, wiredSlot, wired, move, setTrigger}
@@ -26,7 +26,8 @@ use Rattle.card.specs.Fresh.{freshCell, freshOf}
 use Rattle.card.specs.Valid.{frontDriven, badCellType, badConnectorType, badAddress, badConfig, validCell, validConnector, every, valid, validSlot}
 use Rattle.card.specs.Written.{configuredAs, written}
 use Rattle.card.proofs.Settings.{cell-config, Sound, split}
-use Rattle.card.proofs.ValidLaws.{kind-known, kind-good, source-good}
+use Rattle.card.proofs.ConnectorLaws.{length-each, each-unique}
+use Rattle.card.proofs.ValidLaws.{kind-known, kind-good, source-good, formed, fresh-valid}
 use Rattle.card.proofs.WriteLaws.{CellWritten, ConnectorWritten, written-is, unslotted, configured-is, config-permitted, slots-each, slots-permitted}
 use Rattle.card.proofs.WriteLaws.{slot-unused, slot-most, address-most, used-given, cell-place, connector-place, at-cell, current-written, move-written}
 use Rattle.card.proofs.WriteLaws.{type-written, config-written, slots-written, beside-cells, move-connector-written, connector-type-written, source-written}
@@ -72,7 +73,8 @@ record Reaches (n store : ℕ) (c : Card) (commands : List Command) (t : ℕ) (c
   runs : Runs n store c commands card
   trigger : card .trigger ≡ t
   cells : card .cells ≡ cs
-  connectors : card .connectors ≡ ks
+  formed : wellFormed (card .connectors) ≡ true
+  connectors : each (card .connectors) ≡ ks
 
 -- the line of a command that is not refused is accepted, and obeyed
 module _ (n reply store : ℕ) (room : shortestReply ≤ reply) where
@@ -223,10 +225,10 @@ module _ (n store : ℕ) (apart : firstCell + n ≤ firstConnector) where
       either-written false cell e written = w
 
     -- the commands of a valid cell set it, and nothing else of the settings
-    cell-reaches : i < length (c .cells) → (cell : Cell) → validCell n cell ≡ true
-        → Reaches n store c (cellCommands i cell) (c .trigger) (set (c .cells) i (clearedCell cell)) (c .connectors)
+    cell-reaches : i < length (c .cells) → wellFormed (c .connectors) ≡ true → (cell : Cell) → validCell n cell ≡ true
+        → Reaches n store c (cellCommands i cell) (c .trigger) (set (c .cells) i (clearedCell cell)) (each (c .connectors))
     unfolding cellCommands printableCommand changed changeFor typed configuredAs written
-    cell-reaches there cell ok =
+    cell-reaches there whole cell ok =
         let kind = cell .kind in
         let row = rowOf kind in
         let known = kind-known n cell ok in
@@ -257,13 +259,14 @@ module _ (n store : ℕ) (apart : firstCell + n ≤ firstConnector) where
               (λ e. slots-free there (configuredAs cell) d2 w2 cell ok same))));
           trigger = w3 .trigger;
           cells = w3 .cells ∙ ap (set (c .cells) i) (whole-cell n cell ok);
-          connectors = w3 .connectors;
+          formed = rw (w3 .connectors) whole;
+          connectors = ap each (w3 .connectors);
         }
 
   -- ---- one connector
 
   -- the commands of a valid connector set it, and nothing else of the settings; under trigger 0 no type is refused with 13
-  module _ (c : Card) (k : ℕ) (within : k < connectorCount) (there : k < length (c .connectors)) (idle : c .trigger ≡ 0) where
+  module _ (c : Card) (k : ℕ) (within : k < connectorCount) (whole : wellFormed (c .connectors) ≡ true) (idle : c .trigger ≡ 0) where
     type-free : (old : Connector) (d : Card) → ConnectorWritten c k old d → (v : ℕ) → badConnectorType v ≡ false
         → refusal n (contextOf n d) store (SetKind v) ≡ 0
     unfolding refusal frontDriven
@@ -281,7 +284,7 @@ module _ (n store : ℕ) (apart : firstCell + n ≤ firstConnector) where
         rw (beside-cells c k within n apart d (w .pointer), small-fits v (omega arith), good)
 
     connector-reaches : (connector : Connector) → validConnector n connector ≡ true
-        → Reaches n store c (connectorCommands k connector) (c .trigger) (c .cells) (set (c .connectors) k connector)
+        → Reaches n store c (connectorCommands k connector) (c .trigger) (c .cells) (set (each (c .connectors)) k connector)
     unfolding connectorCommands printableCommand changed changeFor refusal
     connector-reaches connector ok =
         let kind = connector .kind in
@@ -291,14 +294,14 @@ module _ (n store : ℕ) (apart : firstCell + n ≤ firstConnector) where
         let low = connector-fits kind known in
         let most = address-most n source good in
         let moved = move c (firstConnector + k) in
-        let w0 = move-connector-written c k within in
-        let w1 = connector-type-written c k within there _ moved w0 kind in
+        let w0 = move-connector-written c k within whole in
+        let w1 = connector-type-written c k within _ moved w0 kind known in
         let d1 = obeyed n moved (SetKind kind) in
-        let v1 : ConnectorWritten c k (record { kind = kind; source = getD (c .connectors) k noConnector .source }) d1 =
+        let v1 : ConnectorWritten c k (record { kind = kind; source = sourceAt (c .connectors) k }) d1 =
         rw (beside-cells c k within n apart moved (w0 .pointer)) w1 in
         let d2 = obeyed n d1 (SetConfig source) in
         let v2 : ConnectorWritten c k connector d2 =
-        rw (beside-cells c k within n apart d1 (v1 .pointer)) (source-written c k within there _ d1 v1 source) in
+        rw (beside-cells c k within n apart d1 (v1 .pointer)) (source-written c k within _ d1 v1 source) in
         let free : refusal n (contextOf n c) store (Move (firstConnector + k)) ≡ 0 =
         rw (small-fits (firstConnector + k) (omega arith), connector-place n k within) in
         record {
@@ -309,42 +312,45 @@ module _ (n store : ℕ) (apart : firstCell + n ≤ firstConnector) where
               (next (small-printable source (omega arith)) (source-free _ d1 v1 source good) none));
           trigger = v2 .trigger;
           cells = v2 .cells;
+          formed = v2 .formed;
           connectors = v2 .connectors;
         }
 
   -- ---- all of them
 
-  cells-reach : (cells : List Cell) (i : ℕ) (c : Card) → i + length cells ≤ n → n ≤ length (c .cells) → every (validCell n) cells ≡ true
-      → Reaches n store c (commandsFrom cellCommands i cells) (c .trigger) (sets (c .cells) i (map clearedCell cells)) (c .connectors)
+  cells-reach : (cells : List Cell) (i : ℕ) (c : Card) → i + length cells ≤ n → n ≤ length (c .cells) → wellFormed (c .connectors) ≡ true
+      → every (validCell n) cells ≡ true
+      → Reaches n store c (commandsFrom cellCommands i cells) (c .trigger) (sets (c .cells) i (map clearedCell cells)) (each (c .connectors))
   unfolding commandsFrom every
-  cells-reach [] i c room count ok = record { card = c; runs = none; trigger = refl; cells = refl; connectors = refl }
-  cells-reach (cell ∷ cells) i c room count ok =
-      let first = cell-reaches c i (omega arith) (omega arith) cell (and-left (validCell n cell) _ ok) in
+  cells-reach [] i c room count whole ok = record { card = c; runs = none; trigger = refl; cells = refl; formed = whole; connectors = refl }
+  cells-reach (cell ∷ cells) i c room count whole ok =
+      let first = cell-reaches c i (omega arith) (omega arith) whole cell (and-left (validCell n cell) _ ok) in
       let long : n ≤ length (first .card .cells) = omega (arith, count, ap length (first .cells) ∙ length-set (c .cells) i (clearedCell cell)) in
-      let more = cells-reach cells (suc i) (first .card) (omega arith) long (and-right (validCell n cell) _ ok) in
+      let more = cells-reach cells (suc i) (first .card) (omega arith) long (first .formed) (and-right (validCell n cell) _ ok) in
       record {
         card = more .card;
         runs = both-run (first .runs) (more .runs);
         trigger = more .trigger ∙ first .trigger;
         cells = more .cells ∙ ap (λ (l : List Cell). sets l (suc i) (map clearedCell cells)) (first .cells);
+        formed = more .formed;
         connectors = more .connectors ∙ first .connectors;
       }
 
   connectors-reach : (connectors : List Connector) (k : ℕ) (c : Card) → c .trigger ≡ 0 → k + length connectors ≤ connectorCount
-      → length (c .connectors) ≡ connectorCount → every (validConnector n) connectors ≡ true
-      → Reaches n store c (commandsFrom connectorCommands k connectors) (c .trigger) (c .cells) (sets (c .connectors) k connectors)
+      → wellFormed (c .connectors) ≡ true → every (validConnector n) connectors ≡ true
+      → Reaches n store c (commandsFrom connectorCommands k connectors) (c .trigger) (c .cells) (sets (each (c .connectors)) k connectors)
   unfolding commandsFrom every
-  connectors-reach [] k c idle room count ok = record { card = c; runs = none; trigger = refl; cells = refl; connectors = refl }
-  connectors-reach (connector ∷ connectors) k c idle room count ok =
-      let first = connector-reaches c k (omega arith) (omega arith) idle connector (and-left (validConnector n connector) _ ok) in
-      let long : length (first .card .connectors) ≡ connectorCount = ap length (first .connectors) ∙ length-set (c .connectors) k connector ∙ count in
+  connectors-reach [] k c idle room whole ok = record { card = c; runs = none; trigger = refl; cells = refl; formed = whole; connectors = refl }
+  connectors-reach (connector ∷ connectors) k c idle room whole ok =
+      let first = connector-reaches c k (omega arith) whole idle connector (and-left (validConnector n connector) _ ok) in
       let off = first .trigger ∙ idle in
-      let more = connectors-reach connectors (suc k) (first .card) off (omega arith) long (and-right (validConnector n connector) _ ok) in
+      let more = connectors-reach connectors (suc k) (first .card) off (omega arith) (first .formed) (and-right (validConnector n connector) _ ok) in
       record {
         card = more .card;
         runs = both-run (first .runs) (more .runs);
         trigger = more .trigger ∙ first .trigger;
         cells = more .cells ∙ first .cells;
+        formed = more .formed;
         connectors = more .connectors ∙ ap (λ (l : List Connector). sets l (suc k) connectors) (first .connectors);
       }
 
@@ -366,15 +372,15 @@ module _ (n store : ℕ) (apart : firstCell + n ≤ firstConnector) where
       let start = length-replicate n freshCell in
       let behind = replicate (cellRoom - n) freshCell in
       let all = length-append (replicate n freshCell) behind in
-      let front = cells-reach (take n cells) 0 (freshOf n) (omega arith) (omega arith) (s .cells-pass) in
-      let back = connectors-reach connectors 0 (front .card) (front .trigger) (omega arith) (ap length (front .connectors)) (s .connectors-pass) in
+      let front = cells-reach (take n cells) 0 (freshOf n) (omega arith) (omega arith) (formed n (freshOf n) (fresh-valid n)) (s .cells-pass) in
+      let back = connectors-reach connectors 0 (front .card) (front .trigger) (omega arith) (front .formed) (s .connectors-pass) in
       let set-cells : back .card .cells ≡ map clearedCell (take n cells) ++ behind =
       back .cells
       ∙ front .cells
       ∙ sets-front (replicate n freshCell) behind (map clearedCell (take n cells)) (length-map (take n cells) clearedCell ∙ count ∙ sym start) in
-      let long : length connectors ≡ length (front .card .connectors) = others ∙ sym (ap length (front .connectors)) in
-      let set-connectors : back .card .connectors ≡ connectors = back .connectors ∙ sets-all (front .card .connectors) connectors long in
-      let sound : Sound n trigger cells (back .card .connectors) = subst (Sound n trigger cells) (sym set-connectors) s in
+      let long : length connectors ≡ length (each (front .card .connectors)) = others ∙ sym (length-each (front .card .connectors)) in
+      let set-connectors : each (back .card .connectors) ≡ connectors = back .connectors ∙ sets-all (each (front .card .connectors)) connectors long in
+      let sound : Sound n trigger cells (each (back .card .connectors)) = subst (Sound n trigger cells) (sym set-connectors) s in
       let low = clock-fits trigger (s .clock) in
       let free : refusal n (contextOf n (back .card)) store (Trigger trigger) ≡ 0 = rw (small-fits trigger (omega arith), s .clock) in
       record {
@@ -382,7 +388,8 @@ module _ (n store : ℕ) (apart : firstCell + n ≤ firstConnector) where
         runs = both-run (front .runs) (both-run (back .runs) (next (small-printable trigger (omega arith)) free none));
         trigger = refl;
         cells = set-cells;
-        connectors = trigger-leaves n trigger cells (back .card) sound ∙ set-connectors;
+        formed = rw (trigger-leaves n trigger cells (back .card) (back .formed) sound) (back .formed);
+        connectors = ap each (trigger-leaves n trigger cells (back .card) (back .formed) sound) ∙ set-connectors;
       }
 
 -- so every command of a wiring is printable, and its line reads back
@@ -393,14 +400,16 @@ wiring-printable n trigger cells connectors apart ok = runs-printable (wiring-re
 pub settable : Settable
 unfolding Settable
 settable n reply store trigger cells connectors apart room ok =
-    let r = wiring-reaches n store apart trigger cells connectors ok in
+    let whole = and-left (wellFormed connectors) (valid n trigger cells (each connectors)) ok in
+    let pass = and-right (wellFormed connectors) (valid n trigger cells (each connectors)) ok in
+    let r = wiring-reaches n store apart trigger cells (each connectors) pass in
     let end = fed-runs n reply store room (r .runs) in
-    let long = length-map (take n cells) clearedCell ∙ split n trigger cells connectors ok .cell-count in (
+    let long = length-map (take n cells) clearedCell ∙ split n trigger cells (each connectors) pass .cell-count in (
       accepted-runs n reply store room (r .runs),
       record {
         trigger = ap (λ (c : Card). c .trigger) end ∙ r .trigger;
         cells = ap (λ (c : Card). take n (c .cells)) end ∙ ap (take n) (r .cells)
             ∙ take-at (map clearedCell (take n cells)) (replicate (cellRoom - n) freshCell) n long;
-        connectors = ap (λ (c : Card). c .connectors) end ∙ r .connectors;
+        connectors = ap (λ (c : Card). c .connectors) end ∙ each-unique (r .card .connectors) connectors (r .formed) whole (r .connectors);
       },
     )

@@ -8,6 +8,9 @@ use Rattle.text.specs.Decimal.{decimalFrom, decimal}
 use Rattle.text.specs.Written.{bytesOf}
 use Rattle.cells.specs.declared.cell.Cell.{Cell}
 use Rattle.cells.specs.Table.{rowOf}
+use Rattle.card.specs.Connectors.{kindAt, sourceAt, withKind, withSource, each, fromEach, wellFormed}
+use Rattle.words.specs.Bits.{bitAt, wordOf}
+use Rattle.words.specs.Listed.{listed}
 use Rattle.card.specs.declared.card.Card.{Card}
 use Rattle.card.specs.Address.{cellCount}
 use Rattle.card.specs.Fresh.{started, fresh}
@@ -26,7 +29,7 @@ printedCell kind config slots = commandsText (cellCommands 0 (whole kind config 
 -- cells of the longest lines on a card whose connectors have the longest sources
 longCard : Card
 longCard =
-    started 16 0 (replicate 16 (whole 17 4294967295 (225 ∷ 225 ∷ 225 ∷ 225 ∷ []))) (replicate 16 (record { kind = 2; source = 225 })) 0
+    started 16 0 (replicate 16 (whole 17 4294967295 (225 ∷ 225 ∷ 225 ∷ 225 ∷ []))) (record { sources = replicate 16 225; «push_pull» = 65535; «open_drain» = 0 }) 0
 
 -- given, expected
 abbrev table : List (List ℕ × List ℕ)
@@ -56,9 +59,9 @@ table =
     ∷ []
 
 one-table : map (λ (e : List ℕ × List ℕ). e .0) table ≡ map (λ (e : List ℕ × List ℕ). e .1) table
-unfolding printedCell longCard bytesOf decimal decimalFrom rowOf fresh cellCommands connectorCommands commandsFrom wiring pairsText commandText linesText commandsText wiringText
+unfolding printedCell longCard bytesOf decimal decimalFrom rowOf fresh cellCommands connectorCommands commandsFrom wiring pairsText commandText linesText commandsText wiringText kindAt sourceAt each bitAt listed
 one-table = refl
 
 long-valid : validCard cellCount longCard ≡ true
-unfolding longCard rowOf permittedBase badCellType badConnectorType badClock badAddress frontDriven validSlot validSlots validCell validConnector every valid validCard
+unfolding longCard rowOf permittedBase badCellType badConnectorType badClock badAddress frontDriven validSlot validSlots validCell validConnector every valid validCard kindAt sourceAt withKind withSource each fromEach wellFormed bitAt wordOf listed
 long-valid = refl

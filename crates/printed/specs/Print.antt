@@ -5,6 +5,7 @@ use mathlib.Core.List.{List}
 use lib.Dec.{ltb}
 use lib.ListN.{length, take}
 use lib.Seq.{sets}
+use Rattle.card.specs.Connectors.{each}
 use Rattle.card.specs.declared.card.Card.{Card}
 use Rattle.lines.specs.Refusal.{when}
 use Rattle.printed.specs.Wiring.{wiring}
@@ -12,7 +13,7 @@ use Rattle.printed.specs.Parts.{commandsText}
 
 -- "For cells 1 to 16 ... Then connectors 33 to 48 ... Then `PM E`": the lines of `wiring`
 unfoldable pub wiringText : ℕ → Card → List ℕ
-wiringText n c = commandsText (wiring (c .trigger) (take n (c .cells)) (c .connectors))
+wiringText n c = commandsText (wiring (c .trigger) (take n (c .cells)) (each (c .connectors)))
 
 -- "when the text is longer than the buffer"
 abbrev pub tooLong : ℕ → Card → (size : ℕ) → Bool

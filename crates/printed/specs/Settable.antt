@@ -8,11 +8,12 @@ use lib.Dec.{eqb}
 use lib.ListN.{take, replicate}
 use Rattle.cells.specs.declared.cell.Cell.{Cell}
 use Rattle.card.specs.declared.card.Card.{Card}
-use Rattle.card.specs.declared.card.Connector.{Connector}
+use Rattle.card.specs.declared.card.Connectors.{Connectors}
 use Rattle.card.specs.Address.{firstCell, firstConnector}
+use Rattle.card.specs.Connectors.{each}
 use Rattle.card.specs.Edits.{clearedCell}
 use Rattle.card.specs.Fresh.{freshOf}
-use Rattle.card.specs.Valid.{valid}
+use Rattle.card.specs.Valid.{validSettings}
 use Rattle.lines.specs.Line.{shortestReply, lineOutcome}
 use Rattle.calls.specs.Calls.{Call, end}
 use Rattle.calls.specs.Calls.Call.{line}
@@ -29,15 +30,15 @@ allAccepted n reply store c (text ∷ texts) =
     eqb (lineOutcome n c text reply store .k) 0 && allAccepted n reply store (lineOutcome n c text reply store .card) texts
 
 -- a card has these settings, and every state is clear
-pub record Has (n t : ℕ) (cs : List Cell) (ks : List Connector) (c : Card) : Type 0 where
+pub record Has (n t : ℕ) (cs : List Cell) (ks : Connectors) (c : Card) : Type 0 where
   pub trigger : c .trigger ≡ t
   pub cells : take n (c .cells) ≡ map clearedCell (take n cs)
   pub connectors : c .connectors ≡ ks
 
 -- valid settings are set by their lines on a fresh card, of any number of cells whose places end before those of the connectors
 unfoldable pub Settable : Type 0
-Settable = (n reply store trigger : ℕ) (cells : List Cell) (connectors : List Connector) → firstCell + n ≤ firstConnector → shortestReply ≤ reply
-    → valid n trigger cells connectors ≡ true → let texts = wiringLines trigger (take n cells) connectors in
+Settable = (n reply store trigger : ℕ) (cells : List Cell) (connectors : Connectors) → firstCell + n ≤ firstConnector → shortestReply ≤ reply
+    → validSettings n trigger cells connectors ≡ true → let texts = wiringLines trigger (take n cells) (each connectors) in
     (allAccepted n reply store (freshOf n) texts ≡ true) × Has n trigger cells connectors (fed n reply store (freshOf n) texts)
 
 -- lines as calls, each with room for its reply and no store
@@ -45,10 +46,10 @@ abbrev pub lineCalls : List (List ℕ) → List Call
 lineCalls texts = map (λ (text : List ℕ). line text (replicate shortestReply 0) []) texts
 
 -- some list of lines sets these settings on a fresh card
-unfoldable pub SetByLines : (n trigger : ℕ) → List Cell → List Connector → Type 0
+unfoldable pub SetByLines : (n trigger : ℕ) → List Cell → Connectors → Type 0
 SetByLines n trigger cells connectors = (texts : List (List ℕ)) × Has n trigger cells connectors (end n (freshOf n) (lineCalls texts))
 
 -- "record value no line could set": settings are valid where lines set them, and nowhere else
 unfoldable pub ValidIsSettable : ℕ → Type 0
-ValidIsSettable n = (trigger : ℕ) (cells : List Cell) (connectors : List Connector)
-    → (valid n trigger cells connectors ≡ true) ↔ SetByLines n trigger cells connectors
+ValidIsSettable n = (trigger : ℕ) (cells : List Cell) (connectors : Connectors)
+    → (validSettings n trigger cells connectors ≡ true) ↔ SetByLines n trigger cells connectors

@@ -11,6 +11,7 @@ use crate::parts::put;
 use crate::parts::put_cells;
 use crate::parts::put_connectors;
 use card::card::Card;
+use card::connectors::each_of;
 use card::place::cells_for;
 
 // 0 or the number of the refusal, and the text's length, 0 where it is refused.
@@ -28,7 +29,8 @@ fn put_wiring(out: &mut [u8; TEXT_MOST], card: Card) -> usize
 {
     let n = cells_for(card.size);
     let cells = card.cells;
-    let connectors = card.connectors;
+    let row = card.connectors;
+    let connectors = each_of(row);
     let first = put_cells(out, cells, n);
     let last = put_connectors(out, first, connectors);
     put(out, last, true, b"PM E=", card.trigger as u32, b"\n")

@@ -1,25 +1,21 @@
--- Laws of a run: what the buffers hold, a line that is cut, and the bytes of a block line by line.
-use Prim.Native.Nat.{ℕ, suc, _+_, _-_, _*_, _≤_, _<_, min}
-use mathlib.Core.Path.{_≡_, refl, sym, ap, ap₂, _∙_}
-use mathlib.Core.Bool.{Bool, true, false, cond}
-use mathlib.Core.List.{List, [], _∷_, _++_, append-assoc, append-nil}
+-- Laws of a run: what the buffers hold, a line that is cut, and where the lines of a block stop.
+use Prim.Native.Nat.{ℕ, _+_, _-_, _*_, _≤_, _<_}
+use mathlib.Core.Path.{_≡_, refl, sym, ap, _∙_}
+use mathlib.Core.List.{List, _++_}
 use native.Mathlib.Decide.{decLt}
-use native.Mathlib.Nat.{le-refl}
-use native.Mathlib.Numerals.{add-one}
 use native.Mathlib.Omega.{arith}
-use lib.Dec.{eqb}
-use lib.ListN.{length, getD, take, drop, length-take, length-drop, take-append-drop}
-use lib.Seq.{sets, length-sets, sets-eq, take-all, take-at, take-add, take-append-add, take-take, take-append-le, getD-take, getD-drop}
-use lib.Seq.{drop-append-seam, drop-append-add, drop-append-le, drop-cons, drop-drop}
-use borrow.Author.Tests.{ne-eqb}
+use lib.ListN.{length, take, drop, length-take, length-drop, take-append-drop}
+use lib.Seq.{sets, length-sets, sets-eq, take-all, take-append-add, take-append-le, drop-append-seam, drop-append-add, drop-append-le, drop-drop}
 use Rattle.text.proofs.Stores.{front}
 use Rattle.card.specs.declared.card.Card.{Card}
 use Rattle.card.specs.Address.{cellsFor}
-use Rattle.console.specs.Console.{longestPrint, entered}
+use Rattle.console.specs.Console.{longestPrint, Entry, entered}
 use Rattle.console.proofs.Long.{entered-long}
+use Rattle.input.specs.Lines.{takesAll, part, kept}
+use Rattle.input.proofs.Lines.{block-by-block}
 use Rattle.runner.specs.declared.State.{State}
 use Rattle.runner.specs.declared.Lines.{Lines}
-use Rattle.runner.specs.Run.{RunState, part, kept, cut, afterEntry, ended, longer, takes, takesAll, keptOf, stateOf, standing, Stopped}
+use Rattle.runner.specs.Run.{RunState, enters, keptOf, stateOf, standing, Stopped}
 
 -- ---- the output
 
@@ -72,141 +68,33 @@ drop-further xs ys a b h e =
     ∙ drop-drop (b - a) a ys
     ∙ ap (λ (k : ℕ). drop k ys) at
 
--- ---- the line
-
--- the first bytes, as many as there is room for, are the cut
-pub kept-cut : (l text : List ℕ) (k : ℕ) → length l ≡ kept → k ≡ min (length text) kept → take k (sets l 0 (take k text)) ≡ cut text
-kept-cut l text k hl ek =
-    let size = length-take k text in
-    let all : length (take k text) ≡ k = omega (arith, size) in
-    front l (take k text) k (sym all) (omega (arith, all)) ∙ enough (decLt kept (length text))
-  where
-    enough : Dec (kept < length text) → take k text ≡ cut text
-    enough (yes g) =
-        let e : k ≡ kept = omega (arith, ek) in
-        ap (λ (n : ℕ). take n text) e
-    enough (no g) =
-        let e : length text ≤ k = omega (arith, ek) in
-        let f : length text ≤ kept = omega arith in
-        take-all k text e ∙ sym (take-all kept text f)
-
--- ---- the bytes of a block
-
-pub takes-append : (s : RunState) (xs ys : List ℕ) → takesAll s (xs ++ ys) ≡ takesAll (takesAll s xs) ys
-unfolding takesAll
-takes-append s [] ys = refl
-takes-append s (b ∷ bs) ys = takes-append (takes s b) bs ys
-
--- bytes without LF make the line longer
-takes-part : (s : RunState) (bs : List ℕ) → ((k : ℕ) → k < length bs → getD bs k 0 ≡ 10 → ⊥) → takesAll s bs ≡ longer s bs
-unfolding takesAll
-takes-part s [] none = λ i. record { card = s .card; store = s .store; line = sym (append-nil (s .line)) i; printed = s .printed }
-takes-part s (b ∷ bs) none =
-    let first : b ≡ 10 → ⊥ = none 0 (omega arith) in
-    let ih = takes-part (longer s (b ∷ [])) bs (λ k g. none (suc k) (omega arith)) in
-    rw (ne-eqb b 10 first)
-    (ih ∙ (λ i. record { card = s .card; store = s .store; line = append-assoc (s .line) (b ∷ []) bs i; printed = s .printed }))
-
 -- ---- a line that is cut
 
-cut-cut : (l more : List ℕ) → cut (cut l ++ more) ≡ cut (l ++ more)
-cut-cut l more = go (decLt kept (length l))
-  where
-    go : Dec (kept < length l) → cut (cut l ++ more) ≡ cut (l ++ more)
-    go (yes h) =
-        let e : length (cut l) ≡ kept = length-take kept l ∙ omega arith in
-        take-at (cut l) more kept e ∙ sym (take-append-le kept l more (omega arith))
-    go (no h) = ap (λ (t : List ℕ). cut (t ++ more)) (take-all kept l (omega arith))
-
 -- it leaves what the whole line would
-pub entered-cut : (n : ℕ) (c : Card) (l store : List ℕ) → entered n c (cut l) store ≡ entered n c l store
+pub entered-cut : (n : ℕ) (c : Card) (l store : List ℕ) → entered n c (take kept l) store ≡ entered n c l store
 entered-cut n c l store = go (decLt kept (length l))
   where
-    go : Dec (kept < length l) → entered n c (cut l) store ≡ entered n c l store
+    go : Dec (kept < length l) → entered n c (take kept l) store ≡ entered n c l store
     go (yes h) =
-        let e : length (cut l) ≡ kept = length-take kept l ∙ omega arith in
-        entered-long n c (cut l) l store (omega (arith, e)) (omega arith)
+        let e : length (take kept l) ≡ kept = length-take kept l ∙ omega arith in
+        entered-long n c (take kept l) l store (omega (arith, e)) (omega arith)
     go (no h) = ap (λ (t : List ℕ). entered n c t store) (take-all kept l (omega arith))
 
-ended-kept : (s : RunState) → ended (keptOf s) ≡ ended s
-ended-kept s = ap (afterEntry s) (entered-cut (cellsFor (s .card .size)) (s .card) (s .line) (s .store))
-
-kept-longer : (s : RunState) (more : List ℕ) → keptOf (longer (keptOf s) more) ≡ keptOf (longer s more)
-kept-longer s more = λ i. record { card = s .card; store = s .store; line = cut-cut (s .line) more i; printed = s .printed }
-
--- the bytes that follow do the same to a line that was cut
-kept-takes : (s : RunState) (bs : List ℕ) → keptOf (takesAll (keptOf s) bs) ≡ keptOf (takesAll s bs)
-unfolding takesAll
-kept-takes s [] = λ i. record { card = s .card; store = s .store; line = take-take kept kept (s .line) (le-refl kept) i; printed = s .printed }
-kept-takes s (b ∷ bs) = go (λ x. kept-takes x bs) (eqb b 10)
-  where
-    go : ((x : RunState) → keptOf (takesAll (keptOf x) bs) ≡ keptOf (takesAll x bs)) → (lf : Bool)
-        → keptOf (takesAll (cond lf (ended (keptOf s)) (longer (keptOf s) (b ∷ []))) bs) ≡ keptOf (takesAll (cond lf (ended s) (longer s (b ∷ []))) bs)
-    go ih true = ap (λ (x : RunState). keptOf (takesAll x bs)) (ended-kept s)
-    go ih false =
-        sym (ih (longer (keptOf s) (b ∷ []))) ∙ ap (λ (x : RunState). keptOf (takesAll x bs)) (kept-longer s (b ∷ [])) ∙ ih (longer s (b ∷ []))
+enters-cut : (d : Entry) (l : List ℕ) → enters d (take kept l) ≡ enters d l
+enters-cut d l =
+    ap (λ (e : Entry). record { card = e .card; store = e .store; printed = d .printed ++ e .printed })
+    (entered-cut (cellsFor (d .card .size)) (d .card) l (d .store))
 
 -- so a run that takes its input block by block stands where all the bytes at once would have brought it
-pub block-by-block : (s : RunState) (xs ys : List ℕ) → keptOf (takesAll (keptOf (takesAll s xs)) ys) ≡ keptOf (takesAll s (xs ++ ys))
-block-by-block s xs ys = kept-takes (takesAll s xs) ys ∙ ap keptOf (sym (takes-append s xs ys))
+pub run-by-block : (s : RunState) (xs ys : List ℕ) → keptOf (takesAll enters (keptOf (takesAll enters s xs)) ys) ≡ keptOf (takesAll enters s (xs ++ ys))
+run-by-block = block-by-block enters kept enters-cut
 
--- ---- a part of a block
-
-pub part-length : (l : List ℕ) (a b : ℕ) → b ≤ length l → length (part a b l) ≡ b - a
-part-length l a b h =
-    let rest = length-drop a l in
-    length-take (b - a) (drop a l) ∙ omega (arith, rest)
-
-part-append : (l : List ℕ) (a b d : ℕ) → a ≤ b → b ≤ d → part a d l ≡ part a b l ++ part b d l
-part-append l a b d h k =
-    let e : d - a ≡ (b - a) + (d - b) = omega arith in
-    let f : a + (b - a) ≡ b = omega arith in
-    ap (λ (n : ℕ). take n (drop a l)) e
-    ∙ take-add (b - a) (d - b) (drop a l)
-    ∙ ap (λ (t : List ℕ). part a b l ++ take (d - b) t) (drop-drop (b - a) a l ∙ ap (λ (n : ℕ). drop n l) f)
-
-part-cons : (l : List ℕ) (a b : ℕ) → a < b → b ≤ length l → part a b l ≡ getD l a 0 ∷ part (a + 1) b l
-part-cons l a b h k =
-    let e : b - a ≡ suc (b - (a + 1)) = omega arith in
-    ap₂ (λ (n : ℕ) (t : List ℕ). take n t) e (drop-cons l a 0 (omega arith)) ∙ ap (λ (n : ℕ). getD l a 0 ∷ take (b - (a + 1)) (drop n l)) (sym (add-one a))
-
--- a part where no LF stands
-free-part : (block : List ℕ) (a b : ℕ) → ((k : ℕ) → k < b → a ≤ k → getD block k 0 ≡ 10 → ⊥)
-    → (k : ℕ) → k < length (part a b block) → getD (part a b block) k 0 ≡ 10 → ⊥
-free-part block a b none k h e =
-    let size = length-take (b - a) (drop a block) in
-    let inside : k < b - a = omega (arith, size) in
-    let byte = getD-take (b - a) (drop a block) k 0 inside ∙ getD-drop a block k 0 in
-    none (a + k) (omega arith) (omega arith) (sym byte ∙ e)
+-- ---- the lines of a block
 
 -- where a block stands: the line from `start` to `end` has not ended, or ends there
 abbrev pub inBlock : State → (block store out : List ℕ) → (start end : ℕ) → RunState
-inBlock s block store out start end = record { card = s .card; store = store; line = part start end block; printed = take (s .used) out }
-
--- the first line, which may have begun in an earlier block
-pub first-line : (s : State) (block store out : List ℕ) (end : ℕ) → s .len ≤ end
-    → ((k : ℕ) → k < end → s .len ≤ k → getD block k 0 ≡ 10 → ⊥)
-    → inBlock s block store out 0 end ≡ takesAll (stateOf s store block out) (part (s .len) end block)
-first-line s block store out end h none =
-    let len : s .len - 0 ≡ s .len = omega arith in
-    let line : part 0 end block ≡ take (s .len) block ++ part (s .len) end block =
-    part-append block 0 (s .len) end (omega arith) h ∙ ap (λ (n : ℕ). take n block ++ part (s .len) end block) len in
-    (λ i. record { card = s .card; store = store; line = line i; printed = take (s .used) out })
-    ∙ sym (takes-part (stateOf s store block out) (part (s .len) end block) (free-part block (s .len) end none))
-
--- an LF, and the bytes up to the next one
-pub next-line : (x₀ x : RunState) (block : List ℕ) (from end next : ℕ) → from ≤ end → end < next → next ≤ length block → getD block end 0 ≡ 10
-    → ((k : ℕ) → k < next → end + 1 ≤ k → getD block k 0 ≡ 10 → ⊥) → x ≡ takesAll x₀ (part from end block)
-    → longer (ended x) (part (end + 1) next block) ≡ takesAll x₀ (part from next block)
-unfolding takesAll
-next-line x₀ x block from end next h k fits lf none e =
-    let rest = part (end + 1) next block in
-    let bytes : part from next block ≡ part from end block ++ (10 ∷ rest) =
-    part-append block from end next h (omega arith)
-    ∙ ap (λ (t : List ℕ). part from end block ++ t) (part-cons block end next k fits ∙ ap (λ (b : ℕ). b ∷ rest) lf) in
-    sym (takes-part (ended x) rest (free-part block (end + 1) next none))
-    ∙ ap (λ (y : RunState). takesAll (ended y) rest) e
-    ∙ sym (ap (takesAll x₀) bytes ∙ takes-append x₀ (part from end block) (10 ∷ rest))
+inBlock s block store out start end =
+    record { done = record { card = s .card; store = store; printed = take (s .used) out }; line = part start end block }
 
 -- ---- where the lines of a block stop
 
@@ -221,10 +109,11 @@ room-for-all s r n block before after x room = go (decLt (r .end) n)
 
 -- and what is left is kept
 pub kept-lines : (x₀ : RunState) (from : ℕ) (r : Lines) (block store out line : List ℕ) (m len : ℕ) → r .end ≡ m
-    → standing r block store out ≡ takesAll x₀ (part from (r .end) block) → take len line ≡ cut (part (r .start) m block)
-    → stateOf (record { card = r .card; len = len; used = r .used }) store line out ≡ keptOf (takesAll x₀ (part from m block))
+    → standing r block store out ≡ takesAll enters x₀ (part from (r .end) block) → take len line ≡ take kept (part (r .start) m block)
+    → stateOf (record { card = r .card; len = len; used = r .used }) store line out ≡ keptOf (takesAll enters x₀ (part from m block))
 kept-lines x₀ from r block store out line m len over e k =
-    (λ i. record { card = r .card; store = store; line = k i; printed = take (r .used) out })
-    ∙ ap (λ (j : ℕ). keptOf (record { card = r .card; store = store; line = part (r .start) j block; printed = take (r .used) out })) (sym over)
+    let d : Entry = record { card = r .card; store = store; printed = take (r .used) out } in
+    (λ i. record { done = d; line = k i })
+    ∙ ap (λ (j : ℕ). keptOf (record { done = d; line = part (r .start) j block })) (sym over)
     ∙ ap keptOf e
-    ∙ ap (λ (j : ℕ). keptOf (takesAll x₀ (part from j block))) over
+    ∙ ap (λ (j : ℕ). keptOf (takesAll enters x₀ (part from j block))) over

@@ -13,40 +13,42 @@ use Rattle.card.specs.Address.{cellsFor}
 use Rattle.card.specs.Fresh.{freshOf}
 use Rattle.saved.specs.Record.{configWidth, recordLength}
 use Rattle.console.specs.Console.{longestPrint, Entry, entered}
-use Rattle.runner.specs.Run.{RunState, startState, ended, longer, takes, takesAll, kept, keptOf, flushed}
-use Rattle.runner.specs.Run.{blockLength, mostReads, part, stateOf, runStateOf, standing, Stopped, Counted, Ran, RanOver}
+use Rattle.input.specs.Lines.{ended, longer, takes, takesAll, part, kept, blockLength, mostReads}
+use Rattle.runner.specs.Run.{RunState, startState, enters, keptOf, flushed, stateOf, runStateOf, standing, Stopped, Counted, Ran, RanOver}
 use Rattle.runner.specs.declared.Run.{Run}
 use Rattle.runner.specs.declared.Lines.{Lines}
 use Rattle.runner.specs.declared.Over.{Over}
-use Rattle.runner.proofs.Runs.{block-by-block}
+use Rattle.runner.proofs.Runs.{run-by-block}
 
 -- some bytes were printed before
 behind : List ℕ → RunState → RunState
-behind p s = record { card = s .card; store = s .store; line = s .line; printed = p ++ s .printed }
+behind p s = record { done = record { card = s .done .card; store = s .done .store; printed = p ++ s .done .printed }; line = s .line }
 
 -- what was printed before changes nothing
-takes-behind : (p : List ℕ) (s : RunState) (bs : List ℕ) → takesAll (behind p s) bs ≡ behind p (takesAll s bs)
+takes-behind : (p : List ℕ) (s : RunState) (bs : List ℕ) → takesAll enters (behind p s) bs ≡ behind p (takesAll enters s bs)
 unfolding takesAll behind
 takes-behind p s [] = refl
-takes-behind p s (b ∷ bs) = ap (λ (x : RunState). takesAll x bs) (go (eqb b 10)) ∙ takes-behind p (takes s b) bs
+takes-behind p s (b ∷ bs) = ap (λ (x : RunState). takesAll enters x bs) (go (eqb b 10)) ∙ takes-behind p (takes enters s b) bs
   where
     e : Entry
-    e = entered (cellsFor (s .card .size)) (s .card) (s .line) (s .store)
+    e = entered (cellsFor (s .done .card .size)) (s .done .card) (s .line) (s .done .store)
 
-    go : (lf : Bool) → cond lf (ended (behind p s)) (longer (behind p s) (b ∷ [])) ≡ behind p (cond lf (ended s) (longer s (b ∷ [])))
-    go true = λ i. record { card = e .card; store = e .store; line = []; printed = append-assoc p (s .printed) (e .printed) i }
+    go : (lf : Bool) → cond lf (ended enters (behind p s)) (longer (behind p s) (b ∷ [])) ≡ behind p (cond lf (ended enters s) (longer s (b ∷ [])))
+    go true =
+        λ i. record { done = record { card = e .card; store = e .store; printed = append-assoc p (s .done .printed) (e .printed) i }; line = [] }
     go false = refl
 
-behind-flushed : (s : RunState) → behind (s .printed) (flushed s) ≡ s
+behind-flushed : (s : RunState) → behind (s .done .printed) (flushed s) ≡ s
 unfolding behind
-behind-flushed s = λ i. record { card = s .card; store = s .store; line = s .line; printed = append-nil (s .printed) i }
+behind-flushed s =
+    λ i. record { done = record { card = s .done .card; store = s .done .store; printed = append-nil (s .done .printed) i }; line = s .line }
 
 -- a run stands at x, with these totals of bytes taken and printed
 pub record Reached (n : ℕ) (x : RunState) (taken printed : ℕ) : Type 0 where
   pub input : List ℕ
-  pub stands : flushed x ≡ flushed (keptOf (takesAll (startState n) input))
+  pub stands : flushed x ≡ flushed (keptOf (takesAll enters (startState n) input))
   pub bytes : length input ≡ taken
-  pub prints : length (takesAll (startState n) input .printed) ≡ printed
+  pub prints : length (takesAll enters (startState n) input .done .printed) ≡ printed
 
 pub reached-start : (n : ℕ) (r : Run) (line out : List ℕ) → r .card ≡ freshOf n → r .len ≡ 0 → r .taken ≡ 0 → r .printed ≡ 0
     → Reached n (runStateOf r (replicate (recordLength n configWidth) 0) line out) (r .taken) (r .printed)
@@ -54,35 +56,35 @@ unfolding takesAll startState
 reached-start n r line out card len taken printed =
     record {
       input = [];
-      stands = λ i. record { card = card i; store = replicate (recordLength n configWidth) 0; line = take (len i) line; printed = [] };
+      stands = λ i. record { done = record { card = card i; store = replicate (recordLength n configWidth) 0; printed = [] }; line = take (len i) line };
       bytes = sym taken;
       prints = sym printed;
     }
 
-pub reached-turn : (n : ℕ) (x y : RunState) (bs : List ℕ) (t p t′ p′ : ℕ) → Reached n x t p → y ≡ keptOf (takesAll (flushed x) bs) → t′ ≡ t + length bs
-    → p′ ≡ p + length (y .printed) → Reached n y t′ p′
+pub reached-turn : (n : ℕ) (x y : RunState) (bs : List ℕ) (t p t′ p′ : ℕ) → Reached n x t p → y ≡ keptOf (takesAll enters (flushed x) bs) → t′ ≡ t + length bs
+    → p′ ≡ p + length (y .done .printed) → Reached n y t′ p′
 unfolding behind
 reached-turn n x y bs t p t′ p′ r e et ep =
     record {
       input = r .input ++ bs;
       stands = sym (ap flushed whole);
       bytes = length-append (r .input) bs ∙ ap (λ (n : ℕ). n + length bs) (r .bytes) ∙ sym et;
-      prints = ap (λ (s : RunState). length (s .printed)) whole ∙ length-append old (y .printed) ∙ ap (λ (n : ℕ). n + length (y .printed)) (r .prints) ∙ sym ep;
+      prints = ap (λ (s : RunState). length (s .done .printed)) whole ∙ length-append old (y .done .printed) ∙ ap (λ (n : ℕ). n + length (y .done .printed)) (r .prints) ∙ sym ep;
     }
   where
     before : RunState
-    before = keptOf (takesAll (startState n) (r .input))
+    before = keptOf (takesAll enters (startState n) (r .input))
 
     old : List ℕ
-    old = before .printed
+    old = before .done .printed
 
     -- the whole input brings the run to y, behind what was printed before
-    whole : keptOf (takesAll (startState n) (r .input ++ bs)) ≡ behind old y
+    whole : keptOf (takesAll enters (startState n) (r .input ++ bs)) ≡ behind old y
     whole =
-        sym (block-by-block (startState n) (r .input) bs)
-        ∙ ap (λ (s : RunState). keptOf (takesAll s bs)) (sym (behind-flushed before))
+        sym (run-by-block (startState n) (r .input) bs)
+        ∙ ap (λ (s : RunState). keptOf (takesAll enters s bs)) (sym (behind-flushed before))
         ∙ ap keptOf (takes-behind old (flushed before) bs)
-        ∙ ap (λ (s : RunState). behind old (keptOf (takesAll s bs))) (sym (r .stands))
+        ∙ ap (λ (s : RunState). behind old (keptOf (takesAll enters s bs))) (sym (r .stands))
         ∙ ap (behind old) (sym e)
 
 -- ---- between two turns
@@ -108,7 +110,7 @@ module _ {n : ℕ} {r : Run} {store line out : List ℕ} (u : Underway n r store
         x .input,
         record {
           taken = x .bytes;
-          card = ap (λ (s : RunState). s .card) (x .stands);
+          card = ap (λ (s : RunState). s .done .card) (x .stands);
           len = sym (length-take-le (r .len) line fits) ∙ ap (λ (s : RunState). length (s .line)) (x .stands);
           printed = sym (x .prints);
         },
@@ -129,16 +131,16 @@ module _ {n : ℕ} {r : Run} {store line out : List ℕ} (u : Underway n r store
 -- a run from the start, over all of its input, where its lines stop
 pub ran-over : (n : ℕ) (c : Card) (q : Lines) (input before after store : List ℕ) → c ≡ freshOf n
     → standing q input store after
-    ≡ takesAll (stateOf (record { card = c; len = 0; used = 0 }) (replicate (recordLength n configWidth) 0) input before) (part 0 (q .end) input)
+    ≡ takesAll enters (stateOf (record { card = c; len = 0; used = 0 }) (replicate (recordLength n configWidth) 0) input before) (part 0 (q .end) input)
     → Stopped (record { card = c; len = 0; used = 0 }) q (length input) input before after
     → RanOver n (record { card = q .card; taken = q .end; printed = q .used }) input before after
 unfolding startState
 ran-over n c q input before after store fresh e s =
     record {
       within = s .within;
-      card = ap (λ (x : RunState). x .card) whole;
-      output = sym (take-append-drop (q .used) after) ∙ (λ i. whole i .printed ++ s .beyond i);
-      printed = sym (length-take-le (q .used) after fits) ∙ ap (λ (x : RunState). length (x .printed)) whole;
+      card = ap (λ (x : RunState). x .done .card) whole;
+      output = sym (take-append-drop (q .used) after) ∙ (λ i. whole i .done .printed ++ s .beyond i);
+      printed = sym (length-take-le (q .used) after fits) ∙ ap (λ (x : RunState). length (x .done .printed)) whole;
       few = omega (arith, s .few, s .order);
       stops = λ h. (s .at-lf h, s .no-room h);
     }
@@ -149,10 +151,12 @@ ran-over n c q input before after store fresh e s =
     fits : q .used ≤ length after
     fits = omega (arith, s .fits, s .size)
 
-    whole : standing q input store after ≡ takesAll (startState n) (take (q .end) input)
+    whole : standing q input store after ≡ takesAll enters (startState n) (take (q .end) input)
     whole =
         e
-        ∙ (λ i. takesAll (record { card = fresh i; store = replicate (recordLength n configWidth) 0; line = []; printed = [] }) (take (all i) input))
+        ∙ (λ i.
+        takesAll enters (record { done = record { card = fresh i; store = replicate (recordLength n configWidth) 0; printed = [] }; line = [] })
+        (take (all i) input))
 
 -- with room for all that it can print, it takes all
 pub over-all : (n : ℕ) (r : Over) (input before after : List ℕ) → RanOver n r input before after → longestPrint * length input ≤ length before

@@ -5,48 +5,42 @@
 // can print fits the output. So a turn is one read, all its bytes taken and all that they printed
 // handed to one write, and nothing printed waits for the next turn.
 //
-// What bytes of input do is a definition, `takesAll`. `take_lines` does it for bytes that lie in
-// memory, and two calls are made of it. `run_over` is a run over lent bytes, and its contract says
-// all that it does. `run_from` is the loop of plrun, which reads and writes: `turn` gives the bytes
-// of one read to `take_lines` and hands what they printed to one write. The calls that read and
-// write stand in `read_at` and `write_front`; no contract can say which bytes come there, and what
-// becomes of those that are handed over. `print_from` is the run of plprint: nothing that the lines
-// print is written, and at the end the card's wiring is.
+// What bytes of input do is a definition, `takesAll` of the crate `input`, with the step `enters`.
+// `take_lines` does it for bytes that lie in memory, and two calls are made of it. `run_over` is a
+// run over lent bytes, and its contract says all that it does. `run_from` is the loop of plrun,
+// which reads and writes: `turn` gives the bytes of one read to `take_lines` and hands what they
+// printed to one write. The calls that read stand in `input`, the one that writes in `write_front`;
+// no contract can say which bytes come there, and what becomes of those that are handed over.
+// `print_from` is the run of plprint: it writes nothing that the lines print, and at the end it
+// writes the card's wiring.
 ghost use mathlib.Core.Bool.{true, _&&_};
 ghost use mathlib.Core.List.{List, _++_};
 ghost use mathlib.Core.Path.{_≡_};
-ghost use Prim.Native.Nat.{ℕ, _≤_, _<_, _+_, _-_, _*_, min};
+ghost use Prim.Native.Nat.{ℕ, _≤_, _<_, _+_, _-_, _*_};
 ghost use lib.Dec.{ltb};
-ghost use lib.ListN.{length, take, drop, getD};
+ghost use lib.ListN.{length, take, drop};
 ghost use Rattle.card.specs.Address.{cellCount, cellsFor};
 ghost use Rattle.card.specs.Fresh.{fresh};
 ghost use Rattle.console.specs.Console.{longestPrint, entered};
-ghost use Rattle.runner.specs.Run.{part, takesAll, kept, cut, keptOf, flushed, standing, Stopped, RanOver, blockLength, outputLength, mostReads, stateOf, runStateOf, Counted, Ran, Wired, WiringSize};
+ghost use Rattle.input.specs.Lines.{takesAll, part, kept, blockLength, mostReads};
+ghost use Rattle.runner.specs.Run.{enters, keptOf, flushed, standing, Stopped, RanOver, outputLength, stateOf, runStateOf, Counted, Ran, Wired, WiringSize};
 use card::card::Card;
+use console::LONGEST_PRINT;
+use input::BLOCK;
+use input::BUFFER;
+use input::LINE;
+use input::READS;
+use input::keep;
+use input::line_end;
+use input::read_behind;
 use printed::parts::TEXT_MOST;
-
-// `blockLength`: of a block of input.
-const BLOCK: usize = 2048;
-
-// `kept`: more than the 80 bytes of the longest line, so that a longer one, cut to this, is still
-// too long.
-const LINE: usize = 96;
-
-// A line that has not ended, and behind it a block.
-const BUFFER: usize = LINE + BLOCK;
+use saved::record::RECORD_LENGTH;
 
 // "The program's store starts as 308 zeros."
-const STORE: usize = 308;
-
-// `longestPrint`: no line prints more.
-const ROOM: usize = 36;
+pub const STORE: usize = RECORD_LENGTH;
 
 // `outputLength`: each byte of a block ends one line at most.
-const OUTPUT: usize = ROOM * BLOCK;
-
-// `mostReads`: a proved loop has to end, and nothing says that the input does. At a microsecond a
-// read these last for more than four years.
-const READS: u64 = 1 << 47;
+const OUTPUT: usize = LONGEST_PRINT * BLOCK;
 
 // The output of a run of which nothing is written.
 pub const QUIET: i32 = -1;
@@ -102,43 +96,6 @@ pub struct Written {
     pub wrote: bool,
 }
 
-fn least(a: usize, b: usize) -> usize
-    ensures { λ r. ⌜ r ≡ min a b ⌝ }
-    ensures { λ r. ⌜ r ≤ a ⌝ }
-    ensures { λ r. ⌜ r ≤ b ⌝ }
-{
-    if a < b { a } else { b }
-}
-
-// The index of the first LF of a block's n bytes at or after `at`, or n.
-fn line_end(block: &[u8], at: usize, n: usize) -> usize
-    requires { ⌜ at ≤ n ⌝ }
-    requires { ⌜ n ≤ length (now block) ⌝ }
-    ensures { λ r. ⌜ at ≤ r ⌝ }
-    ensures { λ r. ⌜ r ≤ n ⌝ }
-    ensures { λ r. ⌜ ((k : ℕ) → k < r → at ≤ k → getD (now (block .entry)) k 0 ≡ 10 → ⊥) ⌝ }
-    ensures { λ r. ⌜ (r < n → getD (now (block .entry)) r 0 ≡ 10) ⌝ }
-{
-    let mut i = at;
-    while i < n {
-        if block[i] == b'\n' {
-            return i;
-        }
-        i += 1;
-    }
-    i
-}
-
-// What is kept of a line that has not ended: its first bytes, as many as there is room for.
-fn keep(line: &mut [u8; LINE], text: &[u8]) -> usize
-    ensures { λ r. ⌜ take r (now (line .exit)) ≡ cut (now (text .entry)) ⌝ }
-    ensures { λ r. ⌜ r ≤ kept ⌝ }
-    ensures { λ r. ⌜ length (now (line .exit)) ≡ kept ⌝ }
-{
-    let n = least(text.len(), LINE);
-    text::copy(line, 0, &text[0..n])
-}
-
 // A line has ended: it is entered, and what it prints goes behind what is printed already.
 fn enter(state: State, text: &[u8], store: &mut [u8], out: &mut [u8]) -> State
     requires { ⌜ state .used + longestPrint ≤ length (now out) ⌝ }
@@ -166,13 +123,13 @@ fn take_lines(state: State, block: &[u8], n: usize, store: &mut [u8], out: &mut 
     requires { ⌜ state .len ≤ n ⌝ }
     requires { ⌜ n ≤ length (now block) ⌝ }
     requires { ⌜ state .used ≤ length (now out) ⌝ }
-    ensures { λ r. ⌜ standing r (now (block .entry)) (now (store .exit)) (now (out .exit)) ≡ takesAll (stateOf state (now (store .entry)) (now (block .entry)) (now (out .entry))) (part (state .len) (r .end) (now (block .entry))) ⌝ }
+    ensures { λ r. ⌜ standing r (now (block .entry)) (now (store .exit)) (now (out .exit)) ≡ takesAll enters (stateOf state (now (store .entry)) (now (block .entry)) (now (out .entry))) (part (state .len) (r .end) (now (block .entry))) ⌝ }
     ensures { λ r. ⌜ Stopped state r n (now (block .entry)) (now (out .entry)) (now (out .exit)) ⌝ }
 {
     let mut s = state;
     let mut start: usize = 0;
     let mut end = line_end(block, state.len, n);
-    while end < n && ROOM <= out.len() - s.used {
+    while end < n && LONGEST_PRINT <= out.len() - s.used {
         s = enter(s, &block[start..end], store, out);
         start = end + 1;
         end = line_end(block, start, n);
@@ -198,7 +155,7 @@ fn take_block(
     requires { ⌜ state .len ≤ n ⌝ }
     requires { ⌜ n ≤ length (now block) ⌝ }
     requires { ⌜ state .used + longestPrint * (n - state .len) ≤ outputLength ⌝ }
-    ensures { λ r. ⌜ stateOf r (now (store .exit)) (now (line .exit)) (now (out .exit)) ≡ keptOf (takesAll (stateOf state (now (store .entry)) (now (block .entry)) (now (out .entry))) (part (state .len) n (now (block .entry)))) ⌝ }
+    ensures { λ r. ⌜ stateOf r (now (store .exit)) (now (line .exit)) (now (out .exit)) ≡ keptOf (takesAll enters (stateOf state (now (store .entry)) (now (block .entry)) (now (out .entry))) (part (state .len) n (now (block .entry)))) ⌝ }
     ensures { λ r. ⌜ r .len ≤ kept ⌝ }
     ensures { λ r. ⌜ length (now (line .exit)) ≡ kept ⌝ }
     ensures { λ r. ⌜ r .used ≤ state .used + longestPrint * (n - state .len) ⌝ }
@@ -233,28 +190,6 @@ pub fn run_over(input: &[u8], output: &mut [u8]) -> Over
         taken: lines.end,
         printed: lines.used,
     }
-}
-
-// One read, to a place of a block. Where it fails, it gives no bytes.
-fn read_at(input: i32, block: &mut [u8], at: usize) -> usize
-    requires { ⌜ at + blockLength ≤ length (now block) ⌝ }
-    ensures { λ r. ⌜ r ≤ blockLength ⌝ }
-    ensures { λ r. ⌜ take at (now (block .exit)) ≡ take at (now (block .entry)) ⌝ }
-{
-    let part = &mut block[at..at + BLOCK];
-    let got = libc::read(input, part);
-    io::count(got, part)
-}
-
-// One read, behind the first `len` bytes of a line.
-fn read_behind(input: i32, block: &mut [u8], line: &[u8], len: usize) -> usize
-    requires { ⌜ len ≤ length (now line) ⌝ }
-    requires { ⌜ len + blockLength ≤ length (now block) ⌝ }
-    ensures { λ r. ⌜ r ≤ blockLength ⌝ }
-    ensures { λ r. ⌜ take len (now (block .exit)) ≡ take len (now (line .entry)) ⌝ }
-{
-    text::copy(block, 0, &line[0..len]);
-    read_at(input, block, len)
 }
 
 // One write, of the first `used` bytes; in a quiet run none.
@@ -292,7 +227,7 @@ fn turn(
     requires { ⌜ 0 < run .left ⌝ }
     requires { ⌜ Counted run ⌝ }
     ensures { λ r. ⌜ r .got ≤ blockLength ⌝ }
-    ensures { λ r. ⌜ runStateOf r (now (store .exit)) (now (line .exit)) (now (out .exit)) ≡ keptOf (takesAll (flushed (runStateOf run (now (store .entry)) (now (line .entry)) (now (out .entry)))) (part (run .len) (run .len + r .got) (now (block .exit)))) ⌝ }
+    ensures { λ r. ⌜ runStateOf r (now (store .exit)) (now (line .exit)) (now (out .exit)) ≡ keptOf (takesAll enters (flushed (runStateOf run (now (store .entry)) (now (line .entry)) (now (out .entry)))) (part (run .len) (run .len + r .got) (now (block .exit)))) ⌝ }
     ensures { λ r. ⌜ r .going ≡ (ltb 0 (r .got) && r .wrote) ⌝ }
     ensures { λ r. ⌜ r .len ≤ kept ⌝ }
     ensures { λ r. ⌜ length (now (line .exit)) ≡ kept ⌝ }

@@ -15,16 +15,18 @@ use Rattle.cells.specs.declared.cell.Cell.{Cell}
 use Rattle.cells.specs.State.{stateOf, cellOf}
 use Rattle.cells.specs.Table.{largestConfig, constantType, largestConstant}
 use Rattle.cells.proofs.Laws.{constant-largest}
-use Rattle.words.proofs.Bools.{and-right}
+use Rattle.words.proofs.Bools.{and-right, and-both}
 use Rattle.card.specs.declared.card.Card.{Card}
 use Rattle.card.specs.declared.card.Connector.{Connector}
 use Rattle.card.specs.Address.{cellRoom, connectorCount}
-use Rattle.card.specs.Connectors.{noConnector}
+use Rattle.card.specs.Connectors.{each, noConnector, fromEach, wellFormed}
 use Rattle.card.specs.Fresh.{clearState, noCell}
-use Rattle.card.specs.Valid.{validCell, valid, validCard}
+use Rattle.card.specs.Valid.{validCell, validConnector, valid, validCard}
 use Rattle.card.specs.Edits.{clearedCell}
 use Rattle.card.proofs.Settings.{every-at, Sound, split, cell-slots, cell-config, config-most, valid-cleared, valid-first}
+use Rattle.card.proofs.ConnectorLaws.{Known, each-from, from-formed, from-each}
 use Rattle.card.proofs.Slots.{four}
+use Rattle.card.proofs.ValidLaws.{formed, kind-good, settings-valid}
 use Rattle.saved.specs.Record.{bigEndian, bigValue, triggerField, cellField, connectorField, fieldsFrom, encode, configWidth, triggerLength, cellLength}
 use Rattle.saved.specs.Record.{connectorLength, recordLength, triggerIn, cellIn, connectorIn, cellsIn, connectorsIn, recordOf, sameBytes, loadNumberAs}
 use Rattle.saved.specs.Record.{normalConfig, normalCell, loadCells, normalRecord, SmallConstants, poweredUp, loadedAs}
@@ -266,7 +268,7 @@ valid-from n width bytes cells rest e =
     (ap (take n) e ∙ cells-taken n width bytes rest ∙ sym (cells-all n width bytes))
 
 pub loaded-from : (n width : ℕ) (d : Card) (bytes : List ℕ) (cells : List Cell) → cells ≡ loadCells n width bytes ++ drop n (d .cells)
-    → loadNumberAs n width bytes ≡ 0 → loadedAs n width d bytes ≡ poweredUp n (d .size) (triggerIn bytes) cells (connectorsIn n width bytes)
+    → loadNumberAs n width bytes ≡ 0 → loadedAs n width d bytes ≡ poweredUp n (d .size) (triggerIn bytes) cells (fromEach (connectorsIn n width bytes))
 unfolding loadedAs
 loaded-from n width d bytes cells ec e = rw (e, ec)
 
@@ -339,11 +341,26 @@ module _ (n width : ℕ) (bytes : List ℕ) (ok : loadNumberAs n width bytes ≡
       rw (listed-at (λ k. normalCell (cellIn width bytes k)) n i noCell inside)
       (lt-of-le-of-lt (normal-most (cell .kind) (cell .config)) (read-under i inside))
 
+-- the connectors of an accepted record are of known types, so that a card holds them as they are
+module _ (n width : ℕ) (bytes : List ℕ) (ok : loadNumberAs n width bytes ≡ 0) where
+  known-in : Known (connectorsIn n width bytes)
+  known-in k h =
+      let connectors = connectorsIn n width bytes in
+      let s = split n (triggerIn bytes) (loadCells n width bytes) connectors (tests n width bytes ok .1) in
+      kind-good n (getD connectors k noConnector)
+      (every-at (validConnector n) connectors k noConnector (s .connectors-pass) (omega (arith, s .connector-count, h)))
+
+  pub each-in : each (fromEach (connectorsIn n width bytes)) ≡ connectorsIn n width bytes
+  each-in = each-from (connectorsIn n width bytes) (length-listed (connectorIn n width bytes) connectorCount) known-in
+
+  pub formed-in : wellFormed (fromEach (connectorsIn n width bytes)) ≡ true
+  formed-in = from-formed (connectorsIn n width bytes) (length-listed (connectorIn n width bytes) connectorCount) known-in
+
 module _ (n width : ℕ) (d : Card) (bytes : List ℕ) (ok : loadNumberAs n width bytes ≡ 0) where
   cells : List Cell
   cells = loadCells n width bytes ++ drop n (d .cells)
 
-  powered : loadedAs n width d bytes ≡ poweredUp n (d .size) (triggerIn bytes) cells (connectorsIn n width bytes)
+  powered : loadedAs n width d bytes ≡ poweredUp n (d .size) (triggerIn bytes) cells (fromEach (connectorsIn n width bytes))
   unfolding cells
   powered = loaded-from n width d bytes cells refl ok
 
@@ -351,38 +368,39 @@ module _ (n width : ℕ) (d : Card) (bytes : List ℕ) (ok : loadNumberAs n widt
   pub save-load-as : (to : ℕ) → recordOf n to (loadedAs n width d bytes) ≡ normalRecord n width to bytes
   unfolding recordOf normalRecord cells
   save-load-as to =
-      ap (recordOf n to) powered
+      ap (recordOf n to) powered ∙ ap (encode to (triggerIn bytes) (take n cells)) (each-in n width bytes ok)
       ∙ ap (λ (l : List Cell). encode to (triggerIn bytes) l (connectorsIn n width bytes)) (cells-taken n width bytes (drop n (d .cells)))
 
   -- its settings are valid
   pub loaded-valid-as : validCard n (loadedAs n width d bytes) ≡ true
   unfolding validCard cells
   loaded-valid-as =
-      ap (validCard n) powered ∙ valid-from n width bytes cells (drop n (d .cells)) refl ∙ tests n width bytes ok .1
+      ap (validCard n) powered
+      ∙ and-both (wellFormed (fromEach (connectorsIn n width bytes))) _ (formed-in n width bytes ok)
+      (rw (each-in n width bytes ok) (valid-from n width bytes cells (drop n (d .cells)) refl ∙ tests n width bytes ok .1))
 
 -- ---- a save and a load
 
 -- the record of a valid card is accepted in a form that takes its configurations, and gives its settings
 module _ (n width : ℕ) (c : Card) (ok : validCard n c ≡ true) (fit : Fit width (take n (c .cells))) where
-  settings : valid n (c .trigger) (c .cells) (c .connectors) ≡ true
-  unfolding validCard
-  settings = ok
+  settings : valid n (c .trigger) (c .cells) (each (c .connectors)) ≡ true
+  settings = settings-valid n c ok
 
   count : length (take n (c .cells)) ≡ n
-  count = cell-count n (c .trigger) (c .cells) (c .connectors) settings
+  count = cell-count n (c .trigger) (c .cells) (each (c .connectors)) settings
 
   slots : FourSlots (take n (c .cells))
-  slots = four-slots n (c .trigger) (c .cells) (c .connectors) settings
+  slots = four-slots n (c .trigger) (c .cells) (each (c .connectors)) settings
 
   cells-back : cellsIn n width (recordOf n width c) ≡ map clearedCell (take n (c .cells))
   unfolding recordOf
-  cells-back = rw count at (cells-read width (c .trigger) (take n (c .cells)) (c .connectors) slots fit)
+  cells-back = rw count at (cells-read width (c .trigger) (take n (c .cells)) (each (c .connectors)) slots fit)
 
-  pub connectors-back : connectorsIn n width (recordOf n width c) ≡ c .connectors
+  pub connectors-back : connectorsIn n width (recordOf n width c) ≡ each (c .connectors)
   unfolding recordOf
   connectors-back =
-      let others = connector-count n (c .trigger) (c .cells) (c .connectors) settings in
-      rw count at (connectors-read width (c .trigger) (take n (c .cells)) (c .connectors) slots fit others)
+      let others = connector-count n (c .trigger) (c .cells) (each (c .connectors)) settings in
+      rw count at (connectors-read width (c .trigger) (take n (c .cells)) (each (c .connectors)) slots fit others)
 
   pub trigger-back : triggerIn (recordOf n width c) ≡ c .trigger
   unfolding recordOf encode
@@ -396,7 +414,7 @@ module _ (n width : ℕ) (c : Card) (ok : validCard n c ≡ true) (fit : Fit wid
       let read : cellIn width (recordOf n width c) i ≡ clearedCell cell =
       sym (listed-at (cellIn width (recordOf n width c)) n i noCell h)
       ∙ ap (λ (l : List Cell). getD l i noCell) cells-back ∙ List·getD-map clearedCell (take n (c .cells)) i noCell in
-      let most = config-most n cell (first-valid n (c .trigger) (c .cells) (c .connectors) settings i inside) in
+      let most = config-most n cell (first-valid n (c .trigger) (c .cells) (each (c .connectors)) settings i inside) in
       let kind : cell .kind ≡ constantType = sym (ap (λ (x : Cell). x .kind) read) ∙ k in
       rw read (rw (kind, constant-largest) at most)
 
@@ -413,15 +431,16 @@ module _ (n width : ℕ) (c : Card) (ok : validCard n c ≡ true) (fit : Fit wid
         cells-back,
         loads-back,
         connectors-back,
-        encode-cleared width (c .trigger) (take n (c .cells)) (c .connectors),
+        encode-cleared width (c .trigger) (take n (c .cells)) (each (c .connectors)),
         same-refl (recordOf n width c),
-        valid-cleared n (c .trigger) cells (c .cells) (c .connectors) all,
+        valid-cleared n (c .trigger) cells (c .cells) (each (c .connectors)) all,
         settings,
       )
 
   pub load-save-as : (d : Card) → loadedAs n width d (recordOf n width c)
       ≡ poweredUp n (d .size) (c .trigger) (map clearedCell (take n (c .cells)) ++ drop n (d .cells)) (c .connectors)
   load-save-as d =
+      let row = ap fromEach connectors-back ∙ from-each (c .connectors) (formed n c ok) in
       loaded-from n width d (recordOf n width c) (map clearedCell (take n (c .cells)) ++ drop n (d .cells))
       (ap (λ (l : List Cell). l ++ drop n (d .cells)) (sym loads-back)) load-accepts-as
-      ∙ (λ k. poweredUp n (d .size) (trigger-back k) (map clearedCell (take n (c .cells)) ++ drop n (d .cells)) (connectors-back k))
+      ∙ (λ k. poweredUp n (d .size) (trigger-back k) (map clearedCell (take n (c .cells)) ++ drop n (d .cells)) (row k))

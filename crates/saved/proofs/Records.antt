@@ -16,31 +16,34 @@ use Rattle.cells.specs.declared.cell.Cell.{Cell}
 use Rattle.cells.specs.Table.{largestConfig}
 use Rattle.card.specs.declared.card.Card.{Card}
 use Rattle.card.specs.declared.card.Connector.{Connector}
-use Rattle.card.specs.Address.{cellCount, connectorCount}
+use Rattle.card.specs.Address.{cellCount}
+use Rattle.card.specs.Connectors.{each, fromEach, wellFormed}
 use Rattle.card.specs.Valid.{validCard}
+use Rattle.card.proofs.ConnectorLaws.{length-each}
+use Rattle.card.proofs.ValidLaws.{settings-valid}
+use Rattle.words.proofs.Bools.{and-both}
 use Rattle.card.specs.Edits.{clearedCell}
 use Rattle.saved.specs.Record.{fieldsFrom, encode, configWidth, narrowWidth, recordLength, triggerIn, cellIn, connectorIn, connectorsIn, recordOf}
 use Rattle.saved.specs.Record.{normalCell, loadCells, poweredUp, loadNumberAs, loadedAs, widthOf, loadNumber, loaded, normalRecord}
 use Rattle.saved.specs.Record.{SmallConstants, savedTo}
-use Rattle.saved.proofs.Forms.{FourSlots, Fit, encode-length, cell-count, four-slots, connector-count, all-fit, cells-all, loaded-from}
+use Rattle.saved.proofs.Forms.{FourSlots, Fit, encode-length, cell-count, four-slots, all-fit, cells-all, loaded-from}
 use Rattle.saved.proofs.Forms.{load-refused-as, wrong-length, tests, normal-same, save-load-as}
 use Rattle.saved.proofs.Forms.{loaded-valid-as, trigger-back, connectors-back, loads-back}
-use Rattle.saved.proofs.Forms.{load-accepts-as, load-save-as}
+use Rattle.saved.proofs.Forms.{load-accepts-as, load-save-as, each-in, formed-in}
 
 -- ---- saves
 
 -- the length of a record, of a card with cells of four slots and of a valid one
-pub record-length : (n width : ℕ) (c : Card) → length (take n (c .cells)) ≡ n → FourSlots (take n (c .cells)) → length (c .connectors) ≡ connectorCount
-    → length (recordOf n width c) ≡ recordLength n width
+pub record-length : (n width : ℕ) (c : Card) → length (take n (c .cells)) ≡ n → FourSlots (take n (c .cells)) → length (recordOf n width c) ≡ recordLength n width
 unfolding recordOf
-record-length n width c count slots others =
-    rw (count, others) at (encode-length width (c .trigger) (take n (c .cells)) (c .connectors) slots)
+record-length n width c count slots =
+    rw (count, length-each (c .connectors)) at (encode-length width (c .trigger) (take n (c .cells)) (each (c .connectors)) slots)
 
 pub valid-length : (n width : ℕ) (c : Card) → validCard n c ≡ true → length (recordOf n width c) ≡ recordLength n width
-unfolding validCard
 valid-length n width c ok =
-    record-length n width c (cell-count n (c .trigger) (c .cells) (c .connectors) ok) (four-slots n (c .trigger) (c .cells) (c .connectors) ok)
-    (connector-count n (c .trigger) (c .cells) (c .connectors) ok)
+    let settings = settings-valid n c ok in
+    record-length n width c (cell-count n (c .trigger) (c .cells) (each (c .connectors)) settings)
+    (four-slots n (c .trigger) (c .cells) (each (c .connectors)) settings)
 
 -- a store that has room holds the record at its front after a save, and beyond it what it held
 pub saved-front : (n width : ℕ) (c : Card) (store : List ℕ) → validCard n c ≡ true → recordLength n width ≤ length store
@@ -97,7 +100,7 @@ loaded-wide (suc m) d bytes e = ap (λ (w : ℕ). loadedAs (suc m) w d bytes) (w
 -- by its number a load powers the card up or leaves it
 pub loaded-by : (n : ℕ) (d : Card) (bytes : List ℕ) → let from = widthOf n bytes in
     loaded n d bytes
-    ≡ cond (eqb (loadNumber n bytes) 0) (poweredUp n (d .size) (triggerIn bytes) (loadCells n from bytes ++ drop n (d .cells)) (connectorsIn n from bytes)) d
+    ≡ cond (eqb (loadNumber n bytes) 0) (poweredUp n (d .size) (triggerIn bytes) (loadCells n from bytes ++ drop n (d .cells)) (fromEach (connectorsIn n from bytes))) d
 unfolding loadNumber loaded loadedAs
 loaded-by n d bytes = refl
 
@@ -108,7 +111,7 @@ load-refused n d bytes e = load-refused-as n (widthOf n bytes) d bytes e
 module _ (n : ℕ) (d : Card) (bytes : List ℕ) (ok : loadNumber n bytes ≡ 0) where
   -- an accepted one powers up with the settings that stand in the bytes
   pub load-powers : let from = widthOf n bytes in
-      loaded n d bytes ≡ poweredUp n (d .size) (triggerIn bytes) (loadCells n from bytes ++ drop n (d .cells)) (connectorsIn n from bytes)
+      loaded n d bytes ≡ poweredUp n (d .size) (triggerIn bytes) (loadCells n from bytes ++ drop n (d .cells)) (fromEach (connectorsIn n from bytes))
   unfolding loadNumber loaded
   load-powers = loaded-from n (widthOf n bytes) d bytes _ refl ok
 
@@ -140,8 +143,7 @@ module _ (n : ℕ) (d : Card) (bytes : List ℕ) (ok : loadNumber n bytes ≡ 0)
 -- the record of a valid card is accepted, and gives its settings
 module _ (n : ℕ) (c : Card) (ok : validCard n c ≡ true) where
   fit : Fit configWidth (take n (c .cells))
-  unfolding validCard
-  fit = all-fit n (c .trigger) (c .cells) (c .connectors) ok configWidth config-fits
+  fit = all-fit n (c .trigger) (c .cells) (each (c .connectors)) (settings-valid n c ok) configWidth config-fits
 
   pub load-accepts : loadNumber n (recordOf n configWidth c) ≡ 0
   load-accepts = number-wide n (recordOf n configWidth c) (valid-length n configWidth c ok) ∙ load-accepts-as n configWidth c ok fit
@@ -152,9 +154,8 @@ module _ (n : ℕ) (c : Card) (ok : validCard n c ≡ true) where
 
   -- the cells that a load gives have the settings of c
   pub cleared-taken : (rest : List Cell) → take n (map clearedCell (take n (c .cells)) ++ rest) ≡ map clearedCell (take n (c .cells))
-  unfolding validCard
   cleared-taken rest =
-      let count = cell-count n (c .trigger) (c .cells) (c .connectors) ok in
+      let count = cell-count n (c .trigger) (c .cells) (each (c .connectors)) (settings-valid n c ok) in
       take-at (map clearedCell (take n (c .cells))) rest n (length-map (take n (c .cells)) clearedCell ∙ count)
 
 -- valid cards with one record have the same settings
@@ -178,11 +179,12 @@ cleared-listed f (suc n) h =
 -- one that is accepted in the form `from`, with configurations that fit in the form `to`, written in that
 module _ (n from to : ℕ) (bytes : List ℕ) (ok : loadNumberAs n from bytes ≡ 0) (fit : Fit to (loadCells n from bytes)) where
   card : Card
-  card = poweredUp n n (triggerIn bytes) (loadCells n from bytes) (connectorsIn n from bytes)
+  card = poweredUp n n (triggerIn bytes) (loadCells n from bytes) (fromEach (connectorsIn n from bytes))
 
   card-valid : validCard n card ≡ true
   unfolding card validCard
-  card-valid = tests n from bytes ok .1
+  card-valid =
+      and-both (wellFormed (fromEach (connectorsIn n from bytes))) _ (formed-in n from bytes ok) (rw (each-in n from bytes ok) (tests n from bytes ok .1))
 
   taken : take n (card .cells) ≡ loadCells n from bytes
   unfolding card
@@ -193,7 +195,7 @@ module _ (n from to : ℕ) (bytes : List ℕ) (ok : loadNumberAs n from bytes �
 
   is-record : recordOf n to card ≡ normalRecord n from to bytes
   unfolding card recordOf normalRecord
-  is-record = ap (λ (l : List Cell). encode to (triggerIn bytes) l (connectorsIn n from bytes)) taken
+  is-record = ap₂ (encode to (triggerIn bytes)) taken (each-in n from bytes ok)
 
   -- it has the length of that form, and is accepted in it
   pub rewritten-length : length (normalRecord n from to bytes) ≡ recordLength n to
@@ -217,14 +219,14 @@ module _ (n from to : ℕ) (bytes : List ℕ) (ok : loadNumberAs n from bytes �
 
   pub rewritten-connectors : connectorsIn n to (normalRecord n from to bytes) ≡ connectorsIn n from bytes
   unfolding card
-  rewritten-connectors = ap (connectorsIn n to) (sym is-record) ∙ connectors-back n to card card-valid fits
+  rewritten-connectors = ap (connectorsIn n to) (sym is-record) ∙ connectors-back n to card card-valid fits ∙ each-in n from bytes ok
 
   -- so a load of it gives the same card, and written in any form it is the same again
   pub rewritten-loaded : (d : Card) → loadedAs n to d (normalRecord n from to bytes) ≡ loadedAs n from d bytes
   rewritten-loaded d =
       loaded-from n to d (normalRecord n from to bytes) (loadCells n from bytes ++ drop n (d .cells))
       (ap (λ (l : List Cell). l ++ drop n (d .cells)) (sym rewritten-cells)) rewritten-accepted
-      ∙ ap₂ (λ (t : ℕ) (k : List Connector). poweredUp n (d .size) t (loadCells n from bytes ++ drop n (d .cells)) k) rewritten-trigger rewritten-connectors
+      ∙ ap₂ (λ (t : ℕ) (k : List Connector). poweredUp n (d .size) t (loadCells n from bytes ++ drop n (d .cells)) (fromEach k)) rewritten-trigger rewritten-connectors
       ∙ sym (loaded-from n from d bytes _ refl ok)
 
   pub rewritten-again : (w : ℕ) → normalRecord n to w (normalRecord n from to bytes) ≡ normalRecord n from w bytes

@@ -13,7 +13,9 @@ use Rattle.cells.specs.State.{stateOf, cellOf}
 use Rattle.cells.specs.Table.{constantType, largestConstant}
 use Rattle.card.specs.declared.card.Card.{Card}
 use Rattle.card.specs.declared.card.Connector.{Connector}
+use Rattle.card.specs.declared.card.Connectors.{Connectors}
 use Rattle.card.specs.Address.{cellCount, firstCell, firstConnector, connectorCount}
+use Rattle.card.specs.Connectors.{each, fromEach}
 use Rattle.card.specs.Fresh.{clearState, started}
 use Rattle.card.specs.Valid.{valid}
 
@@ -116,7 +118,7 @@ connectorsIn n width bytes = listed (connectorIn n width bytes) connectorCount
 
 -- the record of a card of n cells
 unfoldable pub recordOf : ℕ → ℕ → Card → List ℕ
-recordOf n width c = encode width (c .trigger) (take n (c .cells)) (c .connectors)
+recordOf n width c = encode width (c .trigger) (take n (c .cells)) (each (c .connectors))
 
 unfoldable pub sameBytes : List ℕ → List ℕ → Bool
 sameBytes [] [] = true
@@ -133,14 +135,14 @@ loadNumberAs n width bytes =
     (cond (valid n (triggerIn bytes) (loadCells n width bytes) (connectorsIn n width bytes)) 0 15) 14
 
 -- "A load is a power-up: fresh, with these settings"; "by HOME and by a load, all are" edited
-abbrev pub poweredUp : ℕ → ℕ → ℕ → List Cell → List Connector → Card
+abbrev pub poweredUp : ℕ → ℕ → ℕ → List Cell → Connectors → Card
 poweredUp n size trigger cells connectors = started size trigger cells connectors (2 ^ n - 1)
 
 -- the card after a load: what stands behind its n cells stays, and a refused load changes nothing
 unfoldable pub loadedAs : ℕ → ℕ → Card → List ℕ → Card
 loadedAs n width c bytes =
     cond (eqb (loadNumberAs n width bytes) 0)
-    (poweredUp n (c .size) (triggerIn bytes) (loadCells n width bytes ++ drop n (c .cells)) (connectorsIn n width bytes)) c
+    (poweredUp n (c .size) (triggerIn bytes) (loadCells n width bytes ++ drop n (c .cells)) (fromEach (connectorsIn n width bytes))) c
 
 -- "The 276-byte record still loads": the form that the length of a record tells. Other lengths than the two are 14 in either form
 abbrev pub widthOf : ℕ → List ℕ → ℕ

@@ -4,10 +4,12 @@ use Prim.Native.Nat.{ℕ, _+_, _*_, _/_, _%_}
 use mathlib.Core.Path.{_≡_, refl}
 use mathlib.Core.List.{List, [], _∷_, _++_, map}
 use lib.ListN.{length, set, take, drop, replicate}
+use Rattle.words.specs.Bits.{bitAt, wordOf}
 use Rattle.words.specs.Listed.{listed}
 use Rattle.cells.specs.State.{cellOf}
 use Rattle.cells.specs.Table.{rowOf}
 use Rattle.card.specs.Address.{cellCount, cellRoom}
+use Rattle.card.specs.Connectors.{kindAt, sourceAt, each, fromEach}
 use Rattle.card.specs.Fresh.{clearState, freshOf, fresh}
 use Rattle.card.specs.Context.{configShown}
 use Rattle.card.specs.Edits.{withPointer}
@@ -242,7 +244,7 @@ table =
     ∷ []
 
 examples : map (λ (e : List ℕ × List ℕ). e .0) table ≡ map (λ (e : List ℕ × List ℕ). e .1) table
-unfolding whole part oldCell old changed saved pointerAfter cellRead connectorRead load with constantRead configShown listed rowOf fresh permittedBase badClock frontDriven badCellType badConnectorType badAddress validSlot validSlots validCell validConnector every valid bigEndian cellField connectorField fieldsFrom encode bigValue cellIn normalCell connectorIn recordOf sameBytes loadNumberAs loadedAs loadNumber loaded
+unfolding whole part oldCell old changed saved pointerAfter cellRead connectorRead load with constantRead configShown listed rowOf fresh permittedBase badClock frontDriven badCellType badConnectorType badAddress validSlot validSlots validCell validConnector every valid bigEndian cellField connectorField fieldsFrom encode bigValue cellIn normalCell connectorIn bitAt wordOf kindAt sourceAt each fromEach recordOf sameBytes loadNumberAs loadedAs loadNumber loaded
 examples = refl
 
 -- ---- document 02, "Thirty-two cells": "A record has 32 cell fields and 516 bytes, the only length that a 32-cell card loads or saves"
@@ -305,7 +307,7 @@ largeValues =
     ∷ []
 
 large-examples : Agree largeTable
-unfolding whole part oldCell old constantField large oldLarge wired changed load loadLarge withLarge listed rowOf permittedBase badClock frontDriven badCellType badConnectorType badAddress validSlot validSlots validCell validConnector every valid bigEndian cellField connectorField fieldsFrom encode bigValue cellIn normalCell connectorIn recordOf sameBytes loadNumberAs loadedAs loadNumber loaded
+unfolding whole part oldCell old constantField large oldLarge wired changed load loadLarge withLarge listed rowOf permittedBase badClock frontDriven badCellType badConnectorType badAddress validSlot validSlots validCell validConnector every valid bigEndian cellField connectorField fieldsFrom encode bigValue cellIn normalCell connectorIn bitAt wordOf kindAt sourceAt each fromEach recordOf sameBytes loadNumberAs loadedAs loadNumber loaded
 large-examples = refl
 
 length-examples : Agree largeLengths

@@ -16,6 +16,8 @@ ghost use Rattle.saved.specs.Record.{widthOf, loadNumberAs, loadedAs, lo
 use card::card::Card;
 use card::card::Connector;
 use card::card::started;
+use card::connectors::each_of;
+use card::connectors::from_each;
 use card::edits::all_edited;
 use card::limits::CELLS;
 use card::limits::CONNECTORS;
@@ -410,8 +412,9 @@ fn load_as(card: Card, width: usize, bytes: &[u8], n: u8) -> Loaded
     let cells = card.cells;
     let connectors = card.connectors;
     let cells = cells_in(bytes, width, cells, n as usize);
-    let connectors = connectors_in(bytes, width, connectors, n);
-    let next = started(card.size, trigger, cells, connectors, all_edited(n));
+    let connectors = connectors_in(bytes, width, each_of(connectors), n);
+    let routed = from_each(connectors);
+    let next = started(card.size, trigger, cells, routed, all_edited(n));
     if !valid_settings(trigger, cells, connectors, card.size) {
         return Loaded { card: card, k: 15 };
     }
@@ -451,6 +454,6 @@ pub fn save(card: Card, store: &mut [u8]) -> bool
     }
     let cells = card.cells;
     let connectors = card.connectors;
-    encode_to(store, WIDTH, card.trigger, cells, connectors, n);
+    encode_to(store, WIDTH, card.trigger, cells, each_of(connectors), n);
     true
 }

@@ -1,33 +1,34 @@
 -- What one line of input shows, beside what it leaves (`entered` of the console).
-use Prim.Native.Nat.{ℕ, _+_, _*_, _%_, _^_, _≤_}
+use Prim.Native.Nat.{ℕ, _+_, _*_, _%_, _^_}
 use mathlib.Core.Bool.{Bool, true, false, cond}
 use mathlib.Core.List.{List}
 use Rattle.card.specs.declared.card.Card.{Card}
 use Rattle.ticks.specs.declared.tick.Answer.{Answer}
 use Rattle.ticks.specs.declared.tick.Ticked.{Ticked}
 use Rattle.console.specs.Console.{tickLine, ticked}
+use Rattle.input.specs.Lines.{kept, blockLength}
 use Rattle.scope.specs.declared.Shown.{Shown}
+use Rattle.scope.specs.declared.Words.{Words}
 
--- the four words of a tick in one: the levels, then "driven word ..., cell word (bit 0 cell 1), woken set (16 bits)", those of the cells 1 to 16
-abbrev pub wordsIn : ℕ → Answer → ℕ
-wordsIn levels a = levels + a .driven * 2 ^ 16 + (a .cells % 65536) * 2 ^ 32 + (a .woken % 65536) * 2 ^ 48
+-- the words of a tick: the levels, and "driven word ..., cell word (bit 0 cell 1), woken set (16 bits)", those of the cells 1 to 16
+abbrev pub wordsOf : ℕ → Answer → Words
+wordsOf levels a = record { levels = levels; driven = a .driven; cells = a .cells % 65536; woken = a .woken % 65536 }
+
+-- and side by side in one
+abbrev pub packed : Words → ℕ
+packed w = w .levels + w .driven * 2 ^ 16 + w .cells * 2 ^ 32 + w .woken * 2 ^ 48
 
 -- a line that is no tick, and one that is idle, show nothing
 abbrev pub nothing : Shown
-nothing = record { ran = false; word = 0 }
+nothing = record { ran = false; words = record { levels = 0; driven = 0; cells = 0; woken = 0 } }
 
 unfoldable pub shownBy : Ticked → Shown
-shownBy t = cond (t .answer .ran) (record { ran = true; word = wordsIn (t .card .memory .levels) (t .answer) }) nothing
+shownBy t = cond (t .answer .ran) (record { ran = true; words = wordsOf (t .card .memory .levels) (t .answer) }) nothing
 
 -- what a line shows to a card of n cells
 unfoldable pub shownAt : ℕ → Card → List ℕ → Shown
 shownAt n c t = cond (tickLine t .ok) (shownBy (ticked n c t)) nothing
 
--- ---- the input
-
--- the bytes of a block of input, and those kept of a line that has not ended
-abbrev pub blockLength : ℕ
-blockLength = 4096
-
-abbrev pub kept : ℕ
-kept = 96
+-- the bytes of the block that a program lends: a line that has not ended, and a block of input
+abbrev pub bufferLength : ℕ
+bufferLength = kept + blockLength

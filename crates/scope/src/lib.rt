@@ -1,8 +1,8 @@
 // What the ticks of an input show, one after the other, for programs that make pictures of them.
 //
 // `step` is one line of input: it leaves the card and the store that a line of plrun leaves, and gives what a tick showed in place of what it prints.
-// `next` goes on to the next tick that ran. It takes constant memory, whatever the input: a block, the line that has not ended, and the store. No
-// contract can say which bytes are read. `sink` is the way back: what such a program writes.
+// `next` goes on to the next tick that ran. It takes constant memory, whatever the input: what `input::next_line` asks for, and the store. No contract
+// can say which bytes are read. `sink` is the way back: what such a program writes.
 pub mod sink;
 
 ghost use mathlib.Core.Bool.{true};
@@ -13,26 +13,35 @@ ghost use Rattle.card.specs.Address.{cellsFor};
 ghost use Rattle.card.specs.Fresh.{fresh};
 ghost use Rattle.console.specs.Console.{entered};
 ghost use Rattle.scope.specs.Steps;
-ghost use Rattle.scope.specs.Steps.{wordsIn, shownBy, shownAt, blockLength, kept};
+ghost use Rattle.scope.specs.Steps.{wordsOf, shownBy, shownAt, bufferLength};
 use card::card::Card;
+use console::LONGEST_PRINT;
+use input::Reader;
+use input::next_line;
 use libc::STDIN_FILENO;
+use saved::record::RECORD_LENGTH;
 use ticks::tick::Answer;
 use ticks::tick::Ticked;
 
-// `blockLength`: of a block of input.
-pub const BLOCK: usize = 4096;
+// What a program lends for the whole of an input: the block, the line that has not ended, and "The program's store starts as 308 zeros".
+pub const BUFFER: usize = input::BUFFER;
 
-// `kept`: more than the 80 bytes of the longest line, so that a longer one, cut to this, is still too long.
-pub const LINE: usize = 96;
+pub const LINE: usize = input::LINE;
 
-// "The program's store starts as 308 zeros."
-pub const STORE: usize = 308;
+pub const STORE: usize = RECORD_LENGTH;
 
-// What a line showed: nothing, unless it was a tick that ran. `word` holds the levels in bits 0 to 15, BNC1 first, the driven word from bit 16, the
-// cell word from bit 32 and the woken set from bit 48, each of the cells 1 to 16.
+// The words of a tick: the levels, BNC1 first, what the card drove, the outputs of the cells 1 to 16, and which of these woke.
+pub struct Words {
+    pub levels: u16,
+    pub driven: u16,
+    pub cells: u16,
+    pub woken: u16,
+}
+
+// What a line showed: nothing, unless it was a tick that ran.
 pub struct Shown {
     pub ran: bool,
-    pub word: u64,
+    pub words: Words,
 }
 
 // The card after a line, and what the line showed.
@@ -41,27 +50,12 @@ pub struct Stepped {
     pub shown: Shown,
 }
 
-// Where the taking of bytes has come to: the next byte of the block, the bytes of the line so far, and whether the line has ended.
-pub struct Taken {
-    pub at: usize,
-    pub len: usize,
-    pub ended: bool,
-}
-
-// Between two turns.
+// Between two lines.
 pub struct Feed {
     pub card: Card,
     // what the last line showed
     pub shown: Shown,
-    // the next byte of the block, and how many bytes the last read gave
-    pub at: usize,
-    pub got: usize,
-    // bytes of the line that has not ended
-    pub len: usize,
-    // false at the input's end, and where a read failed
-    pub going: bool,
-    // turns that may still be made: a proved loop has to end, and nothing says that the input does
-    pub left: u64,
+    pub reader: Reader,
 }
 
 // ---- a line
@@ -70,20 +64,38 @@ pub struct Feed {
 fn nothing() -> Shown
     ensures { λ r. ⌜ r ≡ Steps.nothing ⌝ }
 {
+    let words = Words {
+        levels: 0,
+        driven: 0,
+        cells: 0,
+        woken: 0,
+    };
     Shown {
         ran: false,
-        word: 0,
+        words: words,
     }
 }
 
-// The four words of a tick in one.
-fn words_in(levels: u16, a: Answer) -> u64
-    ensures { λ r. ⌜ r ≡ wordsIn levels a ⌝ }
+// The words of a tick, by the levels that it read and what it answered.
+fn words_of(levels: u16, a: Answer) -> Words
+    ensures { λ r. ⌜ r ≡ wordsOf levels a ⌝ }
 {
-    let driven = (a.driven as u64) << 16;
-    let cells = (a.cells as u64 % 65536) << 32;
-    let woken = (a.woken as u64 % 65536) << 48;
-    levels as u64 + driven + cells + woken
+    Words {
+        levels: levels,
+        driven: a.driven,
+        cells: (a.cells % 65536) as u16,
+        woken: (a.woken % 65536) as u16,
+    }
+}
+
+// The four words of a tick in one, 16 bits each, the levels lowest: a bit for each wire of a picture.
+pub fn packed(w: Words) -> u64
+    ensures { λ r. ⌜ r ≡ Steps.packed w ⌝ }
+{
+    let driven = (w.driven as u64) << 16;
+    let cells = (w.cells as u64) << 32;
+    let woken = (w.woken as u64) << 48;
+    w.levels as u64 + driven + cells + woken
 }
 
 // What a tick showed.
@@ -96,9 +108,10 @@ fn shown_by(t: Ticked) -> Shown
     }
     let card = t.card;
     let m = card.memory;
+    let words = words_of(m.levels, a);
     Shown {
         ran: true,
-        word: words_in(m.levels, a),
+        words: words,
     }
 }
 
@@ -118,7 +131,7 @@ pub fn step(card: Card, text: &[u8], store: &mut [u8]) -> Stepped
             shown: shown,
         };
     }
-    let mut out = [0u8; 36];
+    let mut out = [0u8; LONGEST_PRINT];
     let entered = console::enter(card, text, store, &mut out);
     let next = entered.card;
     let shown = nothing();
@@ -130,166 +143,73 @@ pub fn step(card: Card, text: &[u8], store: &mut [u8]) -> Stepped
 
 // ---- the input
 
-// A byte behind the first `len` of a line, where there is room.
-fn add(line: &mut [u8; LINE], len: usize, b: u8) -> usize
-    requires { ⌜ len ≤ kept ⌝ }
-    ensures { λ r. ⌜ r ≤ kept ⌝ }
+// A fresh card before the first byte of the input.
+pub fn start() -> Feed
+    ensures { λ r. ⌜ r .card ≡ fresh ⌝ }
+    ensures { λ r. ⌜ r .shown ≡ Steps.nothing ⌝ }
+    ensures { λ r. ⌜ (r .reader .start ≡ 0) × (r .reader .end ≡ 0) × (r .reader .n ≡ 0) ⌝ }
+    ensures { λ r. ⌜ r .reader .going ≡ true ⌝ }
 {
-    if len == LINE {
-        return len;
-    }
-    line[len] = b;
-    len + 1
-}
-
-// The bytes of a block from `at` to n go behind the line so far, up to LF, which is passed over.
-fn take_line(block: &[u8; BLOCK], at: usize, n: usize, line: &mut [u8; LINE], len: usize) -> Taken
-    requires { ⌜ at ≤ n ⌝ }
-    requires { ⌜ n ≤ blockLength ⌝ }
-    requires { ⌜ len ≤ kept ⌝ }
-    ensures { λ r. ⌜ r .at ≤ n ⌝ }
-    ensures { λ r. ⌜ r .len ≤ kept ⌝ }
-{
-    let mut i = at;
-    let mut k = len;
-    while i < n {
-        let b = block[i];
-        i += 1;
-        if b == b'\n' {
-            return Taken {
-                at: i,
-                len: k,
-                ended: true,
-            };
-        }
-        k = add(line, k, b);
-    }
-    Taken {
-        at: i,
-        len: k,
-        ended: false,
-    }
-}
-
-// One read of standard input. Where it fails, it gives no bytes.
-fn read_block(block: &mut [u8; BLOCK]) -> usize
-    ensures { λ r. ⌜ r ≤ blockLength ⌝ }
-{
-    let got = libc::read(STDIN_FILENO, block);
-    io::count(got, block)
-}
-
-// A turn where the block is used up: the next one is read.
-fn refilled(feed: Feed, block: &mut [u8; BLOCK]) -> Feed
-    requires { ⌜ 0 < feed .left ⌝ }
-    requires { ⌜ feed .len ≤ kept ⌝ }
-    ensures { λ r. ⌜ r .at ≤ r .got ⌝ }
-    ensures { λ r. ⌜ r .got ≤ blockLength ⌝ }
-    ensures { λ r. ⌜ r .len ≤ kept ⌝ }
-    ensures { λ r. ⌜ r .left < feed .left ⌝ }
-{
-    let got = read_block(block);
-    let card = feed.card;
+    let card = card::card::fresh();
     let shown = nothing();
+    let reader = input::start();
     Feed {
         card: card,
         shown: shown,
-        at: 0,
-        got: got,
-        len: feed.len,
-        going: got > 0,
-        left: feed.left - 1,
+        reader: reader,
     }
 }
 
-// The first `len` bytes of a line, entered.
-fn step_front(card: Card, line: &[u8], len: usize, store: &mut [u8]) -> Stepped
-    requires { ⌜ len ≤ length (now line) ⌝ }
+// The line that a reader has given, if it has given one.
+fn step_given(card: Card, r: Reader, block: &[u8], store: &mut [u8]) -> Stepped
+    requires { ⌜ r .start ≤ r .end ⌝ }
+    requires { ⌜ r .end ≤ length (now block) ⌝ }
 {
-    step(card, &line[0..len], store)
-}
-
-// A turn that takes bytes of the block, and enters the line where they end it.
-fn advanced(feed: Feed, block: &[u8; BLOCK], line: &mut [u8; LINE], store: &mut [u8; STORE]) -> Feed
-    requires { ⌜ 0 < feed .left ⌝ }
-    requires { ⌜ feed .at ≤ feed .got ⌝ }
-    requires { ⌜ feed .got ≤ blockLength ⌝ }
-    requires { ⌜ feed .len ≤ kept ⌝ }
-    ensures { λ r. ⌜ r .at ≤ r .got ⌝ }
-    ensures { λ r. ⌜ r .got ≤ blockLength ⌝ }
-    ensures { λ r. ⌜ r .len ≤ kept ⌝ }
-    ensures { λ r. ⌜ r .left < feed .left ⌝ }
-{
-    let card = feed.card;
-    let taken = take_line(block, feed.at, feed.got, line, feed.len);
-    let len = taken.len;
-    if !taken.ended {
+    if !r.going {
         let shown = nothing();
-        return Feed {
+        return Stepped {
             card: card,
             shown: shown,
-            at: taken.at,
-            got: feed.got,
-            len: len,
-            going: true,
-            left: feed.left - 1,
         };
     }
-    let stepped = step_front(card, line, len, store);
+    let start = r.start;
+    let end = r.end;
+    step(card, &block[start..end], store)
+}
+
+// The next line of standard input.
+fn turn(
+    feed: Feed,
+    block: &mut [u8; BUFFER],
+    line: &mut [u8; LINE],
+    store: &mut [u8; STORE],
+) -> Feed
+    requires { ⌜ feed .reader .end ≤ feed .reader .n ⌝ }
+    requires { ⌜ feed .reader .n ≤ bufferLength ⌝ }
+    requires { ⌜ 0 < feed .reader .left ⌝ }
+    ensures { λ f. ⌜ f .reader .end ≤ f .reader .n ⌝ }
+    ensures { λ f. ⌜ f .reader .n ≤ bufferLength ⌝ }
+    ensures { λ f. ⌜ f .reader .left < feed .reader .left ⌝ }
+{
+    let card = feed.card;
+    let reader = next_line(feed.reader, STDIN_FILENO, block, line);
+    let stepped = step_given(card, reader, block, store);
     let next = stepped.card;
     let shown = stepped.shown;
     Feed {
         card: next,
         shown: shown,
-        at: taken.at,
-        got: feed.got,
-        len: 0,
-        going: true,
-        left: feed.left - 1,
-    }
-}
-
-fn turn(feed: Feed, block: &mut [u8; BLOCK], line: &mut [u8; LINE], store: &mut [u8; STORE]) -> Feed
-    requires { ⌜ 0 < feed .left ⌝ }
-    requires { ⌜ feed .at ≤ feed .got ⌝ }
-    requires { ⌜ feed .got ≤ blockLength ⌝ }
-    requires { ⌜ feed .len ≤ kept ⌝ }
-    ensures { λ r. ⌜ r .at ≤ r .got ⌝ }
-    ensures { λ r. ⌜ r .got ≤ blockLength ⌝ }
-    ensures { λ r. ⌜ r .len ≤ kept ⌝ }
-    ensures { λ r. ⌜ r .left < feed .left ⌝ }
-{
-    if feed.at == feed.got {
-        return refilled(feed, block);
-    }
-    advanced(feed, block, line, store)
-}
-
-// A fresh card before the first byte of the input.
-pub fn start() -> Feed
-    ensures { λ r. ⌜ r .card ≡ fresh ⌝ }
-    ensures { λ r. ⌜ r .shown ≡ Steps.nothing ⌝ }
-    ensures { λ r. ⌜ (r .at ≡ 0) × (r .got ≡ 0) × (r .len ≡ 0) ⌝ }
-    ensures { λ r. ⌜ r .going ≡ true ⌝ }
-{
-    let card = card::card::fresh();
-    let shown = nothing();
-    Feed {
-        card: card,
-        shown: shown,
-        at: 0,
-        got: 0,
-        len: 0,
-        going: true,
-        left: u64::MAX,
+        reader: reader,
     }
 }
 
 // Where the input has ended, or the feed is none that these functions gave.
-fn ended(feed: Feed) -> Feed {
+fn ended(feed: Feed) -> Feed
+    ensures { λ r. ⌜ r .card ≡ feed .card ⌝ }
+    ensures { λ r. ⌜ r .shown ≡ Steps.nothing ⌝ }
+{
     let mut f = feed;
     f.shown = nothing();
-    f.going = false;
     f
 }
 
@@ -297,26 +217,25 @@ fn ended(feed: Feed) -> Feed {
 // buffers.
 pub fn next(
     feed: Feed,
-    block: &mut [u8; BLOCK],
+    block: &mut [u8; BUFFER],
     line: &mut [u8; LINE],
     store: &mut [u8; STORE],
 ) -> Feed {
     let mut f = feed;
-    if f.at > f.got {
+    let mut r = f.reader;
+    if r.end > r.n {
         return ended(f);
     }
-    if f.got > BLOCK {
+    if r.n > BUFFER {
         return ended(f);
     }
-    if f.len > LINE {
-        return ended(f);
-    }
-    while f.left > 0 && f.going {
+    while r.left > 0 && r.going {
         f = turn(f, block, line, store);
         let shown = f.shown;
         if shown.ran {
             return f;
         }
+        r = f.reader;
     }
     ended(f)
 }

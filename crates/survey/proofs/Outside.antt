@@ -17,18 +17,19 @@ use Rattle.words.proofs.Bools.{or-left, or-right}
 use Rattle.cells.proofs.Used.{SameUsed, work-used, wakes-used}
 use Rattle.card.specs.declared.card.Card.{Card}
 use Rattle.card.specs.declared.card.Memory.{Memory}
-use Rattle.card.specs.declared.card.Connector.{Connector}
+use Rattle.card.specs.declared.card.Connectors.{Connectors}
 use Rattle.card.specs.Address.{connectorCount, firstCell, firstConnector, among, baseOf, isInverted, isEdge, onBackplane}
-use Rattle.card.specs.Connectors.{openDrain, pushPull, isOutput, noConnector}
+use Rattle.card.specs.Connectors.{pushPull, isOutput, kindAt, sourceAt, connectorAt}
+use Rattle.card.proofs.ConnectorLaws.{kind-push}
 use Rattle.card.proofs.Places.{among-bounds}
-use Rattle.ticks.specs.declared.tick.Input.{Input}
-use Rattle.ticks.specs.declared.tick.Wires.{Wires}
+use Rattle.ticks.specs.declared.view.Input.{Input}
+use Rattle.ticks.specs.declared.view.Wires.{Wires}
 use Rattle.ticks.specs.Reading.{levelAt, readsLevels, reads, slotsRead, mixed, view}
-use Rattle.ticks.specs.Levels.{effectiveAt, effectiveSample, drivenBit, levelBit, drivenAt, linesOf}
+use Rattle.ticks.specs.Levels.{effectiveAt, effectiveSample, levelBit, drivenAt, drivenWord, levelsFrom, linesOf}
 use Rattle.ticks.specs.Tick.{seesNow, sawLast, sawEarlier, readNow, readLast, named, Turn, turnTo, sleptTurn, turnAt, outputsBelow, turnOf, lines}
-use Rattle.ticks.specs.Counting.{cellAt}
+use Rattle.ticks.specs.Runs.{cellAt}
 use Rattle.ticks.proofs.Sleep.{output-bit}
-use Rattle.survey.specs.Survey.{slotsIn, readsSet, drivenFrom, connectorAt, Holds}
+use Rattle.survey.specs.Survey.{slotsIn, readsSet, drivenFrom, Holds}
 use Rattle.survey.specs.Unreached.{SameBut, CellsOutside, LinesOutside}
 
 -- ---- readings
@@ -102,21 +103,21 @@ pub in-or-out : (b s : Bool) → (b ≡ true → s ≡ true) → s ≡ false →
 in-or-out false s h out = refl
 in-or-out true s h out = absurd (true≢false (sym (h refl) ∙ out))
 
-driven-outside : (set now before now′ before′ : ℕ → Bool) → Views set now now′ → Views set before before′ → (c : Connector) → drivenFrom set c ≡ false
-    → drivenBit now before c ≡ drivenBit now′ before′ c
+driven-outside : (set now before now′ before′ : ℕ → Bool) → Views set now now′ → Views set before before′ → (d : Connectors) (k : ℕ)
+    → drivenFrom set (connectorAt d k) ≡ false → drivenAt now before d k ≡ drivenAt now′ before′ d k
 unfolding drivenFrom
-driven-outside set now before now′ before′ p q c out = go (isOutput (c .kind)) out
+driven-outside set now before now′ before′ p q d k out = go (isOutput (kindAt d k)) out
   where
-    go : (b : Bool) → (b && set (baseOf (c .source))) ≡ false → cond b (reads now before (c .source)) false ≡ cond b (reads now′ before′ (c .source)) false
-    go false h = refl
-    go true h = reads-outside set now before now′ before′ p q (c .source) h
+    a : ℕ
+    a = sourceAt d k
 
-level-outside : (kind : ℕ) (s s′ d d′ : Bool) → d ≡ d′ → (eqb kind pushPull ≡ false → s ≡ s′) → levelBit kind s d ≡ levelBit kind s′ d′
-level-outside kind s s′ d d′ e h = go (eqb kind pushPull) h
-  where
-    go : (b : Bool) → (b ≡ false → s ≡ s′) → cond b d (cond (eqb kind openDrain) (s && d) s) ≡ cond b d′ (cond (eqb kind openDrain) (s′ && d′) s′)
-    go true h = e
-    go false h = ap₂ (λ (x y : Bool). cond (eqb kind openDrain) (x && y) x) (h refl) e
+    go : (b : Bool) → (b && set (baseOf a)) ≡ false → cond b (reads now before a) false ≡ cond b (reads now′ before′ a) false
+    go false h = refl
+    go true h = reads-outside set now before now′ before′ p q a h
+
+level-outside : (push drain s s′ d d′ : Bool) → d ≡ d′ → (push ≡ false → s ≡ s′) → levelBit push drain s d ≡ levelBit push drain s′ d′
+level-outside true drain s s′ d d′ e h = e
+level-outside false drain s s′ d d′ e h = ap₂ (λ (x y : Bool). cond drain (x && y) x) (h refl) e
 
 effective-but : (k s s′ a a′ : ℕ) → SameBut k a a′ → SameBut k s s′ → SameBut k (effectiveSample s a) (effectiveSample s′ a′)
 unfolding effectiveSample
@@ -159,8 +160,8 @@ module _ (n : ℕ) (set : ℕ → Bool) (k : ℕ) (c d : Card) (holds : Holds n 
       → drivenAt (shows n (c .memory)) (showed n (c .memory)) (c .connectors) j
       ≡ drivenAt (shows n (d .memory)) (showed n (d .memory)) (d .connectors) j
   driven-at j h out =
-      driven-outside set _ _ _ _ now-lines before-lines (connectorAt (c .connectors) j) (in-or-out _ _ (holds .outputs j h) out)
-      ∙ ap (λ (l : List Connector). drivenBit (shows n (d .memory)) (showed n (d .memory)) (getD l j noConnector)) (same .connectors)
+      driven-outside set _ _ _ _ now-lines before-lines (c .connectors) j (in-or-out _ _ (holds .outputs j h) out)
+      ∙ ap (λ (l : Connectors). drivenAt (shows n (d .memory)) (showed n (d .memory)) l j) (same .connectors)
 
   -- a connector outside that shows its sample is another one than the line's
   not-itself : (j : ℕ) → set (firstConnector + j) ≡ false → eqb (connectorAt (c .connectors) j .kind) pushPull ≡ false → j ≡ k → ⊥
@@ -169,18 +170,19 @@ module _ (n : ℕ) (set : ℕ → Bool) (k : ℕ) (c d : Card) (holds : Holds n 
       true≢false (sym itself ∙ ap (λ (i : ℕ). set (firstConnector + i)) (sym e) ∙ out)
 
   pub lines-driven : LinesOutside set (lines n c x .driven) (lines n d y .driven)
-  unfolding linesOf
+  unfolding linesOf drivenWord
   lines-driven j h out = bit-built _ connectorCount j h ∙ driven-at j h out ∙ sym (bit-built _ connectorCount j h)
 
   pub lines-levels : LinesOutside set (lines n c x .levels) (lines n d y .levels)
-  unfolding linesOf
+  unfolding linesOf levelsFrom
   lines-levels j h out =
       let sample = effectiveSample (y .sample) (y .attached) in
-      let driven = drivenAt (shows n (d .memory)) (showed n (d .memory)) (d .connectors) j in
+      let driven = lines n d y .driven in
+      let push = bitAt (c .connectors .«push_pull») j in
       bit-built _ connectorCount j h
-      ∙ level-outside (connectorAt (c .connectors) j .kind) _ _ _ _ (driven-at j h out)
-      (λ sampled. effective-but k _ _ _ _ attached but j h (not-itself j out sampled))
-      ∙ ap (λ (l : List Connector). levelBit (getD l j noConnector .kind) (bitAt sample j) driven) (same .connectors)
+      ∙ level-outside push (bitAt (c .connectors .«open_drain») j) _ _ _ _ (lines-driven j h out)
+      (λ sampled. effective-but k _ _ _ _ attached but j h (not-itself j out (kind-push (c .connectors) j ∙ sampled)))
+      ∙ ap (λ (l : Connectors). levelBit (bitAt (l .«push_pull») j) (bitAt (l .«open_drain») j) (bitAt sample j) (bitAt driven j)) (same .connectors)
       ∙ sym (bit-built _ connectorCount j h)
 
 -- ---- one cell
@@ -209,7 +211,7 @@ turn-outside n set full cell i edited v w below below′ same hb inside out none
     let read-last = slots-outside set _ _ _ _ saw earlier cell none in
     let due = wakes-used (cell .kind) now last now′ last′ reads-now read-last (stateOf cell) (bitAt edited i) in
     let worked = work-used (cell .kind) (cell .config) (stateOf cell) now now′ reads-now in
-    λ k. cond (full || due k) (turnTo cell (worked k)) (sleptTurn cell (same .outputs i inside out k))
+    λ k. cond (full || due k) (turnTo cell (due k) (worked k)) (sleptTurn cell (same .outputs i inside out k))
 
 -- ---- all cells
 

@@ -15,13 +15,14 @@ use Rattle.words.proofs.Laws.{word-ext, bit-zero, bit-built, bit-or, bit-with-s
 use Rattle.cells.specs.declared.cell.Cell.{Cell}
 use Rattle.cells.specs.Table.{rowOf, masked, anySlot, slots}
 use Rattle.card.specs.declared.card.Connector.{Connector}
+use Rattle.card.specs.declared.card.Connectors.{Connectors}
 use Rattle.card.specs.Address.{cellRoom, connectorCount, firstCell, firstConnector, among, baseOf}
-use Rattle.card.specs.Connectors.{pushPull, isOutput, noConnector}
+use Rattle.card.specs.Connectors.{pushPull, isOutput, connectorAt}
 use Rattle.card.specs.Fresh.{noCell}
 use Rattle.card.proofs.Places.{among-bounds}
 use Rattle.ticks.specs.Reading.{levelAt, view}
 use Rattle.ticks.proofs.Views.{mixed-one, level-cell, level-connector}
-use Rattle.survey.specs.Survey.{readsSet, drivenFrom, connectorAt, Holds, setOf, Smallest}
+use Rattle.survey.specs.Survey.{readsSet, drivenFrom, Holds, setOf, Smallest}
 use Rattle.survey.specs.Rounds.{startOf, readersOf, followersOf, grown, rounds}
 
 -- ---- the set as a word of 64 bits, as the code has it
@@ -42,7 +43,7 @@ unfolding drivenFrom
 driven-word f c = ap (λ (b : Bool). isOutput (c .kind) && b) (bit-built f 64 (baseOf (c .source)) (mod-lt (c .source) (lit< tt)))
 
 -- what is said of the word is said of the set
-pub readers-seen : (n : ℕ) (cs : List Cell) (ds : List Connector) (x y w r : ℕ) → w ≡ wordOf (view n 0 x x y) 64
+pub readers-seen : (n : ℕ) (cs : List Cell) (ds : Connectors) (x y w r : ℕ) → w ≡ wordOf (view n 0 x x y) 64
     → r ≡ wordOf (λ i. readsSet (bitAt w) (getD cs i noCell)) n → r ≡ readersOf n cs ds x y
 unfolding readersOf
 readers-seen n cs ds x y w r e h =
@@ -50,13 +51,13 @@ readers-seen n cs ds x y w r e h =
     ap (λ (v : ℕ). readsSet (bitAt v) (getD cs i noCell)) e ∙ reads-word (view n 0 x x y) (getD cs i noCell)
     ∙ ap (λ (f : ℕ → Bool). readsSet f (getD cs i noCell)) (set-view n x y))
 
-pub followers-seen : (n : ℕ) (cs : List Cell) (ds : List Connector) (x y w r : ℕ) → w ≡ wordOf (view n 0 x x y) 64
-    → r ≡ wordOf (λ j. drivenFrom (bitAt w) (getD ds j noConnector)) connectorCount → r ≡ followersOf n cs ds x y
+pub followers-seen : (n : ℕ) (cs : List Cell) (ds : Connectors) (x y w r : ℕ) → w ≡ wordOf (view n 0 x x y) 64
+    → r ≡ wordOf (λ j. drivenFrom (bitAt w) (connectorAt ds j)) connectorCount → r ≡ followersOf n cs ds x y
 unfolding followersOf
 followers-seen n cs ds x y w r e h =
     h ∙ built-same _ _ connectorCount (λ j _.
-    ap (λ (v : ℕ). drivenFrom (bitAt v) (getD ds j noConnector)) e ∙ driven-word (view n 0 x x y) (getD ds j noConnector)
-    ∙ ap (λ (f : ℕ → Bool). drivenFrom f (getD ds j noConnector)) (set-view n x y))
+    ap (λ (v : ℕ). drivenFrom (bitAt v) (connectorAt ds j)) e ∙ driven-word (view n 0 x x y) (connectorAt ds j)
+    ∙ ap (λ (f : ℕ → Bool). drivenFrom f (connectorAt ds j)) (set-view n x y))
 
 -- ---- more bases, more readers
 
@@ -118,7 +119,7 @@ start-fits c k inside = go (eqb (c .kind) pushPull)
 
 -- ---- rounds
 
-module _ (n : ℕ) (cs : List Cell) (ds : List Connector) (k : ℕ) where
+module _ (n : ℕ) (cs : List Cell) (ds : Connectors) (k : ℕ) where
   -- two words that lie in every set that holds what depends on the line
   record Inside (x y : ℕ) : Type 0 where
     cells : (set : ℕ → Bool) → Holds n cs ds k set → (i : ℕ) → i < n → bitAt x i ≡ true → set (firstCell + i) ≡ true
@@ -233,7 +234,7 @@ both-ways true b p q = sym (p refl)
 both-ways false true p q = q refl
 both-ways false false p q = refl
 
-pub only-one : (n : ℕ) (cs : List Cell) (ds : List Connector) (k x y x′ y′ : ℕ) → n ≤ cellRoom → Smallest n cs ds k x y → Smallest n cs ds k x′ y′
+pub only-one : (n : ℕ) (cs : List Cell) (ds : Connectors) (k x y x′ y′ : ℕ) → n ≤ cellRoom → Smallest n cs ds k x y → Smallest n cs ds k x′ y′
     → (x ≡ x′) × (y ≡ y′)
 only-one n cs ds k x y x′ y′ small s t =
     let same : (b : ℕ) → setOf n x y b ≡ setOf n x′ y′ b = λ b. both-ways _ _ (s .least _ (t .holds) b) (t .least _ (s .holds) b) in (

@@ -1,25 +1,25 @@
 -- Two runs that differ in one line agree outside a set that holds what depends on it: a tick, and lists of ticks.
 use Prim.Native.Nat.{ℕ, _+_, _-_, _%_, _^_, _<_}
 use mathlib.Core.Path.{_≡_, refl, sym, ap, ap₂, subst, _∙_}
-use mathlib.Core.Bool.{Bool, true, false, _||_, cond}
-use mathlib.Core.List.{List, [], _∷_}
+use mathlib.Core.Bool.{Bool, false}
+use mathlib.Core.List.{[], _∷_}
 use lib.Dec.{eqb}
-use Rattle.words.specs.Bits.{bitAt, wordOf}
+use Rattle.words.specs.Bits.{wordOf}
 use Rattle.words.proofs.Laws.{bit-built}
 use Rattle.words.proofs.Listed.{front-at}
 use Rattle.cells.specs.declared.cell.Cell.{Cell}
 use Rattle.card.specs.declared.card.Card.{Card}
 use Rattle.card.specs.Address.{firstCell, firstConnector}
 use Rattle.card.specs.Fresh.{noCell}
-use Rattle.ticks.specs.declared.tick.Input.{Input}
-use Rattle.ticks.specs.declared.tick.Wires.{Wires}
-use Rattle.ticks.specs.Tick.{readNow, named, Turn, workedTurn, sleptTurn, turnAt, outputsBelow, cellAfter, wokeAt, turned, wiresOf, lines, ticked, idle, tick}
-use Rattle.ticks.specs.Counting.{Ticks, afterTick, cellAt, runs}
+use Rattle.ticks.specs.declared.view.Input.{Input}
+use Rattle.ticks.specs.declared.view.Wires.{Wires}
+use Rattle.ticks.specs.Tick.{Turn, turnAt, outputsBelow, cellAfter, wokeAt, turned, wiresOf, lines, ticked, idle, tick}
+use Rattle.ticks.specs.Runs.{Ticks, afterTick, cellAt, runs}
+use Rattle.ticks.proofs.Cases.{by-turn, by-tick, by-ticks}
 use Rattle.ticks.proofs.Sleep.{output-bit}
 use Rattle.ticks.proofs.Trim.{cut}
-use Rattle.survey.specs.declared.Surveyed.{Surveyed}
 use Rattle.survey.specs.Survey.{readsSet, Holds, setOf}
-use Rattle.survey.specs.Unreached.{AlikeTick, AlikeButLine, CellsOutside, AgreeOutside, AlwaysOutside, Unreached}
+use Rattle.survey.specs.Unreached.{SameBut, AlikeTick, AlikeButLine, CellsOutside, AgreeOutside, AlwaysOutside, Unreached}
 use Rattle.survey.proofs.Outside.{Between, WiresOutside, lines-driven, lines-levels, turn-is}
 
 -- ---- one tick
@@ -27,123 +27,118 @@ use Rattle.survey.proofs.Outside.{Between, WiresOutside, lines-driven, 
 reads-stays : (set : ℕ → Bool) (n : ℕ) (full : Bool) (cell : Cell) (i edited : ℕ) (w : Wires) (below : ℕ)
     → readsSet set (turnAt n full cell i edited w below .cell) ≡ readsSet set cell
 unfolding readsSet turnAt
-reads-stays set n full cell i edited w below = go (full || named n cell i edited w below)
-  where
-    go : (b : Bool) → readsSet set (cond b (workedTurn cell (readNow n i w below (cell .slots))) (sleptTurn cell (bitAt (w .outputs) i)) .cell)
-        ≡ readsSet set cell
-    go true = refl
-    go false = refl
+reads-stays set n full cell i edited w below =
+    by-turn full cell _ _ _ _ (λ t. readsSet set (t .cell) ≡ readsSet set cell) (λ _. refl) (λ _. refl)
 
 module _ (n : ℕ) (set : ℕ → Bool) (k : ℕ) where
   holds-on : (c : Card) (t : Bool × Input) → Holds n (c .cells) (c .connectors) k set
       → Holds n ((afterTick n c t) .cells) ((afterTick n c t) .connectors) k set
-  unfolding tick turned
-  holds-on c t holds = go (runs c t)
-    where
-      go : (b : Bool)
-          → Holds n ((cond b (ticked n (t .0) c (t .1)) (idle c) .card) .cells) ((cond b (ticked n (t .0) c (t .1)) (idle c) .card) .connectors) k set
-      go false = holds
-      go true =
-          let w = wiresOf (c .memory) (lines n c (t .1) .levels) in
-          record {
-            itself = holds .itself;
-            cells = λ i h e. holds .cells i h
-                (sym (ap (readsSet set) (front-at (cellAfter n (t .0) (c .cells) (c .edited) w) n (c .cells) i noCell h)
-                ∙ reads-stays set n (t .0) (cellAt c i) i (c .edited) w (outputsBelow n (t .0) (c .cells) (c .edited) w i)) ∙ e);
-            outputs = holds .outputs;
-          }
+  unfolding turned
+  holds-on c t holds =
+      let w = wiresOf (c .memory) (lines n c (t .1) .levels) in
+      by-tick n (t .0) c (t .1) (λ r. Holds n (r .card .cells) (r .card .connectors) k set)
+      (λ _.
+      record {
+        itself = holds .itself;
+        cells = λ i h e. holds .cells i h
+            (sym (ap (readsSet set) (front-at (cellAfter n (t .0) (c .cells) (c .edited) w) n (c .cells) i noCell h)
+            ∙ reads-stays set n (t .0) (cellAt c i) i (c .edited) w (outputsBelow n (t .0) (c .cells) (c .edited) w i)) ∙ e);
+        outputs = holds .outputs;
+      }) (λ _. holds)
 
   -- what a tick cuts off above the n cells is at no cell
   cut-outside : (v w : ℕ) → CellsOutside n set v w → CellsOutside n set (v % 2 ^ n) (w % 2 ^ n)
   cut-outside v w same i h out = cut n v i h ∙ same i h out ∙ sym (cut n w i h)
 
-  -- two ticks, and the cards after them
-  tick-outside : (c d : Card) (t u : Bool × Input) → Holds n (c .cells) (c .connectors) k set → Between n set c d → AlikeTick k t u
-      → AgreeOutside n set (tick n (t .0) c (t .1)) (tick n (u .0) d (u .1)) × Between n set (afterTick n c t) (afterTick n d u)
-  unfolding tick turned
-  tick-outside c d t u holds same alike =
-      subst (λ (b : Bool). Q b (u .0)) (ap₂ eqb (alike .code) (same .trigger)) (subst (λ (f : Bool). Q (runs c t) f) (alike .kind) (go (runs c t)))
-    where
-      -- whether the second tick runs, and of what kind it is
-      Q : Bool → Bool → Type 0
-      Q b f = AgreeOutside n set (tick n (t .0) c (t .1)) (cond b (ticked n f d (u .1)) (idle d))
-          × Between n set (afterTick n c t) (cond b (ticked n f d (u .1)) (idle d) .card)
-
-      go : (b : Bool) → AgreeOutside n set (cond b (ticked n (t .0) c (t .1)) (idle c)) (cond b (ticked n (t .0) d (u .1)) (idle d))
-          × Between n set (cond b (ticked n (t .0) c (t .1)) (idle c) .card) (cond b (ticked n (t .0) d (u .1)) (idle d) .card)
-      go false = (
+  -- two ticks of one kind that run, and two that are idle
+  ran-outside : (full : Bool) (c d : Card) (x y : Input) → Holds n (c .cells) (c .connectors) k set → Between n set c d
+      → SameBut k (x .attached) (y .attached) → SameBut k (x .sample) (y .sample)
+      → AgreeOutside n set (ticked n full c x) (ticked n full d y) × Between n set (ticked n full c x .card) (ticked n full d y .card)
+  unfolding turned
+  ran-outside full c d x y holds same attached sample =
+      let v = wiresOf (c .memory) (lines n c x .levels) in
+      let w = wiresOf (d .memory) (lines n d y .levels) in
+      let levels = lines-levels n set k c d holds same x y attached sample in
+      let driven = lines-driven n set k c d holds same x y attached sample in
+      let wires : WiresOutside n set v w = record {
+        levels = levels;
+        levels2 = same .levels;
+        levels3 = same .levels2;
+        outputs = same .outputs;
+        outputs2 = same .outputs2;
+        outputs3 = same .outputs3;
+      } in
+      let turn = turn-is n set k full c d holds same v w wires in
+      let cells : (i : ℕ) → i < n → set (firstCell + i) ≡ false
+      → cellAt (ticked n full c x .card) i ≡ cellAt (ticked n full d y .card) i = λ i h o.
+      front-at (cellAfter n full (c .cells) (c .edited) v) n (c .cells) i noCell h ∙ ap (λ (r : Turn). r .cell) (turn i h o)
+      ∙ sym (front-at (cellAfter n full (d .cells) (d .edited) w) n (d .cells) i noCell h) in
+      let outputs : CellsOutside n set (outputsBelow n full (c .cells) (c .edited) v n) (outputsBelow n full (d .cells) (d .edited) w n) = λ i h o.
+      output-bit n full (c .cells) (c .edited) v n i h ∙ ap (λ (r : Turn). r .out) (turn i h o)
+      ∙ sym (output-bit n full (d .cells) (d .edited) w n i h) in
+      let woken : CellsOutside n set (wordOf (wokeAt n full (c .cells) (c .edited) v) n)
+      (wordOf (wokeAt n full (d .cells) (d .edited) w) n) = λ i h o.
+      bit-built (wokeAt n full (c .cells) (c .edited) v) n i h ∙ ap (λ (r : Turn). r .woke) (turn i h o)
+      ∙ sym (bit-built (wokeAt n full (d .cells) (d .edited) w) n i h) in (
         record {
-          cells = same .cells;
-          outputs = same .outputs;
-          levels = same .levels;
-          driven = same .driven;
+          cells = cells;
+          outputs = outputs;
+          levels = levels;
+          driven = driven;
           connectors = same .connectors;
           trigger = same .trigger;
           pointer = same .pointer;
-          edited = same .edited;
+          edited = refl;
           size = same .size;
           ran = refl;
-          woken = λ i h o. refl;
-          shown = λ i h o. refl;
-          drove = λ j h o. refl;
+          woken = woken;
+          shown = outputs;
+          drove = driven;
         },
-        same,
+        record {
+          trigger = same .trigger;
+          pointer = same .pointer;
+          connectors = same .connectors;
+          edited = refl;
+          size = same .size;
+          cells = cells;
+          driven = driven;
+          outputs = outputs;
+          outputs2 = cut-outside (c .memory .outputs) (d .memory .outputs) (same .outputs);
+          outputs3 = cut-outside (c .memory .outputs2) (d .memory .outputs2) (same .outputs2);
+          levels = levels;
+          levels2 = same .levels;
+        },
       )
-      go true =
-          let v = wiresOf (c .memory) (lines n c (t .1) .levels) in
-          let w = wiresOf (d .memory) (lines n d (u .1) .levels) in
-          let levels = lines-levels n set k c d holds same (t .1) (u .1) (alike .attached) (alike .sample) in
-          let driven = lines-driven n set k c d holds same (t .1) (u .1) (alike .attached) (alike .sample) in
-          let wires : WiresOutside n set v w = record {
-            levels = levels;
-            levels2 = same .levels;
-            levels3 = same .levels2;
-            outputs = same .outputs;
-            outputs2 = same .outputs2;
-            outputs3 = same .outputs3;
-          } in
-          let turn = turn-is n set k (t .0) c d holds same v w wires in
-          let cells : (i : ℕ) → i < n → set (firstCell + i) ≡ false
-          → cellAt (ticked n (t .0) c (t .1) .card) i ≡ cellAt (ticked n (t .0) d (u .1) .card) i = λ i h o.
-          front-at (cellAfter n (t .0) (c .cells) (c .edited) v) n (c .cells) i noCell h ∙ ap (λ (r : Turn). r .cell) (turn i h o)
-          ∙ sym (front-at (cellAfter n (t .0) (d .cells) (d .edited) w) n (d .cells) i noCell h) in
-          let outputs : CellsOutside n set (outputsBelow n (t .0) (c .cells) (c .edited) v n) (outputsBelow n (t .0) (d .cells) (d .edited) w n) = λ i h o.
-          output-bit n (t .0) (c .cells) (c .edited) v n i h ∙ ap (λ (r : Turn). r .out) (turn i h o)
-          ∙ sym (output-bit n (t .0) (d .cells) (d .edited) w n i h) in
-          let woken : CellsOutside n set (wordOf (wokeAt n (t .0) (c .cells) (c .edited) v) n)
-          (wordOf (wokeAt n (t .0) (d .cells) (d .edited) w) n) = λ i h o.
-          bit-built (wokeAt n (t .0) (c .cells) (c .edited) v) n i h ∙ ap (λ (r : Turn). r .woke) (turn i h o)
-          ∙ sym (bit-built (wokeAt n (t .0) (d .cells) (d .edited) w) n i h) in (
-            record {
-              cells = cells;
-              outputs = outputs;
-              levels = levels;
-              driven = driven;
-              connectors = same .connectors;
-              trigger = same .trigger;
-              pointer = same .pointer;
-              edited = refl;
-              size = same .size;
-              ran = refl;
-              woken = woken;
-              shown = outputs;
-              drove = driven;
-            },
-            record {
-              trigger = same .trigger;
-              pointer = same .pointer;
-              connectors = same .connectors;
-              edited = refl;
-              size = same .size;
-              cells = cells;
-              driven = driven;
-              outputs = outputs;
-              outputs2 = cut-outside (c .memory .outputs) (d .memory .outputs) (same .outputs);
-              outputs3 = cut-outside (c .memory .outputs2) (d .memory .outputs2) (same .outputs2);
-              levels = levels;
-              levels2 = same .levels;
-            },
-          )
+
+  idle-outside : (c d : Card) → Between n set c d → AgreeOutside n set (idle c) (idle d)
+  idle-outside c d same =
+      record {
+        cells = same .cells;
+        outputs = same .outputs;
+        levels = same .levels;
+        driven = same .driven;
+        connectors = same .connectors;
+        trigger = same .trigger;
+        pointer = same .pointer;
+        edited = same .edited;
+        size = same .size;
+        ran = refl;
+        woken = λ i h o. refl;
+        shown = λ i h o. refl;
+        drove = λ j h o. refl;
+      }
+
+  -- two ticks, and the cards after them
+  tick-outside : (c d : Card) (t u : Bool × Input) → Holds n (c .cells) (c .connectors) k set → Between n set c d → AlikeTick k t u
+      → AgreeOutside n set (tick n (t .0) c (t .1)) (tick n (u .0) d (u .1)) × Between n set (afterTick n c t) (afterTick n d u)
+  tick-outside c d t u holds same alike =
+      let ran = ran-outside (t .0) c d (t .1) (u .1) holds same (alike .attached) (alike .sample) in
+      by-ticks n (t .0) (u .0) c d (t .1) (u .1) (ap₂ eqb (alike .code) (same .trigger)) (λ a b. AgreeOutside n set a b × Between n set (a .card) (b .card))
+      (subst (λ (f : Bool). let a = ticked n (t .0) c (t .1) in
+      let b = ticked n f d (u .1) in
+      AgreeOutside n set a b × Between n set (a .card) (b .card)) (alike .kind) ran)
+      (idle-outside c d same, same)
 
   -- ---- the theorem, for every set that holds what depends on the line
 

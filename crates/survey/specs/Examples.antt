@@ -7,11 +7,13 @@ use mathlib.Core.List.{List, [], _∷_}
 use lib.ListN.{set}
 use Rattle.words.specs.Bits.{bitAt, wordOf}
 use Rattle.cells.specs.declared.cell.Cell.{Cell}
+use Rattle.words.specs.Listed.{listed}
 use Rattle.cells.specs.Table.{rowOf}
 use Rattle.card.specs.declared.card.Card.{Card}
 use Rattle.card.specs.declared.card.Connector.{Connector}
+use Rattle.card.specs.declared.card.Connectors.{Connectors}
 use Rattle.card.specs.Address.{cellCount, cellRoom, connectorCount, firstConnector, among}
-use Rattle.card.specs.Connectors.{openDrain, pushPull}
+use Rattle.card.specs.Connectors.{openDrain, pushPull, kindAt, sourceAt, withSource, fromEach}
 use Rattle.card.specs.Fresh.{freshOf, freshConnectors}
 use Rattle.card.specs.Presets.{whole}
 use Rattle.ticks.specs.Reading.{levelAt}
@@ -42,9 +44,10 @@ cells =
 
 -- BNC1 is push-pull from cell 2, BNC2 open-drain from cell 4, BNC3 push-pull from the inverse of cell 5 (69); TTL1 is an input whose source is cell 1, TTL2 is
 -- open-drain from 0, and the others are inputs
-abbrev connectors : List Connector
+abbrev connectors : Connectors
 connectors =
-    wire pushPull 2
+    fromEach
+    (wire pushPull 2
     ∷ wire openDrain 4
     ∷ wire pushPull 69
     ∷ wire 0 0
@@ -55,7 +58,7 @@ connectors =
     ∷ wire 0 0
     ∷ wire 0 1
     ∷ wire openDrain 0
-    ∷ []
+    ∷ [])
 
 -- the place, after how many rounds, the cells and the connectors
 abbrev Row : (place m x y : ℕ) → Type 0
@@ -63,35 +66,35 @@ Row place m x y = Settles cellCount cells connectors (place - firstConnector) m 
 
 -- TTL0: cell 1, the loop of cells 2 and 3, BNC1, cell 4 by the level of BNC1, BNC2. TTL1 is an input, whatever its source
 chain : Row 41 5 0x000f 0x0103
-unfolding wire or2 bitAt wordOf rowOf levelAt readsSet drivenFrom startOf readersOf followersOf rounds
+unfolding wire or2 bitAt wordOf listed kindAt sourceAt withSource fromEach rowOf levelAt readsSet drivenFrom startOf readersOf followersOf rounds
 chain = record { found = refl; stays = refl }
 
 -- a push-pull line reaches nothing, though cell 4 reads it
 push-pull : Row 33 0 0 0
-unfolding wire or2 bitAt wordOf rowOf levelAt readsSet drivenFrom startOf readersOf followersOf rounds
+unfolding wire or2 bitAt wordOf listed kindAt sourceAt withSource fromEach rowOf levelAt readsSet drivenFrom startOf readersOf followersOf rounds
 push-pull = record { found = refl; stays = refl }
 
 -- open-drain lines hold themselves: BNC2, which nobody reads, and TTL2, whose rise triggers cell 5, whose inverse drives BNC3
 open-drain : Row 34 0 0 0x0002
-unfolding wire or2 bitAt wordOf rowOf levelAt readsSet drivenFrom startOf readersOf followersOf rounds
+unfolding wire or2 bitAt wordOf listed kindAt sourceAt withSource fromEach rowOf levelAt readsSet drivenFrom startOf readersOf followersOf rounds
 open-drain = record { found = refl; stays = refl }
 
 edges : Row 43 2 0x0010 0x0404
-unfolding wire or2 bitAt wordOf rowOf levelAt readsSet drivenFrom startOf readersOf followersOf rounds
+unfolding wire or2 bitAt wordOf listed kindAt sourceAt withSource fromEach rowOf levelAt readsSet drivenFrom startOf readersOf followersOf rounds
 edges = record { found = refl; stays = refl }
 
 -- TTL1: the slots that hold it are not used
 unused : Row 42 0 0 0x0200
-unfolding wire or2 bitAt wordOf rowOf levelAt readsSet drivenFrom startOf readersOf followersOf rounds
+unfolding wire or2 bitAt wordOf listed kindAt sourceAt withSource fromEach rowOf levelAt readsSet drivenFrom startOf readersOf followersOf rounds
 unused = record { found = refl; stays = refl }
 
 -- TTL3 by its inverse, TTL4 by its fall
 inverse : Row 44 1 0x0020 0x0800
-unfolding wire or2 bitAt wordOf rowOf levelAt readsSet drivenFrom startOf readersOf followersOf rounds
+unfolding wire or2 bitAt wordOf listed kindAt sourceAt withSource fromEach rowOf levelAt readsSet drivenFrom startOf readersOf followersOf rounds
 inverse = record { found = refl; stays = refl }
 
 fall : Row 45 1 0x0040 0x1000
-unfolding wire or2 bitAt wordOf rowOf levelAt readsSet drivenFrom startOf readersOf followersOf rounds
+unfolding wire or2 bitAt wordOf listed kindAt sourceAt withSource fromEach rowOf levelAt readsSet drivenFrom startOf readersOf followersOf rounds
 fall = record { found = refl; stays = refl }
 
 -- ---- thirty-two cells
@@ -101,12 +104,12 @@ abbrev upper : List Cell
 upper = set (set (freshOf cellRoom .cells) 31 (or2 169 0)) 19 (or2 224 0)
 
 -- on sixteen cells nobody sees cells 17 to 32
-large : Settles cellRoom upper (set freshConnectors 0 (wire pushPull 20)) 8 3 0x80080000 0x0101
-unfolding wire or2 bitAt wordOf rowOf levelAt readsSet drivenFrom startOf readersOf followersOf rounds
+large : Settles cellRoom upper (withSource freshConnectors 0 20) 8 3 0x80080000 0x0101
+unfolding wire or2 bitAt wordOf listed kindAt sourceAt withSource fromEach rowOf levelAt readsSet drivenFrom startOf readersOf followersOf rounds
 large = record { found = refl; stays = refl }
 
-small : Settles cellCount upper (set freshConnectors 0 (wire pushPull 20)) 8 0 0 0x0100
-unfolding wire or2 bitAt wordOf rowOf levelAt readsSet drivenFrom startOf readersOf followersOf rounds
+small : Settles cellCount upper (withSource freshConnectors 0 20) 8 0 0 0x0100
+unfolding wire or2 bitAt wordOf listed kindAt sourceAt withSource fromEach rowOf levelAt readsSet drivenFrom startOf readersOf followersOf rounds
 small = record { found = refl; stays = refl }
 
 -- ---- other places

@@ -10,16 +10,17 @@ use lib.ListN.{getD}
 use Rattle.words.specs.Bits.{wordOf}
 use Rattle.cells.specs.declared.cell.Cell.{Cell}
 use Rattle.card.specs.declared.card.Connector.{Connector}
+use Rattle.card.specs.declared.card.Connectors.{Connectors}
 use Rattle.card.specs.Address.{connectorCount}
-use Rattle.card.specs.Connectors.{pushPull}
+use Rattle.card.specs.Connectors.{pushPull, connectorAt}
 use Rattle.card.specs.Fresh.{noCell}
-use Rattle.survey.specs.Survey.{readsSet, drivenFrom, connectorAt, setOf}
+use Rattle.survey.specs.Survey.{readsSet, drivenFrom, setOf}
 
 -- what the set starts from: the connector alone, "unless it is push-pull"
 unfoldable pub startOf : Connector → ℕ → ℕ
 startOf c k = cond (eqb (c .kind) pushPull) 0 (2 ^ k)
 
-module _ (n : ℕ) (cs : List Cell) (ds : List Connector) where
+module _ (n : ℕ) (cs : List Cell) (ds : Connectors) where
   -- the cells that read the set of two words, and the outputs that are driven from it
   unfoldable pub readersOf : (cells connectors : ℕ) → ℕ
   readersOf cells connectors = wordOf (λ i. readsSet (setOf n cells connectors) (getD cs i noCell)) n

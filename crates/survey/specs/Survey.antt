@@ -12,8 +12,9 @@ use Rattle.cells.specs.declared.cell.Cell.{Cell}
 use Rattle.cells.specs.Table.{slots, rowOf, masked, anySlot}
 use Rattle.card.specs.declared.card.Card.{Card}
 use Rattle.card.specs.declared.card.Connector.{Connector}
+use Rattle.card.specs.declared.card.Connectors.{Connectors}
 use Rattle.card.specs.Address.{connectorCount, firstCell, firstConnector, among, baseOf}
-use Rattle.card.specs.Connectors.{pushPull, isOutput, noConnector}
+use Rattle.card.specs.Connectors.{pushPull, isOutput, connectorAt}
 use Rattle.card.specs.Fresh.{noCell}
 use Rattle.ticks.specs.Reading.{levelAt}
 use Rattle.survey.specs.declared.Surveyed.{Surveyed}
@@ -32,12 +33,9 @@ readsSet set cell = anySlot (masked (rowOf (cell .kind) .used) (slotsIn set (cel
 unfoldable pub drivenFrom : (ℕ → Bool) → Connector → Bool
 drivenFrom set c = isOutput (c .kind) && set (baseOf (c .source))
 
-abbrev pub connectorAt : List Connector → ℕ → Connector
-connectorAt ds k = getD ds k noConnector
-
 -- a set that "holds the connector itself, unless it is push-pull, every cell with a used slot whose base is in the set, and every output
 -- connector whose source's base is in it"; the connector is number k of sixteen, from 0
-pub record Holds (n : ℕ) (cs : List Cell) (ds : List Connector) (k : ℕ) (set : ℕ → Bool) : Type 0 where
+pub record Holds (n : ℕ) (cs : List Cell) (ds : Connectors) (k : ℕ) (set : ℕ → Bool) : Type 0 where
   pub itself : eqb (connectorAt ds k .kind) pushPull ≡ false → set (firstConnector + k) ≡ true
   pub cells : (i : ℕ) → i < n → readsSet set (getD cs i noCell) ≡ true → set (firstCell + i) ≡ true
   pub outputs : (j : ℕ) → j < connectorCount → drivenFrom set (connectorAt ds j) ≡ true → set (firstConnector + j) ≡ true
@@ -47,7 +45,7 @@ abbrev pub setOf : (n cells connectors : ℕ) → ℕ → Bool
 setOf n cells connectors = levelAt n (bitAt cells) (bitAt connectors)
 
 -- "the smallest set that holds" these
-pub record Smallest (n : ℕ) (cs : List Cell) (ds : List Connector) (k cells connectors : ℕ) : Type 0 where
+pub record Smallest (n : ℕ) (cs : List Cell) (ds : Connectors) (k cells connectors : ℕ) : Type 0 where
   pub holds : Holds n cs ds k (setOf n cells connectors)
   pub least : (set : ℕ → Bool) → Holds n cs ds k set → (b : ℕ) → setOf n cells connectors b ≡ true → set b ≡ true
   pub cells-fit : cells < 2 ^ n

@@ -6,10 +6,10 @@ use mathlib.Core.List.{List, [], _∷_}
 use Rattle.words.specs.Bits.{bitAt}
 use Rattle.card.specs.declared.card.Card.{Card}
 use Rattle.card.specs.Address.{connectorCount, firstCell, firstConnector, among}
-use Rattle.ticks.specs.declared.tick.Input.{Input}
+use Rattle.ticks.specs.declared.view.Input.{Input}
 use Rattle.ticks.specs.declared.tick.Ticked.{Ticked}
 use Rattle.ticks.specs.Tick.{tick}
-use Rattle.ticks.specs.Counting.{Ticks, afterTick, cellAt}
+use Rattle.ticks.specs.Runs.{Ticks, afterTick, cellAt}
 use Rattle.survey.specs.declared.Surveyed.{Surveyed}
 use Rattle.survey.specs.Survey.{setOf, Survey}
 

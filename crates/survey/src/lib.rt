@@ -4,12 +4,14 @@ ghost use Prim.Native.Nat.{_≤_, _<_};
 ghost use lib.ListN.{getD};
 ghost use Rattle.words.specs.Bits.{bitAt, wordOf};
 ghost use Rattle.card.specs.Address.{cellRoom, cellsFor, connectorCount, baseOf};
-ghost use Rattle.card.specs.Connectors.{noConnector};
+ghost use Rattle.card.specs.Connectors.{connectorAt};
 ghost use Rattle.card.specs.Fresh.{noCell};
 ghost use Rattle.survey.specs.Rounds.{startOf};
 ghost use Rattle.survey.specs.Survey.{readsSet, drivenFrom, Smallest, Survey};
 use card::card::Card;
 use card::card::Connector;
+use card::card::Connectors;
+use card::connectors::connector_at;
 use card::limits::CELLS;
 use card::limits::CONNECTORS;
 use card::limits::CellWord;
@@ -90,12 +92,12 @@ fn readers(cells: [Cell; CELLS], set: u64, n: u8) -> CellWord
 }
 
 // The output connectors that are driven from the set.
-fn followers(connectors: [Connector; CONNECTORS], set: u64) -> u16
-    ensures { λ r. ⌜ r ≡ wordOf (λ j. drivenFrom (bitAt set) (getD connectors j noConnector)) connectorCount ⌝ }
+fn followers(connectors: Connectors, set: u64) -> u16
+    ensures { λ r. ⌜ r ≡ wordOf (λ j. drivenFrom (bitAt set) (connectorAt connectors j)) connectorCount ⌝ }
 {
     let mut w: u64 = 0;
     for j in 0..CONNECTORS as u32 {
-        let b = driven_from(connectors[j as usize], set);
+        let b = driven_from(connector_at(connectors, j), set);
         w = words::pushed(w, j, b);
     }
     w as u16
@@ -113,13 +115,13 @@ fn start(c: Connector, k: u32) -> u16
 }
 
 // The set of connector k of sixteen on n cells. It is grown until nothing is added: every round but the last adds a cell or a connector.
-fn reach(cells: [Cell; CELLS], connectors: [Connector; CONNECTORS], k: u32, n: u8) -> Found
+fn reach(cells: [Cell; CELLS], connectors: Connectors, k: u32, n: u8) -> Found
     requires { ⌜ k < connectorCount ⌝ }
     requires { ⌜ n ≤ cellRoom ⌝ }
     ensures { λ r. ⌜ Smallest n cells connectors k (r .cells) (r .connectors) ⌝ }
 {
     let mut found: CellWord = 0;
-    let mut lines = start(connectors[k as usize], k);
+    let mut lines = start(connector_at(connectors, k), k);
     loop {
         let set = sees(0, found, found, lines);
         let more = found | readers(cells, set, n);

@@ -1,36 +1,150 @@
--- The laws of rest. A card is at rest under an input on its own clock exactly where no cell is edited, every word stays as it was in the last two
--- ticks, and nothing stirs a cell under the one view that all readers then have.
-use Prim.Native.Nat.{ℕ, _%_, _^_, _<_, _≤_}
-use mathlib.Core.Path.{_≡_, refl, sym, ap, ap₂, subst, _∙_}
-use mathlib.Core.Bool.{Bool, true, false, not, _&&_, cond}
-use native.Mathlib.Nat.{le-of-lt, mod-eq-of-lt}
-use lib.Count.{ones}
+-- The laws of rest and of the fast path. Where no cell is edited, no word has changed in the last two ticks and no cell is stirred under the view that all
+-- readers then have, a quick tick leaves every cell and every output as it was. A card is at rest under an input on its own clock exactly where this is
+-- so and the connectors stay too.
+use Prim.Native.Nat.{ℕ, zero, suc, _+_, _*_, _^_, _≤_, _<_, _%_}
+use mathlib.Core.Path.{_≡_, refl, sym, ap, ap₂, _∙_, subst}
+use mathlib.Core.Bool.{Bool, true, false, not, _&&_}
+use mathlib.Core.List.{List, _++_}
+use mathlib.Core.Logic.{_⊎_, inl, inr}
+use native.Mathlib.Nat.{le-refl, le-of-lt, le-of-suc-le-suc, eq-or-lt-of-le, not-suc-le-zero, lt-suc-self, mod-eq-of-lt}
+use native.Mathlib.Numerals.{add-one}
+use native.Mathlib.Omega.{arith}
 use lib.Dec.{eqb}
-use lib.ListN.{getD, length}
-use borrow.Author.Tests.{eq-eqb, ne-eqb}
-use Rattle.words.specs.Bits.{bitAt, wordOf}
-use Rattle.words.proofs.Bools.{and-both}
-use Rattle.words.proofs.Laws.{bit-zero, built-fits}
+use lib.ListN.{drop, getD, length, take-append-drop}
+use lib.Pow.{pow-pos}
+use lib.Count.{ones}
+use borrow.Author.Tests.{eqb-true, not-true, eq-eqb}
+use Rattle.words.specs.Bits.{bitAt, bitNumber, wordOf}
+use Rattle.words.proofs.Laws.{bit-zero, bit-built, built-same, built-of-bits, built-fits}
+use Rattle.words.proofs.Listed.{listed-same, listed-take}
+use Rattle.words.proofs.Bools.{and-left, and-right, and-both}
+use Rattle.cells.specs.declared.cell.Cell.{Cell}
 use Rattle.cells.specs.declared.table.Slots.{Slots}
 use Rattle.cells.specs.State.{stateOf}
-use Rattle.cells.specs.Wake.{stirred}
-use Rattle.cells.proofs.Laws.{sleeps}
+use Rattle.cells.specs.Wake.{stirred, wakes}
+use Rattle.cells.proofs.Laws.{wakes-splits, disagree-self, sleeps}
 use Rattle.card.specs.declared.card.Card.{Card}
 use Rattle.card.specs.declared.card.Memory.{Memory}
 use Rattle.card.specs.Fresh.{noCell}
-use Rattle.ticks.specs.declared.connectors.Lines.{Lines}
-use Rattle.ticks.specs.declared.tick.Input.{Input}
-use Rattle.ticks.specs.declared.tick.Wires.{Wires}
+use Rattle.ticks.specs.declared.view.Wires.{Wires}
+use Rattle.ticks.specs.declared.view.Input.{Input}
 use Rattle.ticks.specs.declared.tick.Turned.{Turned}
-use Rattle.ticks.specs.Reading.{slotsRead, view}
-use Rattle.ticks.specs.Levels.{effectiveSample, linesOf}
-use Rattle.ticks.specs.Tick.{readNow, readLast, named, outputsBelow, turned, wiresOf, lines, turnedIn, ticked, idle, tick}
-use Rattle.ticks.specs.FastPath.{steadyWires, sleptAll}
-use Rattle.ticks.specs.Rest.{AtRest, stillAnswer, restAnswer, steady, cellRests, allRest}
-use Rattle.ticks.proofs.Sleep.{quick-set, read-whole}
+use Rattle.ticks.specs.declared.tick.Ticked.{Ticked}
+use Rattle.ticks.specs.Tick.{Turn, readNow, readLast, sleptTurn, named, turnAt, outputsBelow, turnOf, cellAfter, wokeAt, turned}
+use Rattle.ticks.specs.Tick.{wiresOf, lines, turnedIn, ticked, idle, tick}
+use Rattle.ticks.specs.Reading.{levelAt, slotsRead, mixed, view}
+use Rattle.ticks.specs.Rest.{steadyWires, sleptAll, steady, cellRests, allRest, AtRest, restAnswer}
 use Rattle.ticks.specs.Words.{FitsMemory}
+use Rattle.ticks.proofs.Cases.{by-tick, tick-own, tick-other}
+use Rattle.ticks.proofs.Sleep.{view-same, quick-set, read-whole}
+use Rattle.ticks.proofs.Views.{mixed-one, slots-built}
 use Rattle.ticks.proofs.Ticks.{outputs-built}
-use Rattle.ticks.proofs.FastPath.{view-any, rest-all, quiet-turned}
+
+-- ---- what the tests say
+
+pub steady-wires : (w : Wires) → steady w ≡ true → w ≡ steadyWires (w .outputs) (w .levels)
+steady-wires w h =
+    let outputs = and-left _ _ h in
+    let levels = and-right (eqb (w .outputs2) (w .outputs) && eqb (w .outputs3) (w .outputs)) _ h in
+    let o2 = eqb-true (w .outputs2) (w .outputs) (and-left _ _ outputs) in
+    let o3 = eqb-true (w .outputs3) (w .outputs) (and-right (eqb (w .outputs2) (w .outputs)) _ outputs) in
+    let l2 = eqb-true (w .levels2) (w .levels) (and-left _ _ levels) in
+    let l3 = eqb-true (w .levels3) (w .levels) (and-right (eqb (w .levels2) (w .levels)) _ levels) in
+    λ i. record { levels = w .levels; levels2 = l2 i; levels3 = l3 i; outputs = w .outputs; outputs2 = o2 i; outputs3 = o3 i }
+
+-- all rest exactly where each does
+pub rest-at : (n : ℕ) (v : ℕ → Bool) (cells : List Cell) → allRest n v cells ≡ true → (i : ℕ) → i < n → cellRests v (getD cells i noCell) ≡ true
+unfolding allRest
+rest-at zero v cells all i h = absurd (not-suc-le-zero h)
+rest-at (suc n) v cells all i h = go (rest-at n v cells (and-left (allRest n v cells) _ all) i) (eq-or-lt-of-le (le-of-suc-le-suc h))
+  where
+    go : (i < n → cellRests v (getD cells i noCell) ≡ true) → (i ≡ n) ⊎ (i < n) → cellRests v (getD cells i noCell) ≡ true
+    go below (inl e) = rw e (and-right (allRest n v cells) _ all)
+    go below (inr l) = below l
+
+pub rest-all : (n : ℕ) (v : ℕ → Bool) (cells : List Cell) → ((i : ℕ) → i < n → cellRests v (getD cells i noCell) ≡ true) → allRest n v cells ≡ true
+unfolding allRest
+rest-all zero v cells each = refl
+rest-all (suc n) v cells each = rw (rest-all n v cells (λ i h. each i (omega arith)), each n (lt-suc-self n))
+
+-- one cell more rests, and a cell that does not
+pub rest-next : (k : ℕ) (v : ℕ → Bool) (cells : List Cell) → allRest k v cells ≡ true → cellRests v (getD cells k noCell) ≡ true
+    → allRest (k + 1) v cells ≡ true
+unfolding allRest
+rest-next k v cells all last = rw (add-one, all, last)
+
+pub rest-fails : (n : ℕ) (v : ℕ → Bool) (cells : List Cell) (i : ℕ) → i < n → cellRests v (getD cells i noCell) ≡ false → allRest n v cells ≡ false
+rest-fails n v cells i h stirs = go (allRest n v cells) refl
+  where
+    go : (b : Bool) → allRest n v cells ≡ b → b ≡ false
+    go true e = sym (rest-at n v cells e i h) ∙ stirs
+    go false e = refl
+
+-- the word of a view reads as the view
+pub rest-seen : (n : ℕ) (v : ℕ → Bool) (w : ℕ) (cells : List Cell) → w ≡ wordOf v 64 → allRest n v cells ≡ allRest n (bitAt w) cells
+unfolding allRest
+rest-seen zero v w cells e = refl
+rest-seen (suc n) v w cells e =
+    let cell = getD cells n noCell in
+    let seen = sym (slots-built v v (cell .slots)) ∙ ap (λ (x : ℕ). slotsRead (bitAt x) (bitAt x) (cell .slots)) (sym e) in
+    ap₂ _&&_ (rest-seen n v w cells e) (ap (λ (r : Slots). not (stirred (cell .kind) (stateOf cell) r)) seen)
+
+-- every position sees the one view
+mixed-any : (i o j : ℕ) → mixed i o o j ≡ mixed 0 o o j
+mixed-any i o j = mixed-one i o j ∙ sym (mixed-one 0 o j)
+
+pub view-any : (n i o l : ℕ) → view n i o o l ≡ view n 0 o o l
+unfolding view
+view-any n i o l = λ k b. levelAt n (λ j. mixed-any i o j k) (bitAt l) b
+
+wakes-not : (cell : Cell) (edited : Bool) (now last r : Slots) → edited ≡ false → now ≡ r → last ≡ r
+    → stirred (cell .kind) (stateOf cell) r ≡ false → wakes (cell .kind) (stateOf cell) edited now last ≡ false
+wakes-not cell edited now last r e en el quiet =
+    wakes-splits (cell .kind) (stateOf cell) edited now last ∙ rw (e, en, el, quiet) (disagree-self (cell .kind) r)
+
+module _ (n o l : ℕ) (cells : List Cell) (rest : allRest n (view n 0 o o l) cells ≡ true) where
+  w : Wires
+  w = steadyWires o l
+
+  below : ℕ → ℕ
+  below = outputsBelow n false cells 0 w
+
+  -- where the outputs below i are as they were, cell i sleeps
+  turn-slept : (i b : ℕ) → i < n → ((j : ℕ) → j < i → bitAt b j ≡ bitAt o j)
+      → turnAt n false (getD cells i noCell) i 0 w b ≡ sleptTurn (getD cells i noCell) (bitAt o i)
+  unfolding w turnAt named readNow readLast
+  turn-slept i b h same =
+      let cell = getD cells i noCell in
+      let v = view n 0 o o l in
+      let r = slotsRead v v (cell .slots) in
+      let any = view-any n i o l in
+      let now = ap₂ (λ (f g : ℕ → Bool). slotsRead f g (cell .slots)) (view-same n i b o o l same ∙ any) any in
+      let last = ap₂ (λ (f g : ℕ → Bool). slotsRead f g (cell .slots)) any any in
+      rw (wakes-not cell (bitAt 0 i) _ _ r (bit-zero i) now last (not-true _ (rest-at n v cells rest i h)))
+
+  below-same : (i : ℕ) → i ≤ n → below i ≡ wordOf (bitAt o) i
+  unfolding below outputsBelow wordOf
+  below-same zero h = refl
+  below-same (suc i) h =
+      let ih = below-same i (le-of-lt h) in
+      let turn = turn-slept i (below i) h (λ j k. ap (λ (x : ℕ). bitAt x j) ih ∙ bit-built (bitAt o) i j k) in
+      ap₂ (λ (x : ℕ) (t : Turn). x + bitNumber (t .out) * 2 ^ i) ih turn
+
+  turn-of : (i : ℕ) → i < n → turnOf n false cells 0 w i ≡ sleptTurn (getD cells i noCell) (bitAt o i)
+  unfolding below
+  turn-of i h = turn-slept i (below i) h (λ j k. ap (λ (x : ℕ). bitAt x j) (below-same i (le-of-lt h)) ∙ bit-built (bitAt o) i j k)
+
+  pub quiet-turned : n ≤ length cells → o < 2 ^ n → turned n false cells 0 (steadyWires o l) ≡ sleptAll cells o
+  unfolding turned w below
+  quiet-turned hc ho =
+      let stay = listed-same (cellAfter n false cells 0 w) (λ i. getD cells i noCell) n (λ i h. ap (λ (t : Turn). t .cell) (turn-of i h)) in
+      let cs = ap (λ (l : List Cell). l ++ drop n cells) (stay ∙ listed-take cells noCell n hc) ∙ take-append-drop n cells in
+      let out = below-same n (le-refl n) ∙ built-of-bits o n ho in
+      let set = built-same (wokeAt n false cells 0 w) (bitAt 0) n (λ i h. ap (λ (t : Turn). t .woke) (turn-of i h) ∙ sym (bit-zero i))
+      ∙ built-of-bits 0 n (pow-pos n) in
+      λ k. record { cells = cs k; outputs = out k; woken = set k }
+
+-- ---- cards at rest
 
 -- the words of the last two ticks are the same
 pub record StillMemory (m : Memory) : Type 0 where
@@ -66,17 +180,15 @@ steady-memory m e =
 
 -- another clock's tick is idle, and leaves a card at rest
 pub idle-rests : (n : ℕ) (c : Card) (input : Input) → (input .code ≡ c .trigger → ⊥) → AtRest n c input
-unfolding tick
 idle-rests n c input other =
-    let e = ne-eqb (input .code) (c .trigger) other in
-    record { asleep = rw e; kept = rw e }
+    let e = tick-other n false c input other in
+    record { asleep = ap (λ (t : Ticked). t .answer .woken) e; kept = ap (λ (t : Ticked). t .card) e }
 
 -- the cell word of a card at rest is one that a tick gives
 pub rest-fits : (n : ℕ) (c : Card) (input : Input) → input .code ≡ c .trigger → AtRest n c input → c .memory .outputs < 2 ^ n
-unfolding tick turned
+unfolding turned
 rest-fits n c input own rest =
-    let on = eq-eqb (input .code) (c .trigger) own in
-    let kept : ticked n false c input .card ≡ c = rw on at (rest .kept) in
+    let kept = sym (ap (λ (t : Ticked). t .card) (tick-own n false c input own)) ∙ rest .kept in
     let w = wiresOf (c .memory) (lines n c input .levels) in
     subst (λ (x : ℕ). x < 2 ^ n) (ap (λ (d : Card). d .memory .outputs) kept)
     (built-fits _ n _ (outputs-built n false (c .cells) (c .edited) w n))
@@ -104,11 +216,10 @@ module _ (n : ℕ) (c : Card) (input : Input) where
       ap (λ (r : Slots). not (stirred (cell .kind) (stateOf cell) r)) (sym seen) ∙ ap not quiet
 
   pub rests-still : input .code ≡ c .trigger → AtRest n c input → Still n c input
-  unfolding tick
   rests-still own rest =
-      let on = eq-eqb (input .code) (c .trigger) own in
-      let kept : ticked n false c input .card ≡ c = rw on at (rest .kept) in
-      let asleep : turnedIn n false c (lines n c input .levels) .woken ≡ 0 = rw on at (rest .asleep) in
+      let ran = tick-own n false c input own in
+      let kept = sym (ap (λ (t : Ticked). t .card) ran) ∙ rest .kept in
+      let asleep = sym (ap (λ (t : Ticked). t .answer .woken) ran) ∙ rest .asleep in
       let memory = ap (λ (d : Card). d .memory) kept in
       let whole : c .memory .outputs % 2 ^ n ≡ c .memory .outputs = mod-eq-of-lt (rest-fits n c input own rest) in
       let second = sym (ap (λ (m : Memory). m .outputs2) memory) ∙ whole in
@@ -144,9 +255,8 @@ module _ (n : ℕ) (c : Card) (input : Input) where
       (λ k. turned n false (c .cells) (s .edited k) (words k)) ∙ quiet-turned n (m .outputs) (m .levels) (c .cells) (s .cells) hc ho
 
   pub still-rests : n ≤ length (c .cells) → c .memory .outputs < 2 ^ n → Still n c input → AtRest n c input
-  unfolding tick
   still-rests hc ho s =
-      let r = go (eqb (input .code) (c .trigger)) in
+      let r = by-tick n false c input (λ t. (t .answer .woken ≡ 0) × (t .card ≡ c)) (λ _. (ap (λ (x : Turned). x .woken) t, kept)) (λ _. (refl, refl)) in
       record { asleep = r .0; kept = r .1 }
     where
       t : turnedIn n false c (lines n c input .levels) ≡ sleptAll (c .cells) (c .memory .outputs)
@@ -174,21 +284,15 @@ module _ (n : ℕ) (c : Card) (input : Input) where
             };
           }
 
-      go : (b : Bool) → (cond b (ticked n false c input) (idle c) .answer .woken ≡ 0) × (cond b (ticked n false c input) (idle c) .card ≡ c)
-      go true = (ap (λ (x : Turned). x .woken) t, kept)
-      go false = (refl, refl)
-
   -- ---- what a tick at rest answers
 
   pub rest-answers : AtRest n c input → tick n false c input .answer ≡ restAnswer c input
-  unfolding tick ones
-  rest-answers rest = go (eqb (input .code) (c .trigger)) (rest .asleep) (rest .kept)
-    where
-      go : (b : Bool) → cond b (ticked n false c input) (idle c) .answer .woken ≡ 0 → cond b (ticked n false c input) (idle c) .card ≡ c
-          → cond b (ticked n false c input) (idle c) .answer ≡ cond b (stillAnswer (c .memory)) (idle c .answer)
-      go true none kept = λ k.
-          record { ran = true; driven = kept k .memory .driven; cells = kept k .memory .outputs; woken = none k; count = ones (none k) }
-      go false none kept = refl
+  unfolding ones
+  rest-answers rest =
+      by-tick n false c input (λ t. t .answer .woken ≡ 0 → t .card ≡ c → t .answer ≡ restAnswer c input)
+      (λ e none kept. rw e (λ k.
+      record { ran = true; driven = kept k .memory .driven; cells = kept k .memory .outputs; woken = none k; count = ones (none k) }))
+      (λ e none kept. rw e) (rest .asleep) (rest .kept)
 
 -- ---- a card of n cells, whose words are those of n cells
 

@@ -1,12 +1,12 @@
 -- The count of an answer is at most the number of cells: what a caller needs to print it.
 use Prim.Native.Nat.{ℕ, zero, suc, _+_, _≤_, zero-le}
-use mathlib.Core.Bool.{Bool, true, false, cond}
+use mathlib.Core.Bool.{Bool, true, false}
 use native.Mathlib.Omega.{arith}
-use lib.Dec.{eqb}
 use Rattle.words.specs.Bits.{bitNumber, countOf}
 use Rattle.card.specs.declared.card.Card.{Card}
-use Rattle.ticks.specs.declared.tick.Input.{Input}
-use Rattle.ticks.specs.Tick.{wokeAt, wiresOf, lines, ticked, idle, tick}
+use Rattle.ticks.specs.declared.view.Input.{Input}
+use Rattle.ticks.specs.Tick.{wokeAt, wiresOf, lines, tick}
+use Rattle.ticks.proofs.Cases.{by-tick}
 use Rattle.ticks.proofs.Sleep.{count-is}
 
 count-le : (f : ℕ → Bool) (n : ℕ) → countOf f n ≤ n
@@ -19,11 +19,7 @@ count-le f (suc n) = go (f n) (count-le f n)
     go false h = omega arith
 
 pub tick-count : (n : ℕ) (full : Bool) (c : Card) (input : Input) → tick n full c input .answer .count ≤ n
-unfolding tick
-tick-count n full c input = go (eqb (input .code) (c .trigger))
-  where
-    go : (b : Bool) → cond b (ticked n full c input) (idle c) .answer .count ≤ n
-    go true =
-        let w = wiresOf (c .memory) (lines n c input .levels) in
-        rw (count-is n full (c .cells) (c .edited) w) (count-le (wokeAt n full (c .cells) (c .edited) w) n)
-    go false = zero-le
+tick-count n full c input =
+    let w = wiresOf (c .memory) (lines n c input .levels) in
+    by-tick n full c input (λ t. t .answer .count ≤ n)
+    (λ _. rw (count-is n full (c .cells) (c .edited) w) (count-le (wokeAt n full (c .cells) (c .edited) w) n)) (λ _. zero-le)

@@ -1,7 +1,7 @@
 -- A tick works out exactly the cells that are due, on any card.
 use Prim.Native.Nat.{ℕ, _+_, _-_, _≤_, _<_}
-use mathlib.Core.Path.{_≡_, refl, sym, ap, subst, _∙_}
-use mathlib.Core.Bool.{Bool, true, false, cond}
+use mathlib.Core.Path.{_≡_, refl, sym, ap, _∙_}
+use mathlib.Core.Bool.{Bool}
 use mathlib.Core.List.{List, _++_}
 use native.Mathlib.Omega.{arith}
 use lib.ListN.{drop, getD}
@@ -11,16 +11,15 @@ use Rattle.words.specs.Bits.{bitAt, countOf}
 use Rattle.words.specs.Listed.{listed}
 use Rattle.words.proofs.Laws.{bit-built, built-lt, built-fits, ones-built}
 use Rattle.words.proofs.Listed.{front-at, length-listed}
-use Rattle.cells.specs.declared.table.Slots.{Slots}
 use Rattle.cells.specs.declared.cell.Cell.{Cell}
-use Rattle.cells.specs.State.{stateOf, withState}
-use Rattle.cells.specs.Work.{workOut}
 use Rattle.card.specs.declared.card.Card.{Card}
 use Rattle.card.specs.Fresh.{noCell}
-use Rattle.ticks.specs.declared.tick.Input.{Input}
-use Rattle.ticks.specs.Tick.{readLast, workedTurn, sleptTurn, named, turnAt, cellAfter, wokeAt, turned, wiresOf, lines, ticked, idle, tick}
+use Rattle.ticks.specs.declared.connectors.Lines.{Lines}
+use Rattle.ticks.specs.declared.view.Input.{Input}
+use Rattle.ticks.specs.Tick.{readLast, turnAt, cellAfter, wokeAt, turned, wiresOf, lines, tickedOn, ticked, idle, tickOn, tick}
 use Rattle.ticks.specs.Settled.{remembered}
-use Rattle.ticks.specs.Exact.{cellBefore, readsAt, dueAt, cellExact, outputExact, Exact, WorksExactly}
+use Rattle.ticks.specs.Exact.{cellBefore, dueAt, cellExact, outputExact, Exact, WorksExactly}
+use Rattle.ticks.proofs.Cases.{turn-due, turn-cell, turn-out, tick-other}
 use Rattle.ticks.proofs.Sleep.{output-bit}
 use Rattle.ticks.proofs.Ticks.{outputs-built}
 
@@ -38,56 +37,39 @@ past-at f n l i h =
 counts-same : (f g : ℕ → Bool) (n : ℕ) → ((i : ℕ) → f i ≡ g i) → countOf f n ≡ countOf g n
 counts-same f g n same = λ k. countOf (λ i. same i k) n
 
--- a turn, worked out or slept
-module _ (cell : Cell) (now : Slots) (out : Bool) where
-  woke-of : (b : Bool) → cond b (workedTurn cell now) (sleptTurn cell out) .woke ≡ b
-  woke-of true = refl
-  woke-of false = refl
-
-  cell-of : (b : Bool)
-      → cond b (workedTurn cell now) (sleptTurn cell out) .cell
-      ≡ cond b (withState cell (workOut (cell .kind) (cell .config) (stateOf cell) now .state)) cell
-  cell-of true = refl
-  cell-of false = refl
-
-  out-of : (b : Bool)
-      → cond b (workedTurn cell now) (sleptTurn cell out) .out ≡ cond b (workOut (cell .kind) (cell .config) (stateOf cell) now .out) out
-  out-of true = refl
-  out-of false = refl
-
-module _ (n : ℕ) (full : Bool) (c : Card) (input : Input) where
+module _ (n : ℕ) (full : Bool) (c : Card) (l : Lines) where
   -- a cell is due where its turn works it out
-  turn-due : (i : ℕ) → wokeAt n full (c .cells) (c .edited) (wiresOf (c .memory) (lines n c input .levels)) i ≡ dueAt n full c input i
-  unfolding turnAt named readLast remembered
-  turn-due i = woke-of (cellBefore c i) (readsAt n full c input i) (bitAt (c .memory .outputs) i) (dueAt n full c input i)
+  due-at : (i : ℕ) → wokeAt n full (c .cells) (c .edited) (wiresOf (c .memory) (l .levels)) i ≡ dueAt n full c (l .levels) i
+  unfolding turnAt readLast remembered
+  due-at i = turn-due full (cellBefore c i) _ _ _ _
 
   -- each cell, and its output
-  pub cell-exact : (i : ℕ) → i < n → getD (ticked n full c input .card .cells) i noCell ≡ cellExact n full c input i
-  unfolding turned turnAt named readLast remembered
-  cell-exact i h =
-      let w = wiresOf (c .memory) (lines n c input .levels) in
+  pub cell-exact-on : (i : ℕ) → i < n → getD (tickedOn n full c l .card .cells) i noCell ≡ cellExact n full c (l .levels) i
+  unfolding turned turnAt readLast remembered
+  cell-exact-on i h =
+      let w = wiresOf (c .memory) (l .levels) in
       front-at (cellAfter n full (c .cells) (c .edited) w) n (c .cells) i noCell h
-      ∙ cell-of (cellBefore c i) (readsAt n full c input i) (bitAt (c .memory .outputs) i) (dueAt n full c input i)
+      ∙ turn-cell full (cellBefore c i) _ _ _ _
 
-  output-exact : (i : ℕ) → i < n → bitAt (ticked n full c input .answer .cells) i ≡ outputExact n full c input i
-  unfolding turned turnAt named readLast remembered
+  output-exact : (i : ℕ) → i < n → bitAt (tickedOn n full c l .answer .cells) i ≡ outputExact n full c (l .levels) i
+  unfolding turned turnAt readLast remembered
   output-exact i h =
-      let w = wiresOf (c .memory) (lines n c input .levels) in
+      let w = wiresOf (c .memory) (l .levels) in
       output-bit n full (c .cells) (c .edited) w n i h
-      ∙ out-of (cellBefore c i) (readsAt n full c input i) (bitAt (c .memory .outputs) i) (dueAt n full c input i)
+      ∙ turn-out full (cellBefore c i) _ _ _ _
 
-  ticked-exact : Exact n full c input (ticked n full c input)
+  ticked-exact : Exact n full c l (tickedOn n full c l)
   unfolding turned
   ticked-exact =
-      let w = wiresOf (c .memory) (lines n c input .levels) in
+      let w = wiresOf (c .memory) (l .levels) in
       let woke = wokeAt n full (c .cells) (c .edited) w in
       record {
         ran = refl;
-        woken = λ i h. bit-built woke n i h ∙ turn-due i;
-        cell = cell-exact;
+        woken = λ i h. bit-built woke n i h ∙ due-at i;
+        cell = cell-exact-on;
         output = output-exact;
         count = refl;
-        counted = ones-built woke n ∙ counts-same woke (dueAt n full c input) n turn-due;
+        counted = ones-built woke n ∙ counts-same woke (dueAt n full c (l .levels)) n due-at;
         setFits = built-lt woke n;
         wordFits = built-fits _ n _ (outputs-built n full (c .cells) (c .edited) w n);
         beyond = past-at (cellAfter n full (c .cells) (c .edited) w) n (c .cells);
@@ -100,14 +82,24 @@ module _ (n : ℕ) (full : Bool) (c : Card) (input : Input) where
         memory = refl;
       }
 
-  own-exact : input .code ≡ c .trigger → Exact n full c input (tick n full c input)
-  unfolding tick
-  own-exact own =
-      subst (λ (b : Bool). Exact n full c input (cond b (ticked n full c input) (idle c))) (sym (eq-eqb (input .code) (c .trigger) own)) ticked-exact
+module _ (n : ℕ) (full : Bool) (c : Card) where
+  own-exact : (code : ℕ) (l : Lines) → code ≡ c .trigger → Exact n full c l (tickOn n full c code l)
+  own-exact code l own = rw (eq-eqb code (c .trigger) own) (ticked-exact n full c l)
 
-  other-idle : (input .code ≡ c .trigger → ⊥) → tick n full c input ≡ idle c
-  unfolding tick
-  other-idle other = rw (ne-eqb (input .code) (c .trigger) other)
+  other-idle : (code : ℕ) (l : Lines) → (code ≡ c .trigger → ⊥) → tickOn n full c code l ≡ idle c
+  other-idle code l other = rw (ne-eqb code (c .trigger) other)
 
 pub works-exactly : (n : ℕ) → WorksExactly n
-works-exactly n = record { own = own-exact n; other = other-idle n }
+unfolding tick
+works-exactly n =
+    record {
+      own-on = own-exact n;
+      other-on = other-idle n;
+      own = λ full c input. own-exact n full c (input .code) (lines n c input);
+      other = λ full c input. tick-other n full c input;
+    }
+
+-- a cell after a tick with the card's own lines
+pub cell-exact : (n : ℕ) (full : Bool) (c : Card) (input : Input) (i : ℕ) → i < n
+    → getD (ticked n full c input .card .cells) i noCell ≡ cellExact n full c (lines n c input .levels) i
+cell-exact n full c input = cell-exact-on n full c (lines n c input)

@@ -1,11 +1,14 @@
 -- Laws of ticks that several functions or the crates above cite.
 pub mod AtRest
+pub mod Cases
 pub mod Counting
 pub mod Counts
+pub mod Drives
 pub mod Effective
 pub mod Exact
-pub mod FastPath
+pub mod Lowest
 pub mod Quarters
+pub mod Runs
 pub mod Sleep
 pub mod Ticks
 pub mod Trim

@@ -8,11 +8,12 @@ use native.Mathlib.Nat.{le-refl, lt-of-lt-of-le, le-of-lt}
 use native.Mathlib.Decide.{decLt}
 use native.Mathlib.Omega.{arith}
 use lib.Count.{ones}
-use lib.Dec.{ltb, eqb}
+use lib.Dec.{ltb}
 use lib.ListN.{drop, getD, getD-replicate, replicate, length-replicate, List·getD-append}
 use borrow.Author.Tests.{lt-ltb, le-ltb}
 use Rattle.words.specs.Bits.{bitAt, bitNumber, countOf}
 use Rattle.words.specs.Listed.{listed}
+use Rattle.words.proofs.Bools.{or-right}
 use Rattle.words.proofs.Laws.{bit-zero, bit-built, built-all, ones-built}
 use Rattle.words.proofs.Listed.{front-at, listed-same}
 use Rattle.cells.specs.declared.table.Slots.{Slots}
@@ -25,16 +26,18 @@ use Rattle.card.specs.declared.card.Card.{Card}
 use Rattle.card.specs.declared.card.Memory.{Memory}
 use Rattle.card.specs.Address.{cellCount, cellRoom}
 use Rattle.card.specs.Fresh.{clearState, freshCell, noMemory, started, freshOf, noCell}
-use Rattle.card.specs.declared.card.Connector.{Connector}
+use Rattle.card.specs.declared.card.Connectors.{Connectors}
 use Rattle.card.specs.Untouched.{Edit}
 use Rattle.card.proofs.EditLaws.{all-edited}
-use Rattle.ticks.specs.declared.tick.Input.{Input}
-use Rattle.ticks.specs.declared.tick.Wires.{Wires}
+use Rattle.ticks.specs.declared.connectors.Lines.{Lines}
+use Rattle.ticks.specs.declared.view.Input.{Input}
+use Rattle.ticks.specs.declared.view.Wires.{Wires}
 use Rattle.ticks.specs.Reading.{levelAt, slotsRead, mixed, view}
-use Rattle.ticks.specs.Tick.{readNow, readLast, turnTo, workedTurn, sleptTurn, named, turnAt, outputsBelow, cellAfter, wokeAt, turned}
-use Rattle.ticks.specs.Tick.{trimmed, wiresOf, lines, cardAfter, readIn, ticked, idle, tick}
+use Rattle.ticks.specs.Tick.{readNow, readLast, turnTo, workedTurn, named, turnAt, outputsBelow, cellAfter, namedAt, wokeAt, turned}
+use Rattle.ticks.specs.Tick.{trimmed, wiresOf, lines, cardAfter, readOn, readIn, tickedOn, ticked, tickOn, tick}
 use Rattle.ticks.specs.Settled.{remembered, Keeps, Settled, AlikeTicks}
 use Rattle.ticks.specs.Examples.{clock0, unsettled, wrong-stays, wrong-goes}
+use Rattle.ticks.proofs.Cases.{by-turn, turn-named, all-or-named, by-tick-on, by-ticks-on}
 use Rattle.ticks.proofs.Trim.{view-agree, cut}
 use Rattle.ticks.proofs.Views.{view-low}
 use Rattle.ticks.proofs.Ticks.{outAt, outputs-built}
@@ -90,32 +93,40 @@ full-set n cells edited w = built-all n
 pub full-large : (cells : List Cell) (edited : ℕ) (w : Wires) → turned cellRoom true cells edited w .woken ≡ 4294967295
 full-large cells edited w = full-set cellRoom cells edited w
 
-cond-woke : (b : Bool) (cell : Cell) (now : Slots) (out : Bool) → cond b (workedTurn cell now) (sleptTurn cell out) .woke ≡ b
-cond-woke true cell now out = refl
-cond-woke false cell now out = refl
+-- the set has a cell where the tick is full or the rules name it
+pub woken-set : (n : ℕ) (full : Bool) (cells : List Cell) (edited : ℕ) (w : Wires) (i : ℕ) → i < n
+    → bitAt (turned n full cells edited w .woken) i ≡ (full || namedAt n full cells edited w i)
+unfolding turned turnAt
+woken-set n full cells edited w i h = bit-built (wokeAt n full cells edited w) n i h ∙ all-or-named full (getD cells i noCell) _ _ _ _
+
+-- whom the rules name: it goes by the cells below, as the tick left them
+pub named-at : (n : ℕ) (full : Bool) (cells : List Cell) (edited : ℕ) (w : Wires) (i : ℕ)
+    → namedAt n full cells edited w i ≡ named n (getD cells i noCell) i edited w (outputsBelow n full cells edited w i)
+unfolding turnAt named
+named-at n full cells edited w i = turn-named full (getD cells i noCell) _ _ _ _
 
 -- a quick tick's set is exactly the cells that the rules name
 pub quick-set : (n : ℕ) (cells : List Cell) (edited : ℕ) (w : Wires) (i : ℕ) → i < n
     → bitAt (turned n false cells edited w .woken) i ≡ named n (getD cells i noCell) i edited w (outputsBelow n false cells edited w i)
-unfolding turned turnAt
-quick-set n cells edited w i h =
-    bit-built (wokeAt n false cells edited w) n i h
-    ∙ cond-woke (named n (getD cells i noCell) i edited w (outputsBelow n false cells edited w i)) _ _ _
+quick-set n cells edited w i h = woken-set n false cells edited w i h ∙ named-at n false cells edited w i
 
 -- ---- the memory
 
 -- after a tick that ran, the memory says of each reader what it read in it: cells and connectors, levels and edges
-pub remembers : (n : ℕ) (full : Bool) (c : Card) (input : Input) (i : ℕ) (s : List ℕ) → i ≤ n
-    → remembered n i (ticked n full c input .card .memory) s ≡ readIn n full c input i s
+pub remembers-on : (n : ℕ) (full : Bool) (c : Card) (l : Lines) (i : ℕ) (s : List ℕ) → i ≤ n
+    → remembered n i (tickedOn n full c l .card .memory) s ≡ readOn n full c (l .levels) i s
 unfolding remembered turned readNow
-remembers n full c input i s h =
+remembers-on n full c l i s h =
     let m = c .memory in
-    let l = lines n c input .levels in
-    let w = wiresOf m l in
+    let w = wiresOf m (l .levels) in
     let o = outputsBelow n full (c .cells) (c .edited) w n in
-    let now = view-agree n i o o (m .outputs % 2 ^ n) (m .outputs) l (λ j k. refl) (cut n (m .outputs)) in
+    let now = view-agree n i o o (m .outputs % 2 ^ n) (m .outputs) (l .levels) (λ j k. refl) (cut n (m .outputs)) in
     let last = view-agree n i _ (m .outputs) _ (m .outputs2) (m .levels) (cut n (m .outputs)) (cut n (m .outputs2)) in
     (λ k. slotsRead (now k) (last k) s) ∙ read-whole n full (c .cells) (c .edited) w n i s h
+
+pub remembers : (n : ℕ) (full : Bool) (c : Card) (input : Input) (i : ℕ) (s : List ℕ) → i ≤ n
+    → remembered n i (ticked n full c input .card .memory) s ≡ readIn n full c input i s
+remembers n full c input = remembers-on n full c (lines n c input)
 
 -- before a tick, what its readers had read in the last one is what the memory says
 pub recalls : (n i : ℕ) (m : Memory) (levels : ℕ) (s : List ℕ) → readLast n i (wiresOf m levels) s ≡ remembered n i m s
@@ -130,7 +141,7 @@ started-low n i = λ k s. slotsRead (view-low n i k) (view-low n i k) s
 -- ---- settled cards
 
 -- a cell that was worked out keeps what it got
-keeps-worked : (cell : Cell) (now : Slots) → Keeps (workedTurn cell now .cell) (workedTurn cell now .out) now
+keeps-worked : (cell : Cell) (now : Slots) → Keeps (workedTurn cell true now .cell) (workedTurn cell true now .out) now
 unfolding Keeps
 keeps-worked cell now next agree quiet =
     again (cell .kind) (cell .config) (stateOf cell) now next (disagree-sym (cell .kind) now next ∙ agree) quiet
@@ -140,14 +151,10 @@ keeps-slept : (cell : Cell) (out : Bool) (now last : Slots) → disagree (cell .
 unfolding Keeps
 keeps-slept cell out now last same keeps next agree quiet = keeps next (disagree-trans (cell .kind) next now last agree same) quiet
 
--- the turn of a cell, whether it was worked out or slept: it keeps what the turn left, and the turn leaves its slots
-turn-slots : (b : Bool) (cell : Cell) (now : Slots) (out : Bool) → cond b (workedTurn cell now) (sleptTurn cell out) .cell .slots ≡ cell .slots
-turn-slots true cell now out = refl
-turn-slots false cell now out = refl
-
+-- the turn of a cell leaves its slots
 slots-stay : (n : ℕ) (full : Bool) (cell : Cell) (i edited : ℕ) (w : Wires) (below : ℕ) → turnAt n full cell i edited w below .cell .slots ≡ cell .slots
 unfolding turnAt
-slots-stay n full cell i edited w below = turn-slots (full || named n cell i edited w below) cell _ _
+slots-stay n full cell i edited w below = by-turn full cell _ _ _ _ (λ t. t .cell .slots ≡ cell .slots) (λ _. refl) (λ _. refl)
 
 module _ (n : ℕ) (c : Card) (levels : ℕ) (settled : Settled n c) where
   -- a cell that the rules do not name is settled under what the last tick read
@@ -166,37 +173,32 @@ module _ (n : ℕ) (c : Card) (levels : ℕ) (settled : Settled n c) where
   -- either kind of turn leaves a cell that keeps its state and output under what it has now read
   turn-keeps : (full : Bool) (i below : ℕ) → i < n → let t = turnAt n full (getD (c .cells) i noCell) i (c .edited) (wiresOf (c .memory) levels) below in
       Keeps (t .cell) (t .out) (readNow n i (wiresOf (c .memory) levels) below (getD (c .cells) i noCell .slots))
-  unfolding turnAt
-  turn-keeps true i below h = keeps-worked _ _
-  turn-keeps false i below h = go (named n (getD (c .cells) i noCell) i (c .edited) (wiresOf (c .memory) levels) below) refl
-    where
-      go : (b : Bool) → named n (getD (c .cells) i noCell) i (c .edited) (wiresOf (c .memory) levels) below ≡ b
-          → let cell = getD (c .cells) i noCell in
-          let now = readNow n i (wiresOf (c .memory) levels) below (cell .slots) in
-          let t = cond b (workedTurn cell now) (sleptTurn cell (bitAt (c .memory .outputs) i)) in Keeps (t .cell) (t .out) now
-      go true e = keeps-worked _ _
-      go false e =
-          let k = slept-keeps i below h e in
-          keeps-slept (getD (c .cells) i noCell) (bitAt (c .memory .outputs) i) _ _ (k .0) (k .2)
+  unfolding turnAt named
+  turn-keeps full i below h =
+      let cell = getD (c .cells) i noCell in
+      let now = readNow n i (wiresOf (c .memory) levels) below (cell .slots) in
+      by-turn full cell _ (bitAt (c .memory .outputs) i) now _ (λ t. Keeps (t .cell) (t .out) now)
+      (λ e. keeps-worked cell now)
+      (λ e.
+      let k = slept-keeps i below h (or-right full _ e) in
+      keeps-slept cell (bitAt (c .memory .outputs) i) _ _ (k .0) (k .2))
 
   -- and the two kinds leave the same cell and the same output
   turn-same : (i below : ℕ) → i < n
       → let quick = turnAt n false (getD (c .cells) i noCell) i (c .edited) (wiresOf (c .memory) levels) below in
       let whole = turnAt n true (getD (c .cells) i noCell) i (c .edited) (wiresOf (c .memory) levels) below in
       (quick .cell ≡ whole .cell) × (quick .out ≡ whole .out)
-  unfolding turnAt Keeps
-  turn-same i below h = go (named n (getD (c .cells) i noCell) i (c .edited) (wiresOf (c .memory) levels) below) refl
-    where
-      go : (b : Bool) → named n (getD (c .cells) i noCell) i (c .edited) (wiresOf (c .memory) levels) below ≡ b
-          → let cell = getD (c .cells) i noCell in
-          let now = readNow n i (wiresOf (c .memory) levels) below (cell .slots) in
-          let quick = cond b (workedTurn cell now) (sleptTurn cell (bitAt (c .memory .outputs) i)) in
-          (quick .cell ≡ workedTurn cell now .cell) × (quick .out ≡ workedTurn cell now .out)
-      go true e = (refl, refl)
-      go false e =
-          let k = slept-keeps i below h e in
-          let w = k .2 (readNow n i (wiresOf (c .memory) levels) below (getD (c .cells) i noCell .slots)) (k .0) (k .1) in
-          (ap (λ (r : Worked). turnTo (getD (c .cells) i noCell) r .cell) (sym w), ap (λ (r : Worked). r .out) (sym w))
+  unfolding turnAt named Keeps
+  turn-same i below h =
+      let cell = getD (c .cells) i noCell in
+      let now = readNow n i (wiresOf (c .memory) levels) below (cell .slots) in
+      by-turn false cell _ (bitAt (c .memory .outputs) i) now _
+      (λ t. (t .cell ≡ workedTurn cell true now .cell) × (t .out ≡ workedTurn cell true now .out))
+      (λ e. (refl, refl))
+      (λ e.
+      let k = slept-keeps i below h e in
+      let w = k .2 now (k .0) (k .1) in
+      (ap (λ (r : Worked). turnTo cell true r .cell) (sym w), ap (λ (r : Worked). r .out) (sym w)))
 
   -- so quick and full ticks agree in the outputs, cell by cell
   outputs-same : (i : ℕ) → i ≤ n → let w = wiresOf (c .memory) levels in
@@ -220,46 +222,49 @@ module _ (n : ℕ) (c : Card) (levels : ℕ) (settled : Settled n c) where
 
 -- ---- the theorems
 
--- every tick of either kind keeps a card settled
-ticked-settled : (n : ℕ) (full : Bool) (c : Card) (input : Input) → Settled n c → Settled n (ticked n full c input .card)
+-- every tick of either kind keeps a card settled, whatever its lines
+ticked-settled : (n : ℕ) (full : Bool) (c : Card) (l : Lines) → Settled n c → Settled n (tickedOn n full c l .card)
 unfolding Settled turned
-ticked-settled n full c input settled i h edited =
-    let l = lines n c input .levels in
-    let w = wiresOf (c .memory) l in
+ticked-settled n full c l settled i h edited =
+    let w = wiresOf (c .memory) (l .levels) in
     let b = outputsBelow n full (c .cells) (c .edited) w i in
     let old = getD (c .cells) i noCell in
     rw (
       front-at (cellAfter n full (c .cells) (c .edited) w) n (c .cells) i noCell h,
       output-bit n full (c .cells) (c .edited) w n i h,
       slots-stay n full old i (c .edited) w b,
-      remembers n full c input i (old .slots) (le-of-lt h),
+      remembers-on n full c l i (old .slots) (le-of-lt h),
     )
-    (turn-keeps n c l settled full i b h)
+    (turn-keeps n c (l .levels) settled full i b h)
+
+pub tick-on-settled : (n : ℕ) (full : Bool) (c : Card) (code : ℕ) (l : Lines) → Settled n c → Settled n (tickOn n full c code l .card)
+tick-on-settled n full c code l settled =
+    by-tick-on n full c code l (λ t. Settled n (t .card)) (λ _. ticked-settled n full c l settled) (λ _. settled)
 
 pub tick-settled : (n : ℕ) (full : Bool) (c : Card) (input : Input) → Settled n c → Settled n (tick n full c input .card)
 unfolding tick
-tick-settled n full c input settled = go (eqb (input .code) (c .trigger))
-  where
-    go : (b : Bool) → Settled n (cond b (ticked n full c input) (idle c) .card)
-    go true = ticked-settled n full c input settled
-    go false = settled
+tick-settled n full c input = tick-on-settled n full c (input .code) (lines n c input)
 
--- on a settled card a quick tick and a full one give the same card, and answers that are alike but for the woken set and its count
+-- on a settled card a quick tick and a full one with the same lines give the same card, and answers that are alike but for the woken set and its count
+ticked-alike : (n : ℕ) (c : Card) (l : Lines) → Settled n c → AlikeTicks (tickedOn n false c l) (tickedOn n true c l)
+unfolding turned
+ticked-alike n c l settled =
+    let cells = ap (λ (cs : List Cell). cs ++ drop n (c .cells)) (cells-same n c (l .levels) settled) in
+    let outputs = outputs-same n c (l .levels) settled n (le-refl n) in
+    record {
+      card = λ k. cardAfter (trimmed n (c .memory)) c l (record { cells = cells k; outputs = outputs k; woken = 0 });
+      ran = refl;
+      driven = refl;
+      cells = outputs;
+    }
+
+pub same-ticks-on : (n : ℕ) (c : Card) (code : ℕ) (l : Lines) → Settled n c → AlikeTicks (tickOn n false c code l) (tickOn n true c code l)
+same-ticks-on n c code l settled =
+    by-ticks-on n false true c c code code l l refl AlikeTicks (ticked-alike n c l settled) (record { card = refl; ran = refl; driven = refl; cells = refl })
+
 pub same-ticks : (n : ℕ) (c : Card) (input : Input) → Settled n c → AlikeTicks (tick n false c input) (tick n true c input)
-unfolding tick turned
-same-ticks n c input settled = go (eqb (input .code) (c .trigger))
-  where
-    go : (b : Bool) → AlikeTicks (cond b (ticked n false c input) (idle c)) (cond b (ticked n true c input) (idle c))
-    go true =
-        let cells = ap (λ (l : List Cell). l ++ drop n (c .cells)) (cells-same n c (lines n c input .levels) settled) in
-        let outputs = outputs-same n c (lines n c input .levels) settled n (le-refl n) in
-        record {
-          card = λ k. cardAfter (trimmed n (c .memory)) c (lines n c input) (record { cells = cells k; outputs = outputs k; woken = 0 });
-          ran = refl;
-          driven = refl;
-          cells = outputs;
-        }
-    go false = record { card = refl; ran = refl; driven = refl; cells = refl }
+unfolding tick
+same-ticks n c input = same-ticks-on n c (input .code) (lines n c input)
 
 -- a fresh card is settled
 pub fresh-settled : (n : ℕ) → Settled n (freshOf n)
@@ -273,7 +278,7 @@ fresh-settled n i h edited now agree quiet =
     (constant-works 0 clearState now)
 
 -- a card that has just powered up is settled, since all its cells are edited
-pub powered-settled : (n size trigger : ℕ) (cells : List Cell) (connectors : List Connector) → Settled n (started size trigger cells connectors (2 ^ n - 1))
+pub powered-settled : (n size trigger : ℕ) (cells : List Cell) (connectors : Connectors) → Settled n (started size trigger cells connectors (2 ^ n - 1))
 unfolding Settled
 powered-settled n size trigger cells connectors i h edited = all-edited n i h edited
 

@@ -1,33 +1,30 @@
 -- What stands above the n bits of a cell word is not seen: a tick of a memory and of the same memory cut to n bits are one.
 use Prim.Native.Nat.{ℕ, zero, suc, _+_, _-_, _*_, _%_, _^_, _≤_, _<_}
-use mathlib.Core.Path.{_≡_, refl, sym, ap, ap₂, _∙_}
-use mathlib.Core.Bool.{Bool, true, false, _||_, cond}
+use mathlib.Core.Path.{_≡_, refl, ap, ap₂, _∙_}
+use mathlib.Core.Bool.{Bool, true, false, cond}
 use mathlib.Core.List.{List, _++_}
 use native.Mathlib.Nat.{mod-lt}
 use native.Mathlib.Omega.{arith}
 use lib.Pow.{pow-pos}
 use lib.Dec.{ltb}
 use lib.ListN.{drop, getD}
-use Rattle.words.specs.Bits.{bitAt, bitNumber, wordOf}
-use Rattle.words.specs.Listed.{listed}
+use Rattle.words.specs.Bits.{bitAt, bitNumber}
 use Rattle.words.proofs.Laws.{bit-mod, built-same}
 use Rattle.words.proofs.Listed.{listed-same}
 use Rattle.cells.specs.declared.cell.Cell.{Cell}
-use Rattle.cells.specs.State.{stateOf}
-use Rattle.cells.specs.Wake.{wakes}
 use Rattle.card.specs.declared.card.Card.{Card}
-use Rattle.card.specs.declared.card.Connector.{Connector}
+use Rattle.card.specs.declared.card.Connectors.{Connectors}
 use Rattle.card.specs.declared.card.Memory.{Memory}
 use Rattle.card.specs.Address.{firstCell, among}
 use Rattle.card.specs.Fresh.{noCell}
 use Rattle.card.proofs.Places.{among-bounds}
 use Rattle.ticks.specs.declared.connectors.Lines.{Lines}
-use Rattle.ticks.specs.declared.tick.Input.{Input}
-use Rattle.ticks.specs.declared.tick.Wires.{Wires}
+use Rattle.ticks.specs.declared.view.Input.{Input}
+use Rattle.ticks.specs.declared.view.Wires.{Wires}
 use Rattle.ticks.specs.Reading.{slotsRead, levelAt, mixed, view}
 use Rattle.ticks.specs.Levels.{effectiveSample, linesOf}
-use Rattle.ticks.specs.Tick.{Turn, readNow, readLast, named, workedTurn, sleptTurn, turnAt, outputsBelow, turnOf, turned, trimmed, wiresOf}
-use Rattle.ticks.specs.Tick.{linesIn, ranWith, ticked, turnedIn}
+use Rattle.ticks.specs.Tick.{Turn, readNow, readLast, turnBy, turnAt, outputsBelow, turnOf, turned, trimmed, wiresOf}
+use Rattle.ticks.specs.Tick.{linesIn, ranWith, tickedOn, ticked}
 use Rattle.ticks.specs.Words.{FitsMemory}
 
 -- two words that agree in the first n bits
@@ -57,7 +54,7 @@ pub cut : (n o : ℕ) → Agree n (o % 2 ^ n) o
 cut n o j h = bit-mod o n j h
 
 module _ (n : ℕ) (m : Memory) where
-  pub lines-trim : (connectors : List Connector) (sample : ℕ) → linesIn n (trimmed n m) connectors sample ≡ linesIn n m connectors sample
+  pub lines-trim : (connectors : Connectors) (sample : ℕ) → linesIn n (trimmed n m) connectors sample ≡ linesIn n m connectors sample
   lines-trim connectors sample =
       let now = view-agree n 0 _ (m .outputs) _ (m .outputs) (m .levels) (cut n (m .outputs)) (cut n (m .outputs)) in
       let before = view-agree n 0 _ (m .outputs2) _ (m .outputs2) (m .levels2) (cut n (m .outputs2)) (cut n (m .outputs2)) in
@@ -85,7 +82,7 @@ module _ (n : ℕ) (m : Memory) where
     w = wiresOf m levels
 
     turn-trim : (cell : Cell) (i below : ℕ) → i < n → turnAt n full cell i edited wt below ≡ turnAt n full cell i edited w below
-    unfolding turnAt named readNow readLast wt w
+    unfolding turnAt readNow readLast wt w
     turn-trim cell i below h =
         let now = view-agree n i below below _ (m .outputs) levels (λ j k. refl) (cut n (m .outputs)) in
         let last = view-agree n i _ (m .outputs) _ (m .outputs2) (m .levels) (cut n (m .outputs)) (cut n (m .outputs2)) in
@@ -93,8 +90,7 @@ module _ (n : ℕ) (m : Memory) where
         let bit = cut n (m .outputs) i h in
         λ k.
         let read = slotsRead (now k) (last k) (cell .slots) in
-        cond (full || wakes (cell .kind) (stateOf cell) (bitAt edited i) read (slotsRead (last k) (earlier k) (cell .slots))) (workedTurn cell read)
-        (sleptTurn cell (bit k))
+        turnBy full cell (bitAt edited i) (bit k) read (slotsRead (last k) (earlier k) (cell .slots))
 
     outputs-trim : (i : ℕ) → i ≤ n → outputsBelow n full cells edited wt i ≡ outputsBelow n full cells edited w i
     unfolding outputsBelow
@@ -123,13 +119,17 @@ module _ (n : ℕ) (m : Memory) where
 pub trim-fits : (n : ℕ) (m : Memory) → FitsMemory n (trimmed n m)
 trim-fits n m = (mod-lt (m .outputs) (pow-pos n), mod-lt (m .outputs2) (pow-pos n), mod-lt (m .outputs3) (pow-pos n))
 
--- what the code makes of the words cut to n bits is the tick of the card
+-- what the code makes of the words cut to n bits is the tick of the card, with any lines and with the card's own
+pub whole-tick-on : (n : ℕ) (full : Bool) (c : Card) (m : Memory) (l : Lines) → m ≡ trimmed n (c .memory)
+    → ranWith m c l (turned n full (c .cells) (c .edited) (wiresOf m (l .levels))) ≡ tickedOn n full c l
+whole-tick-on n full c m l e =
+    ap (λ (v : Memory). ranWith v c l (turned n full (c .cells) (c .edited) (wiresOf v (l .levels)))) e
+    ∙ ap (ranWith (trimmed n (c .memory)) c l) (turned-trim n (c .memory) full (c .cells) (c .edited) (l .levels))
+
 pub whole-tick : (n : ℕ) (full : Bool) (c : Card) (input : Input) (m : Memory) (l : Lines) → m ≡ trimmed n (c .memory)
     → l ≡ linesIn n m (c .connectors) (effectiveSample (input .sample) (input .attached))
     → ranWith m c l (turned n full (c .cells) (c .edited) (wiresOf m (l .levels))) ≡ ticked n full c input
 whole-tick n full c input m l e el =
     let sample = effectiveSample (input .sample) (input .attached) in
     let same = el ∙ ap (λ (v : Memory). linesIn n v (c .connectors) sample) e ∙ lines-trim n (c .memory) (c .connectors) sample in
-    ap (λ (v : Memory). ranWith v c l (turned n full (c .cells) (c .edited) (wiresOf v (l .levels)))) e
-    ∙ ap (ranWith (trimmed n (c .memory)) c l) (turned-trim n (c .memory) full (c .cells) (c .edited) (l .levels))
-    ∙ ap (λ (x : Lines). ranWith (trimmed n (c .memory)) c x (turnedIn n full c (x .levels))) same
+    whole-tick-on n full c m l e ∙ ap (tickedOn n full c) same

@@ -1,7 +1,7 @@
 -- Laws of one cell's turn, as the loop over the cells takes it: whether it is worked out, what it becomes, and the words of the next reader.
 use Prim.Native.Nat.{ℕ, _+_, _*_, _^_, _≤_, _<_}
 use mathlib.Core.Path.{_≡_, refl, sym, ap, _∙_}
-use mathlib.Core.Bool.{Bool, true, false, not, _||_, cond, Bool·beq, true≢false}
+use mathlib.Core.Bool.{Bool, true, false, not, _||_, Bool·beq, true≢false}
 use mathlib.Core.List.{List, _++_, map}
 use mathlib.Core.Logic.{⊎-elim}
 use native.Mathlib.Nat.{not-suc-le-zero, eq-or-lt-of-le}
@@ -24,10 +24,11 @@ use Rattle.cells.specs.Wake.{wakes, stirred, disagree}
 use Rattle.cells.specs.Work.{workOut}
 use Rattle.card.specs.Edits.{withSettings}
 use Rattle.card.specs.declared.card.Card.{Card}
-use Rattle.ticks.specs.declared.tick.Wires.{Wires}
+use Rattle.ticks.specs.declared.view.Wires.{Wires}
 use Rattle.ticks.specs.Reading.{slotsRead}
-use Rattle.ticks.specs.Tick.{cellAfter, wokeAt, seesNow, sawLast, sawEarlier, readNow, readLast, turnTo, workedTurn, sleptTurn, named, turnAt}
+use Rattle.ticks.specs.Tick.{cellAfter, wokeAt, seesNow, sawLast, sawEarlier, readNow, readLast, turnTo, sleptTurn, turnBy, named, turnAt}
 use Rattle.ticks.specs.Words.{ReadsAs, MovesAs, shiftedAt}
+use Rattle.ticks.proofs.Cases.{turn-due}
 use Rattle.ticks.proofs.Sleep.{view-same}
 use Rattle.ticks.proofs.Ticks.{outAt}
 use Rattle.ticks.proofs.Words.{view-step, reads-kept, moves-kept}
@@ -107,21 +108,17 @@ module _ (n : ℕ) (full : Bool) (cell : Cell) (i edited : ℕ) (w : Wires) (bel
 
   pub turn-worked : (v : Worked) → due ≡ true → v ≡ workOut (cell .kind) (cell .config) (stateOf cell)
       (slotsRead (seesNow n i w below) (sawLast n i w) (cell .slots))
-      → turnAt n full cell i edited w below ≡ turnTo cell v
-  unfolding turnAt readNow
-  turn-worked v e worked = rw e (ap (turnTo cell) (sym worked))
+      → turnAt n full cell i edited w below ≡ turnTo cell (named n cell i edited w below) v
+  unfolding turnAt named readNow
+  turn-worked v e worked = rw e (ap (turnTo cell _) (sym worked))
 
-  pub turn-slept : due ≡ false → turnAt n full cell i edited w below ≡ record { cell = cell; out = bitAt (w .outputs) i; woke = false }
-  unfolding turnAt
+  pub turn-slept : due ≡ false → turnAt n full cell i edited w below ≡ sleptTurn cell (bitAt (w .outputs) i)
+  unfolding turnAt named
   turn-slept e = rw e
 
   pub turn-woke : turnAt n full cell i edited w below .woke ≡ due
-  unfolding turnAt
-  turn-woke = go due
-    where
-      go : (b : Bool) → cond b (workedTurn cell (readNow n i w below (cell .slots))) (sleptTurn cell (bitAt (w .outputs) i)) .woke ≡ b
-      go true = refl
-      go false = refl
+  unfolding turnAt named
+  turn-woke = turn-due full cell _ _ _ _
 
 -- a reader in position i sees of this tick's outputs only those below i
 pub turn-same : (n : ℕ) (full : Bool) (cell : Cell) (i edited : ℕ) (w : Wires) (below other : ℕ) → ((j : ℕ) → j < i → bitAt below j ≡ bitAt other j)
@@ -130,8 +127,7 @@ unfolding turnAt named readNow
 turn-same n full cell i edited w below other same =
     ap (λ (sees : ℕ → Bool).
     let now = slotsRead sees (sawLast n i w) (cell .slots) in
-    cond (full || wakes (cell .kind) (stateOf cell) (bitAt edited i) now (readLast n i w (cell .slots))) (workedTurn cell now)
-    (sleptTurn cell (bitAt (w .outputs) i)))
+    turnBy full cell (bitAt edited i) (bitAt (w .outputs) i) now (readLast n i w (cell .slots)))
     (view-same n i below other (w .outputs) (w .levels) same)
 
 -- ---- the words of the next reader

@@ -1,9 +1,8 @@
 -- Every tick keeps a card valid: it changes nothing that validity looks at.
 use Prim.Native.Nat.{ℕ, _≤_}
 use mathlib.Core.Path.{_≡_, refl, ap, _∙_}
-use mathlib.Core.Bool.{Bool, true, false, _||_, cond}
+use mathlib.Core.Bool.{Bool, true}
 use mathlib.Core.List.{_++_}
-use lib.Dec.{eqb}
 use lib.ListN.{drop, getD, length}
 use Rattle.words.specs.Listed.{listed}
 use Rattle.words.proofs.Listed.{front-at, front-length}
@@ -14,16 +13,17 @@ use Rattle.card.specs.Fresh.{noCell}
 use Rattle.card.specs.Valid.{validCell, validCard}
 use Rattle.card.proofs.Settings.{taken-room}
 use Rattle.card.proofs.ValidLaws.{sound, first-cells, cell-at}
-use Rattle.ticks.specs.declared.tick.Input.{Input}
-use Rattle.ticks.specs.Tick.{workedTurn, sleptTurn, named, turnAt, outputsBelow, turned, wiresOf, lines, ticked, idle, tick}
+use Rattle.ticks.specs.declared.view.Input.{Input}
+use Rattle.ticks.specs.Tick.{turnBy, turnAt, turned, wiresOf, lines, ticked, tick}
 use Rattle.ticks.specs.Tick
+use Rattle.ticks.proofs.Cases.{by-turn, by-tick}
 
 -- a turn leaves all that validity looks at
-turn-valid : (n : ℕ) (b : Bool) (cell : Cell) (now : Slots) (out : Bool)
-    → validCell n (cond b (workedTurn cell now) (sleptTurn cell out) .cell) ≡ validCell n cell
+turn-valid : (n : ℕ) (full : Bool) (cell : Cell) (edited out : Bool) (now last : Slots)
+    → validCell n (turnBy full cell edited out now last .cell) ≡ validCell n cell
 unfolding validCell
-turn-valid n true cell now out = refl
-turn-valid n false cell now out = refl
+turn-valid n full cell edited out now last =
+    by-turn full cell edited out now last (λ t. validCell n (t .cell) ≡ validCell n cell) (λ _. refl) (λ _. refl)
 
 module _ (n : ℕ) (c : Card) (ok : validCard n c ≡ true) where
   ran-valid : (full : Bool) (input : Input) → validCard n (ticked n full c input .card) ≡ true
@@ -36,12 +36,7 @@ module _ (n : ℕ) (c : Card) (ok : validCard n c ≡ true) where
       first-cells n c ok (listed next n ++ drop n (c .cells)) long
       (λ i h. let old = getD (c .cells) i noCell in
       ap (validCell n) (front-at next n (c .cells) i noCell h)
-      ∙ turn-valid n (full || named n old i (c .edited) w (outputsBelow n full (c .cells) (c .edited) w i)) old _ _ ∙ cell-at n c ok i h)
+      ∙ turn-valid n full old _ _ _ _ ∙ cell-at n c ok i h)
 
   pub valid-tick : (full : Bool) (input : Input) → validCard n (tick n full c input .card) ≡ true
-  unfolding tick
-  valid-tick full input = go (eqb (input .code) (c .trigger))
-    where
-      go : (b : Bool) → validCard n (cond b (ticked n full c input) (idle c) .card) ≡ true
-      go true = ran-valid full input
-      go false = ok
+  valid-tick full input = by-tick n full c input (λ t. validCard n (t .card) ≡ true) (λ _. ran-valid full input) (λ _. ok)

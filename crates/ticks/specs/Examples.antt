@@ -18,10 +18,11 @@ use Rattle.card.specs.Address.{cellCount, connectorCount}
 use Rattle.card.specs.Fresh.{fresh, noCell}
 use Rattle.card.specs.Presets.{whole}
 use Rattle.ticks.specs.declared.tick.Answer.{Answer}
-use Rattle.ticks.specs.declared.tick.Input.{Input}
+use Rattle.ticks.specs.declared.view.Input.{Input}
 use Rattle.ticks.specs.declared.tick.Ticked.{Ticked}
 use Rattle.ticks.specs.Reading.{levelAt, readsLevels, reads, slotsRead, mixed, view}
-use Rattle.ticks.specs.Levels.{effectiveSample, linesOf}
+use Rattle.card.specs.Connectors.{kindAt, sourceAt, fromEach}
+use Rattle.ticks.specs.Levels.{effectiveSample, drivenWord, levelsFrom, linesOf}
 use Rattle.ticks.specs.Tick.{readNow, readLast, named, turnAt, outputsBelow, turned, tick}
 
 -- ---- the cards
@@ -68,7 +69,7 @@ wired cells kind source =
       pointer = 1;
       trigger = 0;
       cells = cells;
-      connectors = replicate connectorCount (record { kind = kind; source = source });
+      connectors = fromEach (replicate connectorCount (record { kind = kind; source = source }));
       edited = 3;
       memory = fresh .memory;
       size = cellCount;
@@ -140,16 +141,16 @@ table =
     ∷ []
 
 examples : map (λ (e : List ℕ × List ℕ). e .0) table ≡ map (λ (e : List ℕ × List ℕ). e .1) table
-unfolding twoCells edgeCard upward downward wired torn answered quick shown ticks alone ones onesIn bitAt wordOf listed rowOf taken workAs workOut stirredAs stirred disagree wakes fresh levelAt readsLevels reads slotsRead mixed view effectiveSample linesOf readNow readLast named turnAt outputsBelow turned tick
+unfolding twoCells edgeCard upward downward wired torn answered quick shown ticks alone ones onesIn bitAt wordOf listed rowOf taken workAs workOut stirredAs stirred disagree wakes fresh levelAt readsLevels reads slotsRead mixed view effectiveSample kindAt sourceAt fromEach drivenWord levelsFrom linesOf readNow readLast named turnAt outputsBelow turned tick
 examples = refl
 
 -- a wrong output of a sleeping gate stays in a quick tick and goes in a full one
 pub wrong-stays : tick cellCount false unsettled (clock0 0) .answer .cells ≡ 1
-unfolding unsettled bitAt wordOf listed rowOf taken workAs workOut stirredAs stirred disagree wakes fresh levelAt readsLevels reads slotsRead mixed view effectiveSample linesOf readNow readLast named turnAt outputsBelow turned tick
+unfolding unsettled bitAt wordOf listed rowOf taken workAs workOut stirredAs stirred disagree wakes fresh levelAt readsLevels reads slotsRead mixed view effectiveSample kindAt sourceAt fromEach drivenWord levelsFrom linesOf readNow readLast named turnAt outputsBelow turned tick
 wrong-stays = refl
 
 pub wrong-goes : tick cellCount true unsettled (clock0 0) .answer .cells ≡ 0
-unfolding unsettled bitAt wordOf listed rowOf taken workAs workOut stirredAs stirred disagree wakes fresh levelAt readsLevels reads slotsRead mixed view effectiveSample linesOf readNow readLast named turnAt outputsBelow turned tick
+unfolding unsettled bitAt wordOf listed rowOf taken workAs workOut stirredAs stirred disagree wakes fresh levelAt readsLevels reads slotsRead mixed view effectiveSample kindAt sourceAt fromEach drivenWord levelsFrom linesOf readNow readLast named turnAt outputsBelow turned tick
 wrong-goes = refl
 
 -- and so does a wrong state of a sleeping flip-flop: its bit, and its output
@@ -157,9 +158,9 @@ pub firstBit : Ticked → Bool × ℕ
 firstBit t = (getD (t .card .cells) 0 noCell .bit, t .answer .cells)
 
 pub state-stays : firstBit (tick cellCount false unsettledState (clock0 0)) ≡ (true, 1)
-unfolding unsettledState firstBit bitAt wordOf listed rowOf taken workAs workOut stirredAs stirred disagree wakes fresh levelAt readsLevels reads slotsRead mixed view effectiveSample linesOf readNow readLast named turnAt outputsBelow turned tick
+unfolding unsettledState firstBit bitAt wordOf listed rowOf taken workAs workOut stirredAs stirred disagree wakes fresh levelAt readsLevels reads slotsRead mixed view effectiveSample kindAt sourceAt fromEach drivenWord levelsFrom linesOf readNow readLast named turnAt outputsBelow turned tick
 state-stays = refl
 
 pub state-goes : firstBit (tick cellCount true unsettledState (clock0 0)) ≡ (false, 0)
-unfolding unsettledState firstBit bitAt wordOf listed rowOf taken workAs workOut stirredAs stirred disagree wakes fresh levelAt readsLevels reads slotsRead mixed view effectiveSample linesOf readNow readLast named turnAt outputsBelow turned tick
+unfolding unsettledState firstBit bitAt wordOf listed rowOf taken workAs workOut stirredAs stirred disagree wakes fresh levelAt readsLevels reads slotsRead mixed view effectiveSample kindAt sourceAt fromEach drivenWord levelsFrom linesOf readNow readLast named turnAt outputsBelow turned tick
 state-goes = refl

@@ -1,13 +1,10 @@
 -- Document 01, "One tick", 1 and 2: what the output connectors are driven to, and the levels; and the sample that the levels are made of.
 use Prim.Native.Nat.{ℕ}
 use mathlib.Core.Bool.{Bool, false, _&&_, cond}
-use mathlib.Core.List.{List}
-use lib.Dec.{eqb}
-use lib.ListN.{getD}
 use Rattle.words.specs.Bits.{bitAt, wordOf}
-use Rattle.card.specs.declared.card.Connector.{Connector}
+use Rattle.card.specs.declared.card.Connectors.{Connectors}
 use Rattle.card.specs.Address.{connectorCount, onBackplane}
-use Rattle.card.specs.Connectors.{openDrain, pushPull, isOutput, noConnector}
+use Rattle.card.specs.Connectors.{isOutput, kindAt, sourceAt}
 use Rattle.ticks.specs.declared.connectors.Lines.{Lines}
 use Rattle.ticks.specs.Reading.{reads}
 
@@ -20,20 +17,26 @@ unfoldable pub effectiveSample : ℕ → ℕ → ℕ
 effectiveSample sample attached = wordOf (effectiveAt sample attached) connectorCount
 
 -- "each output connector is driven from its source address"; the driven word is "0 for inputs"
-abbrev pub drivenBit : (ℕ → Bool) → (ℕ → Bool) → Connector → Bool
-drivenBit now before c = cond (isOutput (c .kind)) (reads now before (c .source)) false
+abbrev pub drivenAt : (ℕ → Bool) → (ℕ → Bool) → Connectors → ℕ → Bool
+drivenAt now before d k = cond (isOutput (kindAt d k)) (reads now before (sourceAt d k)) false
+
+-- the driven word, "bits 0-7 BNC1-8, 8-15 TTL0-7"
+unfoldable pub drivenWord : (ℕ → Bool) → (ℕ → Bool) → Connectors → ℕ
+drivenWord now before d = wordOf (drivenAt now before d) connectorCount
 
 -- "an input shows its sample bit, push-pull its driven bit, open-drain high only if both are"
-abbrev pub levelBit : ℕ → Bool → Bool → Bool
-levelBit kind sample driven = cond (eqb kind pushPull) driven (cond (eqb kind openDrain) (sample && driven) sample)
+abbrev pub levelBit : (push drain sample driven : Bool) → Bool
+levelBit push drain sample driven = cond push driven (cond drain (sample && driven) sample)
 
--- the two words, "bits 0-7 BNC1-8, 8-15 TTL0-7"
-abbrev pub drivenAt : (ℕ → Bool) → (ℕ → Bool) → List Connector → ℕ → Bool
-drivenAt now before connectors k = drivenBit now before (getD connectors k noConnector)
+-- the levels, from the words of the push-pull and the open-drain connectors, any driven word and the sample
+abbrev pub levelIn : (push drain driven sample : ℕ) → ℕ → Bool
+levelIn push drain driven sample k = levelBit (bitAt push k) (bitAt drain k) (bitAt sample k) (bitAt driven k)
 
-abbrev pub levelOf : (ℕ → Bool) → (ℕ → Bool) → List Connector → ℕ → ℕ → Bool
-levelOf now before connectors sample k = levelBit (getD connectors k noConnector .kind) (bitAt sample k) (drivenAt now before connectors k)
+unfoldable pub levelsFrom : (push drain driven sample : ℕ) → ℕ
+levelsFrom push drain driven sample = wordOf (levelIn push drain driven sample) connectorCount
 
-unfoldable pub linesOf : (ℕ → Bool) → (ℕ → Bool) → List Connector → ℕ → Lines
-linesOf now before connectors sample =
-    record { driven = wordOf (drivenAt now before connectors) connectorCount; levels = wordOf (levelOf now before connectors sample) connectorCount }
+-- a tick drives the connectors, and then they show their levels
+unfoldable pub linesOf : (ℕ → Bool) → (ℕ → Bool) → Connectors → ℕ → Lines
+linesOf now before d sample =
+    let driven = drivenWord now before d in
+    record { driven = driven; levels = levelsFrom (d .«push_pull») (d .«open_drain») driven sample }

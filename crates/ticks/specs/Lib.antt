@@ -8,8 +8,8 @@ pub mod Sizes
 pub mod RestExamples
 -- Another view of a rule above, or what only proofs use: laws say that they agree.
 pub mod Words
-pub mod FastPath
 pub mod Settled
 -- What is said of ticks on any card, and of lists of them.
 pub mod Exact
+pub mod Runs
 pub mod Counting

@@ -1,4 +1,5 @@
--- When a card is at rest, so that its clock may stop: over the number n of cells.
+-- When a card is at rest, so that its clock may stop, and what the code tests for it: over the number n of cells. The same tests are the fast path of a quick
+-- tick, which looks at no cell closely; no rule of document 01 stands in them, and the law is that such a tick is the tick of specs/Tick.
 use Prim.Native.Nat.{ℕ, zero, suc}
 use mathlib.Core.Path.{_≡_}
 use mathlib.Core.Bool.{Bool, true, false, not, _&&_, cond}
@@ -11,9 +12,10 @@ use Rattle.cells.specs.Wake.{stirred}
 use Rattle.card.specs.declared.card.Card.{Card}
 use Rattle.card.specs.declared.card.Memory.{Memory}
 use Rattle.card.specs.Fresh.{noCell}
-use Rattle.ticks.specs.declared.tick.Input.{Input}
+use Rattle.ticks.specs.declared.view.Input.{Input}
 use Rattle.ticks.specs.declared.tick.Answer.{Answer}
-use Rattle.ticks.specs.declared.tick.Wires.{Wires}
+use Rattle.ticks.specs.declared.tick.Turned.{Turned}
+use Rattle.ticks.specs.declared.view.Wires.{Wires}
 use Rattle.ticks.specs.Reading.{slotsRead}
 use Rattle.ticks.specs.Tick.{idle, tick}
 
@@ -48,3 +50,18 @@ cellRests view cell = not (stirred (cell .kind) (stateOf cell) (slotsRead view v
 unfoldable pub allRest : ℕ → (ℕ → Bool) → List Cell → Bool
 allRest zero view cells = true
 allRest (suc n) view cells = allRest n view cells && cellRests view (getD cells n noCell)
+
+-- ---- the fast path
+
+-- the words of a tick in which every one is what it was in the last two
+abbrev pub steadyWires : ℕ → ℕ → Wires
+steadyWires outputs levels =
+    record { levels = levels; levels2 = levels; levels3 = levels; outputs = outputs; outputs2 = outputs; outputs3 = outputs }
+
+-- what a tick has made of all cells, in parts
+abbrev pub turnedTo : List Cell → (outputs woken : ℕ) → Turned
+turnedTo cells outputs woken = record { cells = cells; outputs = outputs; woken = woken }
+
+-- every cell has slept
+abbrev pub sleptAll : List Cell → ℕ → Turned
+sleptAll cells outputs = turnedTo cells outputs 0

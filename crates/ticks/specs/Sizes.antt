@@ -16,7 +16,8 @@ use Rattle.card.specs.Fresh.{fresh}
 use Rattle.card.specs.Presets.{whole}
 use Rattle.ticks.specs.declared.tick.Ticked.{Ticked}
 use Rattle.ticks.specs.Reading.{levelAt, readsLevels, reads, slotsRead, mixed, view}
-use Rattle.ticks.specs.Levels.{effectiveSample, linesOf}
+use Rattle.card.specs.Connectors.{kindAt, sourceAt}
+use Rattle.ticks.specs.Levels.{effectiveSample, drivenWord, levelsFrom, linesOf}
 use Rattle.ticks.specs.Tick.{readNow, readLast, named, turnAt, outputsBelow, turned, tick}
 use Rattle.ticks.specs.Examples.{card, clock0}
 
@@ -48,5 +49,5 @@ words t = t .answer .woken ∷ t .answer .cells ∷ t .card .memory .outputs ∷
 
 small-ticks : words (tick cellCount false (card (set (fresh .cells) 0 (whole 6 0 (17 ∷ 0 ∷ 0 ∷ 0 ∷ []))) 0xffff0000 0xffff0000) (clock0 0)) ≡ 0 ∷ 0 ∷ 0 ∷ 0 ∷ 0 ∷ 0 ∷ []
 unfolding words ones onesIn bitAt wordOf listed rowOf taken workAs workOut stirredAs stirred disagree wakes fresh levelAt readsLevels reads slotsRead mixed
-    view effectiveSample linesOf readNow readLast named turnAt outputsBelow turned tick
+    view effectiveSample kindAt sourceAt drivenWord levelsFrom linesOf readNow readLast named turnAt outputsBelow turned tick
 small-ticks = refl

@@ -15,11 +15,11 @@ use Rattle.cells.specs.Work.{workOut}
 use Rattle.cells.specs.Wake.{wakes}
 use Rattle.card.specs.declared.card.Card.{Card}
 use Rattle.card.specs.declared.card.Memory.{Memory}
-use Rattle.card.specs.declared.card.Connector.{Connector}
+use Rattle.card.specs.declared.card.Connectors.{Connectors}
 use Rattle.card.specs.Fresh.{noCell}
 use Rattle.ticks.specs.declared.connectors.Lines.{Lines}
-use Rattle.ticks.specs.declared.tick.Input.{Input}
-use Rattle.ticks.specs.declared.tick.Wires.{Wires}
+use Rattle.ticks.specs.declared.view.Input.{Input}
+use Rattle.ticks.specs.declared.view.Wires.{Wires}
 use Rattle.ticks.specs.declared.tick.Turned.{Turned}
 use Rattle.ticks.specs.declared.tick.Answer.{Answer}
 use Rattle.ticks.specs.declared.tick.Ticked.{Ticked}
@@ -48,31 +48,41 @@ readLast n i w s = slotsRead (sawLast n i w) (sawEarlier n i w) s
 
 -- ---- one cell
 
--- what a tick makes of one cell: the cell, its output, and whether it was worked out
+-- what a tick makes of one cell: the cell, its output, whether the rules name it, in a full tick too, and whether it was worked out
 pub record Turn : Type 0 where
   pub cell : Cell
   pub out : Bool
+  pub named : Bool
   pub woke : Bool
 
 -- "a cell worked out gets the state and output that "Cells" gives for its state and its slots as read in this tick"
-abbrev pub turnTo : Cell → Worked → Turn
-turnTo cell r = record { cell = withState cell (r .state); out = r .out; woke = true }
+abbrev pub turnTo : Cell → (named : Bool) → Worked → Turn
+turnTo cell named r = record { cell = withState cell (r .state); out = r .out; named = named; woke = true }
 
-abbrev pub workedTurn : Cell → Slots → Turn
-workedTurn cell now = turnTo cell (workOut (cell .kind) (cell .config) (stateOf cell) now)
+abbrev pub workedTurn : Cell → (named : Bool) → Slots → Turn
+workedTurn cell named now = turnTo cell named (workOut (cell .kind) (cell .config) (stateOf cell) now)
 
--- "others keep state and output"
+-- "others keep state and output"; the rules do not name them
 abbrev pub sleptTurn : Cell → Bool → Turn
-sleptTurn cell out = record { cell = cell; out = out; woke = false }
+sleptTurn cell out = record { cell = cell; out = out; named = false; woke = false }
 
--- the rules name the cell
+-- the rules name a cell: by whether it was edited, and what its slots read now and read in the last tick that ran
+abbrev pub namedBy : Cell → (edited : Bool) → (now last : Slots) → Bool
+namedBy cell edited now last = wakes (cell .kind) (stateOf cell) edited now last
+
+-- a full tick works out every cell, a quick tick those that the rules name; `out` is the last output
+abbrev pub turnBy : (full : Bool) → Cell → (edited out : Bool) → (now last : Slots) → Turn
+turnBy full cell edited out now last =
+    let rule = namedBy cell edited now last in
+    cond (full || rule) (workedTurn cell rule now) (sleptTurn cell out)
+
+-- the rules name cell i, and its turn
 unfoldable pub named : (n : ℕ) → Cell → (i edited : ℕ) → Wires → ℕ → Bool
-named n cell i edited w below = wakes (cell .kind) (stateOf cell) (bitAt edited i) (readNow n i w below (cell .slots)) (readLast n i w (cell .slots))
+named n cell i edited w below = namedBy cell (bitAt edited i) (readNow n i w below (cell .slots)) (readLast n i w (cell .slots))
 
--- a full tick works out every cell, a quick tick those that the rules name
 unfoldable pub turnAt : (n : ℕ) → Bool → Cell → (i edited : ℕ) → Wires → ℕ → Turn
 turnAt n full cell i edited w below =
-    cond (full || named n cell i edited w below) (workedTurn cell (readNow n i w below (cell .slots))) (sleptTurn cell (bitAt (w .outputs) i))
+    turnBy full cell (bitAt edited i) (bitAt (w .outputs) i) (readNow n i w below (cell .slots)) (readLast n i w (cell .slots))
 
 -- ---- all cells
 
@@ -89,6 +99,9 @@ module _ (n : ℕ) (full : Bool) (cells : List Cell) (edited : ℕ) (w : Wires) 
   abbrev pub cellAfter : ℕ → Cell
   cellAfter i = turnOf i .cell
 
+  abbrev pub namedAt : ℕ → Bool
+  namedAt i = turnOf i .named
+
   abbrev pub wokeAt : ℕ → Bool
   wokeAt i = turnOf i .woke
 
@@ -103,7 +116,7 @@ wiresOf m levels =
     record { levels = levels; levels2 = m .levels; levels3 = m .levels2; outputs = m .outputs; outputs2 = m .outputs2; outputs3 = m .outputs3 }
 
 -- connectors are "read from the last tick's cells and levels, with edges against the tick before that": no cell is below position 0
-abbrev pub linesIn : (n : ℕ) → Memory → List Connector → ℕ → Lines
+abbrev pub linesIn : (n : ℕ) → Memory → Connectors → ℕ → Lines
 linesIn n m connectors sample =
     linesOf (view n 0 (m .outputs) (m .outputs) (m .levels)) (view n 0 (m .outputs2) (m .outputs2) (m .levels2)) connectors sample
 
@@ -147,11 +160,14 @@ cardAfter m c l t =
       size = c .size;
     }
 
--- what a reader in position i reads in a tick
-abbrev pub readIn : (n : ℕ) → Bool → Card → Input → ℕ → List ℕ → Slots
-readIn n full c input i s =
-    let w = wiresOf (c .memory) (lines n c input .levels) in
+-- what a reader in position i reads in a tick that shows these levels, and in a tick that shows the card's own
+abbrev pub readOn : (n : ℕ) → Bool → Card → (levels : ℕ) → ℕ → List ℕ → Slots
+readOn n full c levels i s =
+    let w = wiresOf (c .memory) levels in
     readNow n i w (outputsBelow n full (c .cells) (c .edited) w i) s
+
+abbrev pub readIn : (n : ℕ) → Bool → Card → Input → ℕ → List ℕ → Slots
+readIn n full c input i s = readOn n full c (lines n c input .levels) i s
 
 -- "driven word ..., cell word ..., woken set ..., and the number of ones in that set"
 abbrev pub answerOf : Lines → Turned → Answer
@@ -163,13 +179,21 @@ turnedIn n full c levels = turned n full (c .cells) (c .edited) (wiresOf (c .mem
 abbrev pub ranWith : Memory → Card → Lines → Turned → Ticked
 ranWith m c l t = record { card = cardAfter m c l t; answer = answerOf l t }
 
+-- a tick that runs: the lines l, which are the driven word and the levels, and the turns of all cells under these levels; and with the card's own lines
+abbrev pub tickedOn : (n : ℕ) → Bool → Card → Lines → Ticked
+tickedOn n full c l = ranWith (trimmed n (c .memory)) c l (turnedIn n full c (l .levels))
+
 abbrev pub ticked : (n : ℕ) → Bool → Card → Input → Ticked
-ticked n full c input = ranWith (trimmed n (c .memory)) c (lines n c input) (turnedIn n full c (lines n c input .levels))
+ticked n full c input = tickedOn n full c (lines n c input)
 
 -- "idle" and nothing changes; the words of an idle answer are 0
 abbrev pub idle : Card → Ticked
 idle c = record { card = c; answer = record { ran = false; driven = 0; cells = 0; woken = 0; count = 0 } }
 
 -- "If the code isn't the chosen trigger source the answer is "idle" and nothing changes"
+abbrev pub tickOn : (n : ℕ) → Bool → Card → (code : ℕ) → Lines → Ticked
+tickOn n full c code l = cond (eqb code (c .trigger)) (tickedOn n full c l) (idle c)
+
+-- a tick of the card by itself
 unfoldable pub tick : (n : ℕ) → Bool → Card → Input → Ticked
-tick n full c input = cond (eqb (input .code) (c .trigger)) (ticked n full c input) (idle c)
+tick n full c input = tickOn n full c (input .code) (lines n c input)

@@ -2,12 +2,12 @@
 -- than in the last tick.
 use Prim.Native.Nat.{ℕ, _^_, _<_}
 use mathlib.Core.Path.{_≡_}
-use mathlib.Core.Bool.{Bool, not, _&&_, _||_, Bool·beq}
+use mathlib.Core.Bool.{Bool, not, _||_, Bool·beq}
 use mathlib.Core.List.{List}
 use Rattle.words.specs.Bits.{bitAt}
 use Rattle.cells.specs.Reading.{readFrom}
 use Rattle.card.specs.declared.card.Memory.{Memory}
-use Rattle.ticks.specs.declared.tick.Wires.{Wires}
+use Rattle.ticks.specs.declared.view.Wires.{Wires}
 use Rattle.ticks.specs.Reading.{reads}
 
 -- every address reads from the words what it reads by these two views
@@ -25,10 +25,6 @@ MovesAs d now last earlier = (a : ℕ) → a < 256 → readFrom d a ≡ not (Boo
 -- cell i's output changed in one of the last two ticks
 unfoldable pub shiftedAt : ℕ → Wires → Bool
 shiftedAt i w = not (Bool·beq (bitAt (w .outputs) i) (bitAt (w .outputs2) i)) || not (Bool·beq (bitAt (w .outputs2) i) (bitAt (w .outputs3) i))
-
--- a connector's level, from whether it is push-pull, whether it is open-drain, what it drives and what is sampled
-abbrev pub levelIn : (push drain driven sample : Bool) → Bool
-levelIn push drain driven sample = (driven && (push || sample)) || (sample && not (push || drain))
 
 -- the cell words have no bit above the first n
 abbrev pub Fits : ℕ → Wires → Type 0

@@ -1,17 +1,14 @@
 // The connectors in a tick: what each drives, and the level that it shows.
-ghost use mathlib.Core.Bool.{Bool};
+ghost use mathlib.Core.Bool.{Bool, false};
 ghost use mathlib.Core.Path.{_≡_};
-ghost use Prim.Native.Nat.{ℕ, _^_, _<_};
+ghost use Prim.Native.Nat.{ℕ};
 ghost use Rattle.words.specs.Bits.{bitAt};
-ghost use Rattle.ticks.specs.Levels.{effectiveSample, drivenBit, linesOf};
-ghost use Rattle.ticks.specs.Words.{ReadsAs, levelIn};
-use crate::view::ALL;
+ghost use Rattle.ticks.specs.Levels.{effectiveSample, drivenWord, levelsFrom, linesOf};
+ghost use Rattle.ticks.specs.Reading.{reads};
+ghost use Rattle.ticks.specs.Words.{ReadsAs};
 use crate::view::quarters;
-use card::card::Connector;
+use card::card::Connectors;
 use card::limits::BACKPLANE;
-use card::limits::CONNECTORS;
-use card::limits::OPEN_DRAIN;
-use card::limits::PUSH_PULL;
 use cells::reading::QUARTERS;
 use cells::reading::read;
 
@@ -28,48 +25,51 @@ pub fn effective(sample: u16, attached: u16) -> u16
     BACKPLANE ^ ((sample ^ BACKPLANE) & attached)
 }
 
-// What a connector drives, by what the addresses read.
-fn driven_bit(c: Connector, q: &[u64; QUARTERS]) -> bool
-    ensures { λ r. ⌜ ((f g : ℕ → Bool) → ReadsAs (now (q .entry)) f g → r ≡ drivenBit f g c) ⌝ }
+// Whether an address is high. Address 0 never is, and is not read: an output that nothing feeds has it as its source.
+fn is_high(q: &[u64; QUARTERS], source: u8) -> bool
+    ensures { λ r. ⌜ ((f g : ℕ → Bool) → ReadsAs (now (q .entry)) f g → f 0 ≡ false → r ≡ reads f g source) ⌝ }
 {
-    if (c.kind == OPEN_DRAIN) | (c.kind == PUSH_PULL) {
-        read(q, c.source)
-    } else {
-        false
+    if source == 0 {
+        return false;
     }
+    read(q, source)
+}
+
+// The driven word, from the outputs alone, the lowest first: `left` has those that are still to come.
+fn driven_by(connectors: Connectors, now: u64, before: u64) -> u16
+    requires { ⌜ bitAt now 0 ≡ false ⌝ }
+    ensures { λ r. ⌜ r ≡ drivenWord (bitAt now) (bitAt before) connectors ⌝ }
+{
+    let q = quarters(now, before);
+    let sources = connectors.sources;
+    let mut driven: u64 = 0;
+    let mut left = connectors.push_pull | connectors.open_drain;
+    while left != 0 {
+        let k = u16::trailing_zeros(left);
+        left = left & (left - 1);
+        if is_high(&q, sources[k as usize]) {
+            driven = words::with_set(driven, k);
+        }
+    }
+    driven as u16
 }
 
 // The levels, all at once: push-pull connectors show what they drive, open-drain ones what both they and the sample have, the others the sample.
-fn levels(driven: u64, push: u64, drain: u64, sample: u64) -> u64
-    ensures { λ r. ⌜ ((k : ℕ) → k < 64 → bitAt r k ≡ levelIn (bitAt push k) (bitAt drain k) (bitAt driven k) (bitAt sample k)) ⌝ }
-    ensures { λ r. ⌜ ((n : ℕ) → driven < 2 ^ n → sample < 2 ^ n → r < 2 ^ n) ⌝ }
+fn levels_from(push: u16, drain: u16, driven: u16, sample: u16) -> u16
+    ensures { λ r. ⌜ r ≡ levelsFrom push drain driven sample ⌝ }
 {
-    (driven & (push | sample)) | (sample & ((push | drain) ^ ALL))
+    (driven & (push | sample)) | (sample & ((push | drain) ^ 0xffff))
 }
 
-// Both words, connector by connector: which are driven high, and which are outputs of either type.
-pub fn drive(connectors: [Connector; CONNECTORS], now: u64, before: u64, sample: u16) -> Lines
+// Both words: the connectors are driven, and then show their levels. `now` and `before` are views, in which base 0 is low.
+pub fn drive(connectors: Connectors, now: u64, before: u64, sample: u16) -> Lines
+    requires { ⌜ bitAt now 0 ≡ false ⌝ }
     ensures { λ l. ⌜ l ≡ linesOf (bitAt now) (bitAt before) connectors sample ⌝ }
 {
-    let q = quarters(now, before);
-    let mut driven: u64 = 0;
-    let mut push: u64 = 0;
-    let mut drain: u64 = 0;
-    for k in 0..CONNECTORS as u32 {
-        let c = connectors[k as usize];
-        if driven_bit(c, &q) {
-            driven = words::pushed(driven, k, true);
-        }
-        if c.kind == PUSH_PULL {
-            push = words::pushed(push, k, true);
-        }
-        if c.kind == OPEN_DRAIN {
-            drain = words::pushed(drain, k, true);
-        }
-    }
-    let shown = levels(driven, push, drain, sample as u64);
+    let driven = driven_by(connectors, now, before);
+    let levels = levels_from(connectors.push_pull, connectors.open_drain, driven, sample);
     Lines {
-        driven: driven as u16,
-        levels: shown as u16,
+        driven: driven,
+        levels: levels,
     }
 }

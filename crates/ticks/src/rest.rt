@@ -3,69 +3,20 @@ ghost use mathlib.Core.Bool.{true, _&&_};
 ghost use mathlib.Core.Path.{_≡_};
 ghost use Prim.Native.Nat.{_%_, _^_, _≤_, _<_};
 ghost use lib.Dec.{eqb};
-ghost use lib.ListN.{length};
-ghost use Rattle.words.specs.Bits.{bitAt};
 ghost use Rattle.card.specs.Address.{cellRoom, cellsFor};
 ghost use Rattle.ticks.specs.Tick.{wiresOf};
-ghost use Rattle.ticks.specs.Rest.{steady, cellRests, allRest, Decides, AtRest};
-use crate::tick::Input;
-use crate::tick::Wires;
+ghost use Rattle.ticks.specs.Rest.{steady, Decides, AtRest};
+use crate::quiet::all_rest;
+use crate::quiet::unchanged;
 use crate::tick::lines_in;
 use crate::tick::low;
-use crate::tick::wires_of;
-use crate::view::quarters;
+use crate::view::Input;
 use crate::view::sees;
+use crate::view::wires_of;
 use card::card::Card;
 use card::card::Memory;
-use card::limits::CELLS;
 use card::limits::EditedSet;
 use card::place::cells_for;
-use cells::cell::Cell;
-use cells::reading::address;
-use cells::reading::four;
-
-// Whether no word has changed in the last two ticks.
-pub fn unchanged(w: Wires) -> bool
-    ensures { λ q. ⌜ q ≡ steady w ⌝ }
-{
-    ((w.outputs2 == w.outputs) & (w.outputs3 == w.outputs))
-        & ((w.levels2 == w.levels) & (w.levels3 == w.levels))
-}
-
-// Whether nothing stirs a cell under a view that does not change. Only a type with edge slots is looked at.
-fn rests(cell: Cell, view: u64) -> bool
-    ensures { λ q. ⌜ q ≡ cellRests (bitAt view) cell ⌝ }
-{
-    if !cells::wake::has_edges(cell.kind) {
-        return true;
-    }
-    let q = quarters(view, view);
-    let s = cell.slots;
-    let x = address(s[0]);
-    let y = address(s[1]);
-    let z = address(s[2]);
-    let f = address(s[3]);
-    !cells::wake::stirred(
-        cell.kind,
-        cell.count,
-        cell.bit,
-        cell.pulse,
-        four(&q, x, y, z, f),
-    )
-}
-
-pub fn all_rest(cells: [Cell; CELLS], view: u64, n: u8) -> bool
-    requires { ⌜ n ≤ cellRoom ⌝ }
-    ensures { λ q. ⌜ q ≡ allRest n (bitAt view) cells ⌝ }
-    ensures { λ q. ⌜ length cells ≡ cellRoom ⌝ }
-{
-    for i in 0..n as usize {
-        if !rests(cells[i], view) {
-            return false;
-        }
-    }
-    true
-}
 
 // Whether the words of the last two ticks are the same, and the cell word one of n cells.
 fn holds_still(m: Memory, n: u8) -> bool

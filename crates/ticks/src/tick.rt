@@ -10,7 +10,7 @@ ghost use Rattle.cells.specs.Wake.{wakes};
 ghost use Rattle.cells.specs.Work.{workOut};
 ghost use Rattle.card.specs.Address.{cellRoom, cellsFor};
 ghost use Rattle.ticks.specs.Reading.{slotsRead};
-ghost use Rattle.ticks.specs.FastPath.{turnedTo, sleptAll};
+ghost use Rattle.ticks.specs.Rest.{turnedTo};
 ghost use Rattle.ticks.specs.Levels.{effectiveSample};
 ghost use Rattle.ticks.specs.Tick;
 ghost use Rattle.ticks.specs.Tick.{turned, trimmed, wiresOf, linesIn, ranWith};
@@ -18,18 +18,19 @@ ghost use Rattle.ticks.specs.Words.{ReadsAs, MovesAs, shiftedAt, FitsMem
 use crate::connectors::Lines;
 use crate::connectors::drive;
 use crate::connectors::effective;
-use crate::rest::all_rest;
-use crate::rest::unchanged;
+use crate::quiet::is_quiet;
 use crate::view::ALL;
+use crate::view::Input;
+use crate::view::Wires;
 use crate::view::sees;
+use crate::view::wires_of;
 use crate::view::words_moved;
 use crate::view::words_now;
 use card::card::Card;
-use card::card::Connector;
+use card::card::Connectors;
 use card::card::Memory;
 use card::edits::all_edited;
 use card::limits::CELLS;
-use card::limits::CONNECTORS;
 use card::limits::CellWord;
 use card::limits::EditedSet;
 use card::place::cells_for;
@@ -37,25 +38,6 @@ use cells::cell::Cell;
 use cells::reading::QUARTERS;
 use cells::reading::address;
 use cells::work::Effect;
-
-// What comes in with a tick: the code of its clock, the word sampled at the connectors, and which of them have something attached.
-#[repr(C)]
-pub struct Input {
-    pub code: u8,
-    pub sample: u16,
-    pub attached: u16,
-}
-
-// What the readers of a tick see besides its own outputs: the levels of this tick, of the last one that ran (2) and of the one before (3), and
-// the cell words of the last three ticks that ran.
-pub struct Wires {
-    pub levels: u16,
-    pub levels2: u16,
-    pub levels3: u16,
-    pub outputs: CellWord,
-    pub outputs2: CellWord,
-    pub outputs3: CellWord,
-}
 
 // What a tick makes of all cells.
 pub struct Turned {
@@ -177,52 +159,18 @@ fn flipped(w: CellWord, i: u32) -> CellWord
     w ^ (1 << i)
 }
 
-// ---- the fast path of a quick tick
-//
-// While no cell is edited and every word is what it was in the last two ticks, all readers see one view, level slots read as they did, and a cell
-// sleeps unless an edge slot of it is high all the same.
-
-// Whether a quick tick leaves every cell as it is. It may say no where a closer look would say yes.
-fn is_quiet(cells: [Cell; CELLS], edited: EditedSet, w: Wires, n: u8) -> bool
-    requires { ⌜ n ≤ cellRoom ⌝ }
-    requires { ⌜ w .outputs < 2 ^ n ⌝ }
-    ensures { λ q. ⌜ (q ≡ true → turned n false cells edited w ≡ sleptAll cells (w .outputs)) ⌝ }
-{
-    if edited != 0 {
-        return false;
-    }
-    if !unchanged(w) {
-        return false;
-    }
-    all_rest(cells, sees(0, w.outputs, w.outputs, w.levels), n)
-}
-
 // ---- a tick
 //
 // The two kinds stand side by side, since a card in a value that branches meet in is copied once more.
 
 // The connectors, driven from the last tick's words, and the levels of what comes in.
-pub fn lines_in(connectors: [Connector; CONNECTORS], m: Memory, input: Input) -> Lines
+pub fn lines_in(connectors: Connectors, m: Memory, input: Input) -> Lines
     ensures { λ l. ⌜ ((n : ℕ) → n ≤ cellRoom → FitsMemory n m → l ≡ linesIn n m connectors (effectiveSample (input .sample) (input .attached))) ⌝ }
 {
     let now = sees(0, m.outputs, m.outputs, m.levels);
     let before = sees(0, m.outputs2, m.outputs2, m.levels2);
     let sample = effective(input.sample, input.attached);
     drive(connectors, now, before, sample)
-}
-
-// What the readers of the tick see.
-pub fn wires_of(m: Memory, levels: u16) -> Wires
-    ensures { λ w. ⌜ w ≡ wiresOf m levels ⌝ }
-{
-    Wires {
-        levels: levels,
-        levels2: m.levels,
-        levels3: m.levels2,
-        outputs: m.outputs,
-        outputs2: m.outputs2,
-        outputs3: m.outputs3,
-    }
 }
 
 // The card after a tick that ran, and its answer. The cells are turned already, and the memory m is moved on.

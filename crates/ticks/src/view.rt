@@ -1,14 +1,48 @@
-// What a reader sees at each base, as a word with a bit for each base, and the words that addresses are read from.
+// What a tick is made of: what comes in with it, the words that its readers see, what a reader sees at each base, as a word with a bit for each base, and
+// the words that addresses are read from.
 ghost use mathlib.Core.Path.{_≡_};
 ghost use Prim.Native.Nat.{ℕ, _^_, _≤_, _<_};
 ghost use Rattle.words.specs.Bits.{bitAt, wordOf};
 ghost use Rattle.card.specs.Address.{cellRoom};
 ghost use Rattle.ticks.specs.Reading.{view};
 ghost use Rattle.ticks.specs.Words.{ReadsAs, MovesAs, Differ, Fits};
-ghost use Rattle.ticks.specs.Tick.{seesNow, sawLast, sawEarlier};
-use crate::tick::Wires;
+ghost use Rattle.ticks.specs.Tick.{seesNow, sawLast, sawEarlier, wiresOf};
+use card::card::Memory;
 use card::limits::CellWord;
 use cells::reading::QUARTERS;
+
+// What comes in with a tick: the code of its clock, the word sampled at the connectors, and which of them have something attached.
+#[repr(C)]
+pub struct Input {
+    pub code: u8,
+    pub sample: u16,
+    pub attached: u16,
+}
+
+// What the readers of a tick see besides its own outputs: the levels of this tick, of the last one that ran (2) and of the one before (3), and
+// the cell words of the last three ticks that ran.
+pub struct Wires {
+    pub levels: u16,
+    pub levels2: u16,
+    pub levels3: u16,
+    pub outputs: CellWord,
+    pub outputs2: CellWord,
+    pub outputs3: CellWord,
+}
+
+// What the readers of the tick see.
+pub fn wires_of(m: Memory, levels: u16) -> Wires
+    ensures { λ w. ⌜ w ≡ wiresOf m levels ⌝ }
+{
+    Wires {
+        levels: levels,
+        levels2: m.levels,
+        levels3: m.levels2,
+        outputs: m.outputs,
+        outputs2: m.outputs2,
+        outputs3: m.outputs3,
+    }
+}
 
 // The view of a reader in position i: of the cells below i the bits of `below`, of the others those of `others`.
 pub fn sees(i: u32, below: CellWord, others: CellWord, levels: u16) -> u64

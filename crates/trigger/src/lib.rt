@@ -20,8 +20,8 @@ use lines::line::Answered;
 use printed::print::Printed;
 use saved::record::Loaded;
 use survey::Surveyed;
-use ticks::tick::Input;
 use ticks::tick::Ticked;
+use ticks::view::Input;
 
 // A card of sixteen cells as it powers up.
 #[no_mangle]

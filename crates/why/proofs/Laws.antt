@@ -1,10 +1,9 @@
 -- The reasons of a tick are those of the cells that the rules name in it, and after a quick tick those of the woken set.
 use Prim.Native.Nat.{ℕ, _^_, _<_}
 use mathlib.Core.Path.{_≡_, refl, sym, ap, subst, _∙_}
-use mathlib.Core.Bool.{Bool, true, false, cond}
+use mathlib.Core.Bool.{Bool, false}
 use mathlib.Core.List.{List}
 use native.Mathlib.Nat.{le-of-lt}
-use lib.Dec.{eqb}
 use lib.ListN.{getD, replicate, getD-replicate}
 use lib.Pow.{pow-pos}
 use borrow.Author.Tests.{eq-eqb, ne-eqb}
@@ -21,10 +20,11 @@ use Rattle.cells.specs.declared.cell.Cell.{Cell}
 use Rattle.card.specs.declared.card.Card.{Card}
 use Rattle.card.specs.declared.card.Memory.{Memory}
 use Rattle.card.specs.Fresh.{noCell}
-use Rattle.ticks.specs.declared.tick.Input.{Input}
-use Rattle.ticks.specs.declared.tick.Wires.{Wires}
+use Rattle.ticks.specs.declared.view.Input.{Input}
+use Rattle.ticks.specs.declared.view.Wires.{Wires}
 use Rattle.ticks.specs.declared.tick.Ticked.{Ticked}
-use Rattle.ticks.specs.Tick.{readLast, named, outputsBelow, wokeAt, turned, trimmed, wiresOf, lines, ticked, idle, tick}
+use Rattle.ticks.specs.Tick.{readLast, named, outputsBelow, wokeAt, turned, trimmed, wiresOf, lines, tick}
+use Rattle.ticks.proofs.Cases.{by-tick, tick-own}
 use Rattle.ticks.proofs.Sleep.{read-whole}
 use Rattle.ticks.proofs.Ticks.{outputs-built}
 use Rattle.ticks.proofs.Trim.{now-trim, last-trim}
@@ -57,10 +57,10 @@ module _ (n : ℕ) (full : Bool) (c : Card) (input : Input) where
 
   pub ran-reasons : (t : Ticked) (w : Wires) → input .code ≡ c .trigger → t ≡ tick n full c input → w ≡ wiresOf (c .memory) (t .card .memory .levels)
       → listed (λ i. reasonsAt n (getD (c .cells) i noCell) i (c .edited) w (t .answer .cells)) n ≡ tickReasons n full c input
-  unfolding tick tickReasons turned
+  unfolding tickReasons turned
   ran-reasons t w own et ew =
       let ran = eq-eqb (input .code) (c .trigger) own in
-      let gave : t ≡ ticked n full c input = et ∙ rw ran in
+      let gave = et ∙ tick-own n full c input own in
       ap (λ (v : Wires). listed (λ i. reasonsAt n (getD (c .cells) i noCell) i (c .edited) v (t .answer .cells)) n) ew
       ∙ ap by gave
       ∙ listed-same _ (reasonsIn n full c input) n (whole-word n full c input)
@@ -88,10 +88,9 @@ module _ (n : ℕ) (full : Bool) (c : Card) (input : Input) where
 
   -- the cell word of such a tick has n bits
   pub ran-fits : (t : Ticked) → input .code ≡ c .trigger → t ≡ tick n full c input → t .answer .cells < 2 ^ n
-  unfolding tick turned
+  unfolding turned
   ran-fits t own et =
-      let ran = eq-eqb (input .code) (c .trigger) own in
-      let gave : t ≡ ticked n full c input = et ∙ rw ran in
+      let gave = et ∙ tick-own n full c input own in
       let w = wiresOf (c .memory) (lines n c input .levels) in
       subst (λ (x : Ticked). x .answer .cells < 2 ^ n) (sym gave) (built-fits _ n _ (outputs-built n full (c .cells) (c .edited) w n))
 
@@ -112,8 +111,11 @@ hasReason rs i = anyReason (getD rs i noReasons)
 
 -- the woken set of a quick tick is the set of the cells that have a reason; of an idle one both are empty
 pub woken-for-reasons : (n : ℕ) (c : Card) (input : Input) → tick n false c input .answer .woken ≡ wordOf (hasReason (tickReasons n false c input)) n
-unfolding tick tickReasons turned
-woken-for-reasons n c input = go (eqb (input .code) (c .trigger))
+unfolding tickReasons turned
+woken-for-reasons n c input =
+    by-tick n false c input (λ t. t .answer .woken ≡ wordOf (hasReason (tickReasons n false c input)) n)
+    (λ e. rw e (built-same _ _ n reasoned))
+    (λ e. rw e (sym (built-of-bits 0 n (pow-pos n)) ∙ built-same (bitAt 0) _ n nobody))
   where
     reasoned : (i : ℕ) → i < n → wokeAt n false (c .cells) (c .edited) (wiresOf (c .memory) (lines n c input .levels)) i
         ≡ hasReason (listed (reasonsIn n false c input) n) i
@@ -124,9 +126,3 @@ woken-for-reasons n c input = go (eqb (input .code) (c .trigger))
 
     nobody : (i : ℕ) → i < n → bitAt 0 i ≡ hasReason (replicate n noReasons) i
     nobody i h = bit-zero i ∙ ap anyReason (sym (getD-replicate n i noReasons noReasons h))
-
-    go : (b : Bool)
-        → cond b (ticked n false c input) (idle c) .answer .woken
-        ≡ wordOf (hasReason (cond b (listed (reasonsIn n false c input) n) (replicate n noReasons))) n
-    go true = built-same _ _ n reasoned
-    go false = sym (built-of-bits 0 n (pow-pos n)) ∙ built-same (bitAt 0) _ n nobody

@@ -13,8 +13,8 @@ use Rattle.cells.specs.State.{stateOf}
 use Rattle.why.specs.CellReasons.{reasonsOf}
 use Rattle.card.specs.declared.card.Card.{Card}
 use Rattle.card.specs.Fresh.{noCell}
-use Rattle.ticks.specs.declared.tick.Input.{Input}
-use Rattle.ticks.specs.declared.tick.Wires.{Wires}
+use Rattle.ticks.specs.declared.view.Input.{Input}
+use Rattle.ticks.specs.declared.view.Wires.{Wires}
 use Rattle.ticks.specs.Tick.{readNow, readLast, outputsBelow, wiresOf, lines}
 
 -- cell i's reasons, by what it reads in this tick and read in the last one that ran; `below` is the word of this tick's outputs

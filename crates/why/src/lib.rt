@@ -23,13 +23,13 @@ use cells::cell::state_of;
 use cells::reading::address;
 use cells::reading::four;
 use cells::table::Slots;
-use ticks::tick::Input;
 use ticks::tick::Ticked;
-use ticks::tick::Wires;
 use ticks::tick::full_tick;
 use ticks::tick::quick_tick;
 use ticks::tick::seen_memory;
-use ticks::tick::wires_of;
+use ticks::view::Input;
+use ticks::view::Wires;
+use ticks::view::wires_of;
 use ticks::view::words_last;
 use ticks::view::words_now;
 

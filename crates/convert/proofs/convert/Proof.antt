@@ -10,8 +10,9 @@ use borrow.Author.Tests.{lt-ltb, le-ltb, ne-eqb}
 use borrow.Author.Needs.{needs}
 use Rattle.card.specs.declared.card.Card.{Card}
 use Rattle.card.specs.Address.{cellCount, cellRoom, cellsFor}
-use Rattle.card.specs.Valid.{every, valid, validCard}
-use Rattle.saved.specs.Record.{narrowWidth, recordLength, recordOf, loadNumber, loaded}
+use Rattle.card.specs.Connectors.{each}
+use Rattle.card.specs.Valid.{every, valid}
+use Rattle.saved.specs.Record.{narrowWidth, recordLength, encode, recordOf, loadNumber, loaded}
 use Rattle.saved.proofs.Records.{loaded-cells}
 use Rattle.convert.specs.Convert.{largeLength, cellsOf, otherWidth, otherLength, shortFor, loaderNumber, narrowCell, tooLong, isBlank, aboveSmall}
 use Rattle.convert.proofs.Laws.{number-is, number-loader, refused-as, converted-as}
@@ -88,22 +89,24 @@ module _ (m n : ℕ) (e : n ≡ m) where
 
 -- and of the cells above those of a small card
 found-above : (v : tie.After-valid-settings)
-    → let load = v .before .before .before .before .before .before .before .before .before in
+    → let load = v .before .before .before .before .before .before .before .before .before .before in
     aboveSmall cellCount (load .before .before .before .before .before .before .before .before .before .args .bytes .now)
     ≡ (not (v .before .all-blank .result) || not (v .valid-settings .result))
-unfolding validCard cellsFor
+unfolding cellsFor
 found-above v =
     let blank = v .before in
-    let load = v .before .before .before .before .before .before .before .before .before in
+    let load = v .before .before .before .before .before .before .before .before .before .before in
     let count = load .before .before .cells-of .ensures in
     let bytes = load .before .before .before .before .before .before .before .before .before .args .bytes .now in
     let d = load .before .fresh-of .result in
     let m = cellsOf cellCount bytes in
     let least = at-least m _ (count .0) (count .1 .0) in
-    let ok = taken (v .before .before .before .before .before .before .before .before) in
+    let ok = taken (v .before .before .before .before .before .before .before .before .before) in
     let all = blank .all-blank .ensures ∙ (λ i. every isBlank (take (count .0 i - cellCount) (drop cellCount (card-at load i .cells))))
     ∙ ap (every isBlank) (sym (drop-taken cellCount m (loaded m d bytes .cells) least)) in
-    let rules = v .valid-settings .ensures ∙ ap (λ (c : Card). valid cellCount (c .trigger) (c .cells) (c .connectors)) (card-at load) in
+    let card = load .load .result .card in
+    let rules = v .valid-settings .ensures ∙ ap (valid cellCount (card .trigger) (card .cells)) (v .before .before .each-of .ensures)
+    ∙ ap (λ (c : Card). valid cellCount (c .trigger) (c .cells) (each (c .connectors))) (card-at load) in
     above-is cellCount bytes d least (at-most m _ (count .0) (count .1 .1)) ok
     ∙ ap₂ (λ (p q : Bool). not p || not q) (sym all) (sym rules)
 
@@ -176,6 +179,9 @@ sub-all-blank c = search needs
 cast-all-blank : tie.Need-cast-all-blank
 cast-all-blank c = search needs
 
+each-of-requires : tie.Need-each-of-requires
+each-of-requires c κs = search needs
+
 all-blank-requires : tie.Need-all-blank-requires
 all-blank-requires c κs = search needs
 
@@ -184,13 +190,13 @@ valid-settings-requires c κs = search needs
 
 returns-5 : tie.Need-returns-5
 returns-5 c =
-    let narrow = c .before .before .before .before in
+    let narrow = c .before .before .before .before .before in
     let e = narrow .before .before .before .before .before in
     let room = e .before .before .before .before in
     let a = room .before .before .before .before .before .before .args in
     let bytes = a .bytes .now in
     let buffer = a .buffer .now in
-    let long = found narrow ∙ c .before .before .before .if4 .left in
+    let long = found narrow ∙ c .before .before .before .before .if4 .left in
     let above = found-above (c .before) ∙ c .if5 .taken in
     let number = number-is cellCount (length buffer) bytes false false false true 0 (known (room .before .before .before)) (enough room) (taken e) long above in
     let r = refused-as cellCount 18 bytes buffer number refl in
@@ -206,7 +212,7 @@ returns-6 : tie.Need-returns-6
 unfolding recordOf
 returns-6 c =
     let last = c .before .before .before .before in
-    let narrow = last .before .before .before .before in
+    let narrow = last .before .before .before .before .before in
     let e = narrow .before .before .before .before .before in
     let load = e .before in
     let count = load .before .before .cells-of .ensures in
@@ -216,14 +222,16 @@ returns-6 c =
     let bytes = a .bytes .now in
     let buffer = a .buffer .now in
     let m = cellsOf cellCount bytes in
-    let long = found narrow ∙ last .before .before .before .if4 .left in
+    let long = found narrow ∙ last .before .before .before .before .if4 .left in
     let above = found-above (last .before) ∙ last .if5 .left in
     let number = number-is cellCount (length buffer) bytes false false false false 0 (known (room .before .before .before)) (enough room)
     (taken e) long above in
     let is = converted-as cellCount bytes buffer number in
     let form = held-form cellCount bytes (load .before .fresh-of .result) (at-least m _ (count .0) (count .1 .0)) (at-most m _ (count .0) (count .1 .1))
     (taken e) in
-    let written = ap (recordOf cellCount (to .result .width)) (card-at load) ∙ form (to .result .width) (to .ensures .0) in (
+    let card = load .load .result .card in
+    let listed-row = ap (encode (to .result .width) (card .trigger) (take cellCount (card .cells))) (last .before .before .before .each-of .ensures) in
+    let written = listed-row ∙ ap (recordOf cellCount (to .result .width)) (card-at load) ∙ form (to .result .width) (to .ensures .0) in (
       sym number,
       (
         to .ensures .1 .1 ∙ is .0,
@@ -245,6 +253,7 @@ convert-spec =
     cast-all-narrow
     all-narrow-requires
     returns-4
+    each-of-requires
     sub-all-blank
     cast-all-blank
     all-blank-requires

@@ -20,6 +20,9 @@ loop-holds c = search needs
 next-requires : tie.Need-next-requires Inv-loop μ-loop
 next-requires c κs = search needs
 
+packed-requires : tie.Need-packed-requires Inv-loop μ-loop
+packed-requires c κs = search needs
+
 mul-words : tie.Need-mul-words Inv-loop μ-loop
 mul-words c = search needs
 
@@ -62,6 +65,7 @@ main-spec =
     start-requires
     loop-holds
     next-requires
+    packed-requires
     mul-words
     array-write-words
     wired-requires

@@ -1,4 +1,5 @@
--- `plexplain::main` meets its contract: it ends after as many turns as there may be reads.
+-- `plexplain::main` is safe and ends: the reader stays within its block, and each line leaves fewer lines and reads.
+use Prim.Native.Nat.{_≤_}
 use mathlib.Core.Path.{_≡_}
 use lib.ListN.{length}
 use borrow.Author.Needs.{needs}
@@ -6,10 +7,10 @@ use Rattle.plexplain.proofs.main.Statement.{statement}
 use Rattle.plexplain.proofs.main.Tie as tie
 
 abbrev Inv-loop : tie.InvT-loop
-Inv-loop block₀ line₀ store₀ out₀ s₀ left₀ block line store out s left = (length block ≡ 2048) × (length line ≡ 96) × (length store ≡ 308)
+Inv-loop block₀ line₀ store₀ out₀ s₀ r₀ block line store out s r = (r .end ≤ r .n) × (r .n ≤ length block) × (length block ≡ 2144) × (length line ≡ 96) × (length store ≡ 308)
 
 abbrev μ-loop : tie.MeasureT-loop
-μ-loop block₀ line₀ store₀ out₀ s₀ left₀ block line store out s left = left
+μ-loop block₀ line₀ store₀ out₀ s₀ r₀ block line store out s r = r .left
 
 large-buffer-requires : tie.Need-large-buffer-requires Inv-loop μ-loop
 large-buffer-requires c κs = search needs
@@ -17,29 +18,35 @@ large-buffer-requires c κs = search needs
 fresh-requires : tie.Need-fresh-requires Inv-loop μ-loop
 fresh-requires c κs = search needs
 
+start-requires : tie.Need-start-requires Inv-loop μ-loop
+start-requires c κs = search needs
+
 loop-holds : tie.Need-loop-holds Inv-loop μ-loop
-loop-holds c = (search needs, search needs, search needs)
+loop-holds c = search needs
 
-slice-aggregate-turn : tie.Need-slice-aggregate-turn Inv-loop μ-loop
-slice-aggregate-turn c = search needs
+slice-aggregate-next-line : tie.Need-slice-aggregate-next-line Inv-loop μ-loop
+slice-aggregate-next-line c = search needs
 
-slice-aggregate-turn-2 : tie.Need-slice-aggregate-turn-2 Inv-loop μ-loop
-slice-aggregate-turn-2 c = search needs
+slice-aggregate-next-line-2 : tie.Need-slice-aggregate-next-line-2 Inv-loop μ-loop
+slice-aggregate-next-line-2 c = search needs
 
-slice-aggregate-turn-3 : tie.Need-slice-aggregate-turn-3 Inv-loop μ-loop
-slice-aggregate-turn-3 c = search needs
+next-line-requires : tie.Need-next-line-requires Inv-loop μ-loop
+next-line-requires c κs = search needs
 
-turn-requires : tie.Need-turn-requires Inv-loop μ-loop
-turn-requires c κs = search needs
+slice-aggregate-take-given : tie.Need-slice-aggregate-take-given Inv-loop μ-loop
+slice-aggregate-take-given c = search needs
 
-sub-left : tie.Need-sub-left Inv-loop μ-loop
-sub-left c = search needs
+slice-aggregate-take-given-2 : tie.Need-slice-aggregate-take-given-2 Inv-loop μ-loop
+slice-aggregate-take-given-2 c = search needs
+
+take-given-requires : tie.Need-take-given-requires Inv-loop μ-loop
+take-given-requires c κs = search needs
 
 loop-less : tie.Need-loop-less Inv-loop μ-loop
 loop-less c = search needs
 
 loop-again : tie.Need-loop-again Inv-loop μ-loop
-loop-again c = (search needs, search needs, search needs)
+loop-again c = search needs
 
 returns : tie.Need-returns Inv-loop μ-loop
 returns c = search needs
@@ -55,12 +62,14 @@ main-spec =
     μ-loop
     large-buffer-requires
     fresh-requires
+    start-requires
     loop-holds
-    slice-aggregate-turn
-    slice-aggregate-turn-2
-    slice-aggregate-turn-3
-    turn-requires
-    sub-left
+    slice-aggregate-next-line
+    slice-aggregate-next-line-2
+    next-line-requires
+    slice-aggregate-take-given
+    slice-aggregate-take-given-2
+    take-given-requires
     loop-less
     loop-again
     returns

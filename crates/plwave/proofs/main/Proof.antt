@@ -28,6 +28,9 @@ loop-holds c = search needs
 next-requires : tie.Need-next-requires Inv-loop μ-loop
 next-requires c κs = search needs
 
+packed-requires : tie.Need-packed-requires Inv-loop μ-loop
+packed-requires c κs = search needs
+
 put-tick-requires : tie.Need-put-tick-requires Inv-loop μ-loop
 put-tick-requires c κs = search needs
 
@@ -57,6 +60,7 @@ main-spec =
     start-requires
     loop-holds
     next-requires
+    packed-requires
     put-tick-requires
     add-t
     loop-less

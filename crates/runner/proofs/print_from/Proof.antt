@@ -4,7 +4,8 @@ use mathlib.Core.Path.{ap, _∙_}
 use lib.ListN.{length-replicate}
 use Rattle.card.specs.Address.{cellCount}
 use Rattle.printed.specs.Parts.{textMost}
-use Rattle.runner.specs.Run.{startState, takesAll, printedSize}
+use Rattle.runner.specs.Run.{startState, enters, printedSize}
+use Rattle.input.specs.Lines.{takesAll}
 use borrow.Author.Needs.{needs}
 use Rattle.runner.proofs.print_from.Statement.{statement}
 use Rattle.runner.proofs.print_from.Tie as tie
@@ -24,7 +25,7 @@ write-front-requires c κs = search needs
 returns : tie.Need-returns
 returns c =
     let w = c .before .before .before .wiring-from .ensures .0 in
-    let size = ap (printedSize (takesAll (startState cellCount) (w .0) .card)) (length-replicate {A = ℕ} textMost 0) in
+    let size = ap (printedSize (takesAll enters (startState cellCount) (w .0) .done .card)) (length-replicate {A = ℕ} textMost 0) in
     (w .0, c .write-front .ensures .0 ∙ w .1 .size ∙ size)
 
 pub print-from-spec : {M : Type 1} → statement M

@@ -6,8 +6,9 @@ use native.Mathlib.Omega.{arith}
 use lib.Seq.{length-take-le}
 use Rattle.card.specs.Address.{cellCount}
 use Rattle.card.specs.Fresh.{fresh}
-use Rattle.runner.specs.Run.{part, mostReads, runStateOf}
-use Rattle.runner.proofs.Runs.{part-length}
+use Rattle.input.specs.Lines.{part, mostReads}
+use Rattle.input.proofs.Lines.{part-length}
+use Rattle.runner.specs.Run.{runStateOf}
 use Rattle.runner.proofs.Turns.{reached-start, reached-turn, Underway, ran, has-read}
 use borrow.Author.Needs.{needs}
 use Rattle.runner.proofs.run_with.Statement.{statement}

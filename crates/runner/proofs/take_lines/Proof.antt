@@ -6,8 +6,10 @@ use mathlib.Core.Path.{_≡_, refl, _∙_}
 use native.Mathlib.Omega.{arith}
 use lib.ListN.{length, drop, getD}
 use Rattle.console.specs.Console.{longestPrint}
-use Rattle.runner.specs.Run.{part, takesAll, stateOf, ended, longer}
-use Rattle.runner.proofs.Runs.{inBlock, first-line, next-line, drop-further}
+use Rattle.input.specs.Lines.{ended, longer, takesAll, part}
+use Rattle.input.proofs.Lines.{first-line, next-line}
+use Rattle.runner.specs.Run.{enters, stateOf}
+use Rattle.runner.proofs.Runs.{inBlock, drop-further}
 use borrow.Author.Tests.{leb-true, leb-false}
 use borrow.Author.Needs.{needs}
 use Rattle.runner.proofs.take_lines.Statement.{statement}
@@ -20,7 +22,7 @@ Inv-loop block n store₀ out₀ s₀ start₀ end₀ store out s start end =
     × (end ≤ n)
     × (end < n → getD block end 0 ≡ 10)
     × (s .used ≤ s₀ .used + longestPrint * (start - s₀ .len))
-    × (inBlock s block store out start end ≡ takesAll (stateOf s₀ store₀ block out₀) (part (s₀ .len) end block))
+    × (inBlock s block store out start end ≡ takesAll enters (stateOf s₀ store₀ block out₀) (part (s₀ .len) end block))
     × (s .used ≤ length out₀)
     × (length out ≡ length out₀)
     × (drop (s .used) out ≡ drop (s .used) out₀)
@@ -42,7 +44,7 @@ loop-holds c =
       f .1 .0,
       f .1 .1 .1,
       omega arith,
-      first-line (a .state) (a .block .now) (a .store .now) (a .out .now) (c .line-end .result) (f .0) (f .1 .1 .0),
+      first-line enters _ (a .block .now) (a .state .len) (c .line-end .result) (f .0) (f .1 .1 .0),
       o .pre .1 .1,
       refl,
       refl,
@@ -101,14 +103,14 @@ loop-again c =
     let fits : next ≤ length (a .block .now) = omega (arith, within, o .pre .1 .0) in
     let rest = part (l .end + 1) next (a .block .now) in
     let last = w .enter .last .1 .1 in
-    let left : inBlock (w .enter .result) (a .block .now) (last .0) (last .1 .0) (l .end + 1) next ≡ longer (ended x) rest =
-    λ i. record { card = e .0 i; store = e .1 .0 i; line = rest; printed = e .1 .1 .0 i } in (
+    let left : inBlock (w .enter .result) (a .block .now) (last .0) (last .1 .0) (l .end + 1) next ≡ longer (ended enters x) rest =
+    λ i. record { done = record { card = e .0 i; store = e .1 .0 i; printed = e .1 .1 .0 i }; line = rest } in (
       f .0,
       omega (arith, behind, l .inv .1),
       f .1 .0,
       f .1 .1 .1,
       omega (arith, e .1 .1 .1 .0, l .inv .0, l .inv .1, l .inv .4),
-      left ∙ next-line _ x (a .block .now) (a .state .len) (l .end) next (l .inv .1) (omega (arith, behind)) fits lf (f .1 .1 .0) (l .inv .5),
+      left ∙ next-line enters _ x (a .block .now) (a .state .len) (l .end) next (l .inv .1) (omega (arith, behind)) fits lf (f .1 .1 .0) (l .inv .5),
       omega (arith, e .1 .1 .1 .0, room, l .inv .6, l .inv .7),
       search needs,
       e .1 .1 .1 .1 .1 ∙ drop-further (l .out) (a .out .now) (l .s .used) (w .enter .result .used) (e .1 .1 .1 .1 .0) (l .inv .8),

@@ -14,15 +14,15 @@ returns c =
     let t = c .before .before .before .before .args .t in
     rw (not-true (t .answer .ran) (c .before .if1 .taken)) (c .nothing .ensures)
 
-words-in-requires : tie.Need-words-in-requires
-words-in-requires c κs = search needs
+words-of-requires : tie.Need-words-of-requires
+words-of-requires c κs = search needs
 
 returns-2 : tie.Need-returns-2
 unfolding shownBy
 returns-2 c =
     let e = c .before .before .before in
     let t = e .before .before .before .args .t in
-    rw (not-false (t .answer .ran) (e .if1 .left), c .words-in .ensures)
+    rw (not-false (t .answer .ran) (e .if1 .left), c .words-of .ensures)
 
 pub shown-by-spec : {M : Type 1} → statement M
-shown-by-spec = tie.close (tie.spec nothing-requires returns words-in-requires returns-2)
+shown-by-spec = tie.close (tie.spec nothing-requires returns words-of-requires returns-2)

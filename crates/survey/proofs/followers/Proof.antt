@@ -3,34 +3,27 @@ use Prim.Native.Nat.{ℕ, _-_, _≤_, zero-le}
 use mathlib.Core.Path.{_≡_, refl, sym, ap, _∙_}
 use mathlib.Core.Bool.{Bool}
 use native.Mathlib.Omega.{arith}
-use lib.ListN.{getD}
 use borrow.Author.Needs.{needs}
 use Rattle.words.specs.Bits.{bitAt, wordOf}
 use Rattle.words.proofs.Laws.{built-next, built-fits}
 use Rattle.card.specs.Address.{connectorCount}
-use Rattle.card.specs.Connectors.{noConnector}
+use Rattle.card.specs.Connectors.{connectorAt}
 use Rattle.survey.specs.Survey.{drivenFrom}
 use Rattle.survey.proofs.followers.Statement.{statement}
 use Rattle.survey.proofs.followers.Tie as tie
 
 abbrev Inv-loop : tie.InvT-loop
-Inv-loop set connectors w₀ j₀ w j = (j ≤ connectorCount) × (w ≡ wordOf (λ j. drivenFrom (bitAt set) (getD connectors j noConnector)) j)
+Inv-loop connectors set w₀ j₀ w j = (j ≤ connectorCount) × (w ≡ wordOf (λ j. drivenFrom (bitAt set) (connectorAt connectors j)) j)
 
 abbrev μ-loop : tie.MeasureT-loop
-μ-loop set connectors w₀ j₀ w j = connectorCount - j
+μ-loop connectors set w₀ j₀ w j = connectorCount - j
 
 loop-holds : tie.Need-loop-holds Inv-loop μ-loop
 unfolding wordOf
 loop-holds c = (zero-le, refl)
 
-cast-driven-from : tie.Need-cast-driven-from Inv-loop μ-loop
-cast-driven-from c = search needs
-
-mul-driven-from : tie.Need-mul-driven-from Inv-loop μ-loop
-mul-driven-from c = search needs
-
-array-copy-out-driven-from : tie.Need-array-copy-out-driven-from Inv-loop μ-loop
-array-copy-out-driven-from c = search needs
+connector-at-requires : tie.Need-connector-at-requires Inv-loop μ-loop
+connector-at-requires c κs = search needs
 
 driven-from-requires : tie.Need-driven-from-requires Inv-loop μ-loop
 driven-from-requires c κs = search needs
@@ -48,8 +41,8 @@ loop-again : tie.Need-loop-again Inv-loop μ-loop
 loop-again c =
     let l = c .before .before .before .before .loop in
     let a = c .before .before .before .before .before .args in
-    let f : ℕ → Bool = λ j. drivenFrom (bitAt (a .set)) (getD (a .t1) j noConnector) in
-    (omega arith, built-next f (l .j) (l .w) _ _ (l .inv .1) (c .before .driven-from .ensures) (c .pushed .ensures))
+    let f : ℕ → Bool = λ j. drivenFrom (bitAt (a .set)) (connectorAt (a .connectors) j) in
+    (omega arith, built-next f (l .j) (l .w) _ _ (l .inv .1) (c .before .driven-from .ensures ∙ ap (drivenFrom (bitAt (a .set))) (c .before .before .connector-at .ensures)) (c .pushed .ensures))
 
 cast-result : tie.Need-cast-result Inv-loop μ-loop
 cast-result c =
@@ -70,9 +63,7 @@ followers-spec =
     Inv-loop
     μ-loop
     loop-holds
-    cast-driven-from
-    mul-driven-from
-    array-copy-out-driven-from
+    connector-at-requires
     driven-from-requires
     pushed-requires
     add-j

@@ -12,7 +12,7 @@ use borrow.Author.Needs.{needs}
 use borrow.Author.Tests.{eqb-true, eqb-false}
 use Rattle.cells.specs.declared.cell.Cell.{Cell}
 use Rattle.words.proofs.Bools.{and-left, and-right}
-use Rattle.card.specs.declared.card.Connector.{Connector}
+use Rattle.card.specs.declared.card.Connectors.{Connectors}
 use Rattle.card.specs.Address.{cellRoom, connectorCount}
 use Rattle.survey.specs.Rounds.{rounds}
 use Rattle.survey.proofs.Smallest.{or-ge, rounds-fit, round-cells, round-lines, settled-smallest, readers-seen, followers-seen}
@@ -20,23 +20,23 @@ use Rattle.survey.proofs.reach.Statement.{statement}
 use Rattle.survey.proofs.reach.Tie as tie
 
 -- the words after m rounds
-abbrev After : ℕ → List Cell → List Connector → (k m x y : ℕ) → Type 0
+abbrev After : ℕ → List Cell → Connectors → (k m x y : ℕ) → Type 0
 After n cs ds k m x y = (x ≡ rounds n cs ds k m .0) × (y ≡ rounds n cs ds k m .1)
 
 abbrev Inv-loop : tie.InvT-loop
-Inv-loop cells k n connectors found₀ lines₀ found lines = (m : ℕ) × After n cells connectors k m found lines
+Inv-loop cells connectors k n found₀ lines₀ found lines = (m : ℕ) × After n cells connectors k m found lines
 
 -- words only grow, and none is longer than 32 bits and 16
 abbrev left : (x y : ℕ) → ℕ
 left x y = 4294967296 - x + (65536 - y)
 
 abbrev μ-loop : tie.MeasureT-loop
-μ-loop cells k n connectors found₀ lines₀ found lines = left found lines
+μ-loop cells connectors k n found₀ lines₀ found lines = left found lines
 
-fit-cells : (n : ℕ) (cs : List Cell) (ds : List Connector) (k m x y : ℕ) → n ≤ cellRoom → k < connectorCount → After n cs ds k m x y → x < 2 ^ n
+fit-cells : (n : ℕ) (cs : List Cell) (ds : Connectors) (k m x y : ℕ) → n ≤ cellRoom → k < connectorCount → After n cs ds k m x y → x < 2 ^ n
 fit-cells n cs ds k m x y small inside at = rw (at .0) (rounds-fit n cs ds k m inside .0)
 
-fit-lines : (n : ℕ) (cs : List Cell) (ds : List Connector) (k m x y : ℕ) → k < connectorCount → After n cs ds k m x y → y < 65536
+fit-lines : (n : ℕ) (cs : List Cell) (ds : Connectors) (k m x y : ℕ) → k < connectorCount → After n cs ds k m x y → y < 65536
 fit-lines n cs ds k m x y inside at = rw (at .1) (rounds-fit n cs ds k m inside .1)
 
 less : (x y x′ y′ : ℕ) → x ≤ x′ → y ≤ y′ → x < 4294967296 → y < 65536 → (eqb x′ x && eqb y′ y) ≡ false → left x′ y′ < left x y
@@ -52,18 +52,15 @@ less x y x′ y′ hx hy fx fy e = go (eqb x′ x) refl e
         let lt : x < x′ = omega arith in
         omega arith
 
-mul-start : tie.Need-mul-start Inv-loop μ-loop
-mul-start c = search needs
-
-array-copy-out-start : tie.Need-array-copy-out-start Inv-loop μ-loop
-array-copy-out-start c = search needs
+connector-at-requires : tie.Need-connector-at-requires Inv-loop μ-loop
+connector-at-requires c κs = search needs
 
 start-requires : tie.Need-start-requires Inv-loop μ-loop
 start-requires c κs = search needs
 
 loop-holds : tie.Need-loop-holds Inv-loop μ-loop
 unfolding rounds
-loop-holds c = (zero, (refl, c .start .ensures))
+loop-holds c = (zero, (refl, rw (c .before .connector-at .ensures) at (c .start .ensures)))
 
 sees-requires : tie.Need-sees-requires Inv-loop μ-loop
 sees-requires c κs = search needs
@@ -80,13 +77,13 @@ returns c =
     let l = b .before .before .loop in
     let a = b .before .before .before .before .before .args in
     let at = l .inv .1 in
-    let short = fit-cells (a .n) (a .cells) (a .t2) (a .k) (l .inv .0) (l .found) (l .lines) (search needs) (search needs) at in
+    let short = fit-cells (a .n) (a .cells) (a .connectors) (a .k) (l .inv .0) (l .found) (l .lines) (search needs) (search needs) at in
     let set = b .before .sees .ensures (a .n) (search needs) short short in
-    let r = readers-seen (a .n) (a .cells) (a .t2) (l .found) (l .lines) _ _ set (b .readers .ensures) in
-    let f = followers-seen (a .n) (a .cells) (a .t2) (l .found) (l .lines) _ _ set (c .before .followers .ensures) in
+    let r = readers-seen (a .n) (a .cells) (a .connectors) (l .found) (l .lines) _ _ set (b .readers .ensures) in
+    let f = followers-seen (a .n) (a .cells) (a .connectors) (l .found) (l .lines) _ _ set (c .before .followers .ensures) in
     let more = bitOr (l .found) (b .readers .result) in
     let further = bitOr (l .lines) (c .before .followers .result) in
-    settled-smallest (a .n) (a .cells) (a .t2) (a .k) (l .inv .0) (l .found) (l .lines) (search needs) (search needs) (at .0) (at .1)
+    settled-smallest (a .n) (a .cells) (a .connectors) (a .k) (l .inv .0) (l .found) (l .lines) (search needs) (search needs) (at .0) (at .1)
     (ap (bitOr (l .found)) (sym r) ∙ eqb-true more (l .found) (and-left (eqb more (l .found)) (eqb further (l .lines)) (c .if1 .taken)))
     (ap (bitOr (l .lines)) (sym f) ∙ eqb-true further (l .lines) (and-right (eqb more (l .found)) (eqb further (l .lines)) (c .if1 .taken)))
 
@@ -97,9 +94,9 @@ loop-less c =
     let a = b .before .before .before .before .before .args in
     let at = l .inv .1 in
     let small : a .n ≤ cellRoom = search needs in
-    let short = fit-cells (a .n) (a .cells) (a .t2) (a .k) (l .inv .0) (l .found) (l .lines) small (search needs) at in
+    let short = fit-cells (a .n) (a .cells) (a .connectors) (a .k) (l .inv .0) (l .found) (l .lines) small (search needs) at in
     less (l .found) (l .lines) _ _ (or-ge (l .found) _) (or-ge (l .lines) _) (lt-of-lt-of-le short (pow-mono small))
-    (fit-lines (a .n) (a .cells) (a .t2) (a .k) (l .inv .0) (l .found) (l .lines) (search needs) at) (c .if1 .left)
+    (fit-lines (a .n) (a .cells) (a .connectors) (a .k) (l .inv .0) (l .found) (l .lines) (search needs) at) (c .if1 .left)
 
 loop-again : tie.Need-loop-again Inv-loop μ-loop
 loop-again c =
@@ -107,14 +104,14 @@ loop-again c =
     let l = b .before .before .loop in
     let a = b .before .before .before .before .before .args in
     let at = l .inv .1 in
-    let short = fit-cells (a .n) (a .cells) (a .t2) (a .k) (l .inv .0) (l .found) (l .lines) (search needs) (search needs) at in
+    let short = fit-cells (a .n) (a .cells) (a .connectors) (a .k) (l .inv .0) (l .found) (l .lines) (search needs) (search needs) at in
     let set = b .before .sees .ensures (a .n) (search needs) short short in
-    let r = readers-seen (a .n) (a .cells) (a .t2) (l .found) (l .lines) _ _ set (b .readers .ensures) in
-    let f = followers-seen (a .n) (a .cells) (a .t2) (l .found) (l .lines) _ _ set (c .before .followers .ensures) in (
+    let r = readers-seen (a .n) (a .cells) (a .connectors) (l .found) (l .lines) _ _ set (b .readers .ensures) in
+    let f = followers-seen (a .n) (a .cells) (a .connectors) (l .found) (l .lines) _ _ set (c .before .followers .ensures) in (
       suc (l .inv .0),
       (
-        round-cells (a .n) (a .cells) (a .t2) (a .k) (l .inv .0) (l .found) (l .lines) _ (at .0) (at .1) r,
-        round-lines (a .n) (a .cells) (a .t2) (a .k) (l .inv .0) (l .found) (l .lines) _ (at .0) (at .1) f,
+        round-cells (a .n) (a .cells) (a .connectors) (a .k) (l .inv .0) (l .found) (l .lines) _ (at .0) (at .1) r,
+        round-lines (a .n) (a .cells) (a .connectors) (a .k) (l .inv .0) (l .found) (l .lines) _ (at .0) (at .1) f,
       ),
     )
 
@@ -124,8 +121,7 @@ reach-spec =
     (tie.spec
     Inv-loop
     μ-loop
-    mul-start
-    array-copy-out-start
+    connector-at-requires
     start-requires
     loop-holds
     sees-requires

@@ -10,7 +10,7 @@ use Rattle.words.proofs.Listed.{listed-next}
 use Rattle.cells.specs.declared.cell.Cell.{Cell}
 use Rattle.why.specs.declared.cell.Reasons.{Reasons}
 use Rattle.card.specs.Fresh.{noCell}
-use Rattle.ticks.specs.declared.tick.Wires.{Wires}
+use Rattle.ticks.specs.declared.view.Wires.{Wires}
 use Rattle.why.specs.Reasons.{reasonsAt, noReasons}
 use Rattle.why.proofs.each.Statement.{statement}
 use Rattle.why.proofs.each.Tie as tie

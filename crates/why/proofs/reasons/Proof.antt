@@ -8,7 +8,7 @@ use lib.ListN.{drop, replicate}
 use Rattle.why.specs.declared.cell.Reasons.{Reasons}
 use Rattle.card.specs.declared.card.Memory.{Memory}
 use Rattle.card.specs.Address.{cellCount, cellRoom, cellsFor}
-use Rattle.ticks.specs.declared.tick.Wires.{Wires}
+use Rattle.ticks.specs.declared.view.Wires.{Wires}
 use Rattle.ticks.specs.Tick.{tick, wiresOf}
 use Rattle.ticks.specs.Words.{Fits, FitsMemory}
 use Rattle.ticks.proofs.Trim.{trim-fits}

@@ -14,23 +14,20 @@ cast-is-connector c = search needs
 is-connector-requires : tie.Need-is-connector-requires
 is-connector-requires c κs = search needs
 
-sub-at : tie.Need-sub-at
-sub-at c = among-bounds firstConnector connectorCount _ (sym (c .before .is-connector .ensures) ∙ c .if1 .taken) .0
+sub-connector-at : tie.Need-sub-connector-at
+sub-connector-at c = among-bounds firstConnector connectorCount _ (sym (c .before .before .is-connector .ensures) ∙ c .before .if1 .taken) .0
 
-cast-at : tie.Need-cast-at
-cast-at c = search needs
+cast-connector-at : tie.Need-cast-connector-at
+cast-connector-at c = search needs
 
-mul-result : tie.Need-mul-result
-mul-result c = search needs
-
-element-copy-out-result : tie.Need-element-copy-out-result
-element-copy-out-result c =
-    let here = sym (c .before .is-connector .ensures) ∙ c .if1 .taken in
-    omega (arith, among-bounds firstConnector connectorCount (c .before .before .args .t1 .pointer) here)
+connector-at-requires : tie.Need-connector-at-requires
+connector-at-requires c κs =
+    let here = sym (c .before .before .is-connector .ensures) ∙ c .before .if1 .taken in
+    omega (arith, among-bounds firstConnector connectorCount (c .before .before .before .args .card .pointer) here)
 
 returns : tie.Need-returns
 unfolding currentConnector
-returns c = rw (sym (c .before .before .is-connector .ensures) ∙ c .before .if1 .taken)
+returns c = rw (sym (c .before .before .before .is-connector .ensures) ∙ c .before .before .if1 .taken, c .connector-at .ensures)
 
 returns-2 : tie.Need-returns-2
 unfolding currentConnector
@@ -38,4 +35,12 @@ returns-2 c = rw (sym (c .before .is-connector .ensures) ∙ c .if1 .left)
 
 pub current-connector-spec : {M : Type 1} → statement M
 current-connector-spec =
-    tie.close (tie.spec cast-is-connector is-connector-requires sub-at cast-at mul-result element-copy-out-result returns returns-2)
+    tie.close
+    (tie.spec
+    cast-is-connector
+    is-connector-requires
+    sub-connector-at
+    cast-connector-at
+    connector-at-requires
+    returns
+    returns-2)

@@ -1,18 +1,46 @@
--- `card::edits::set_source` meets its contract: by those of its two calls.
-use Rattle.card.specs.Edits.{setSource}
+-- `card::edits::set_source` meets its contract: one connector is changed where the pointer stands at it.
+use mathlib.Core.Path.{sym, _∙_}
+use native.Mathlib.Omega.{arith}
+use Rattle.card.specs.Address.{connectorCount, firstConnector}
+use Rattle.card.specs.Edits.{putConnectors, setSource}
+use Rattle.card.proofs.Places.{among-bounds}
 use borrow.Author.Needs.{needs}
 use Rattle.card.proofs.edits.set_source.Statement.{statement}
 use Rattle.card.proofs.edits.set_source.Tie as tie
 
-current-connector-requires : tie.Need-current-connector-requires
-current-connector-requires c κs = search needs
+cast-is-connector : tie.Need-cast-is-connector
+cast-is-connector c = search needs
 
-put-connector-requires : tie.Need-put-connector-requires
-put-connector-requires c κs = search needs
+is-connector-requires : tie.Need-is-connector-requires
+is-connector-requires c κs = search needs
+
+sub-with-source : tie.Need-sub-with-source
+sub-with-source c = among-bounds firstConnector connectorCount _ (sym (c .before .before .is-connector .ensures) ∙ c .before .if1 .taken) .0
+
+cast-with-source : tie.Need-cast-with-source
+cast-with-source c = search needs
+
+with-source-requires : tie.Need-with-source-requires
+with-source-requires c κs =
+    let here = sym (c .before .before .is-connector .ensures) ∙ c .before .if1 .taken in
+    omega (arith, among-bounds firstConnector connectorCount (c .before .before .before .args .card .pointer) here)
 
 returns : tie.Need-returns
-unfolding setSource
-returns c = rw (c .put-connector .ensures, c .before .current-connector .ensures)
+unfolding putConnectors setSource
+returns c = rw (sym (c .before .before .before .is-connector .ensures) ∙ c .before .before .if1 .taken, c .with-source .ensures)
+
+returns-2 : tie.Need-returns-2
+unfolding putConnectors setSource
+returns-2 c = rw (sym (c .before .is-connector .ensures) ∙ c .if1 .left)
 
 pub set-source-spec : {M : Type 1} → statement M
-set-source-spec = tie.close (tie.spec current-connector-requires put-connector-requires returns)
+set-source-spec =
+    tie.close
+    (tie.spec
+    cast-is-connector
+    is-connector-requires
+    sub-with-source
+    cast-with-source
+    with-source-requires
+    returns
+    returns-2)

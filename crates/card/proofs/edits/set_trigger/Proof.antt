@@ -5,20 +5,16 @@ use borrow.Author.Needs.{needs}
 use Rattle.card.proofs.edits.set_trigger.Statement.{statement}
 use Rattle.card.proofs.edits.set_trigger.Tie as tie
 
-element-copy-out-old : tie.Need-element-copy-out-old
-element-copy-out-old c = search needs
-
-element-set-from-next : tie.Need-element-set-from-next
-element-set-from-next c = search needs
+with-kind-requires : tie.Need-with-kind-requires
+with-kind-requires c κs = search needs
 
 returns : tie.Need-returns
 unfolding setTrigger
-returns c = rw (eq-eqb _ _ (c .before .if1 .taken))
+returns c = rw (eq-eqb _ _ (c .before .before .if1 .taken), c .with-kind .ensures)
 
 returns-2 : tie.Need-returns-2
 unfolding setTrigger
 returns-2 c = rw (ne-eqb _ _ (c .if1 .left))
 
 pub set-trigger-spec : {M : Type 1} → statement M
-set-trigger-spec =
-    tie.close (tie.spec element-copy-out-old element-set-from-next returns returns-2)
+set-trigger-spec = tie.close (tie.spec with-kind-requires returns returns-2)

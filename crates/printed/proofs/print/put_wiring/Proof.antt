@@ -6,6 +6,7 @@ use native.Mathlib.Nat.{zero-add}
 use native.Mathlib.Omega.{arith}
 use lib.ListN.{length, take}
 use lib.Seq.{sets}
+use Rattle.card.specs.Connectors.{each}
 use Rattle.commands.specs.Grammar.{PM-E=}
 use Rattle.printed.specs.Wiring.{cellCommands, connectorCommands, commandsFrom}
 use Rattle.printed.specs.Parts.{commandsText, part, textMost}
@@ -17,6 +18,9 @@ use Rattle.printed.proofs.print.put_wiring.Tie as tie
 
 cells-for-requires : tie.Need-cells-for-requires
 cells-for-requires c κs = search needs
+
+each-of-requires : tie.Need-each-of-requires
+each-of-requires c κs = search needs
 
 put-cells-requires : tie.Need-put-cells-requires
 put-cells-requires c κs = search needs
@@ -40,14 +44,15 @@ returns : tie.Need-returns
 returns c =
     let k = c .before .before .before .before .before in
     let d = k .before .before in
-    let z = d .before .before .before .before in
+    let z = d .before .before .before .before .before in
     let a = z .before .args in
     let n = z .cells-for .result in
     let sized = z .cells-for .ensures .0 in
     let cells = commandsText (commandsFrom cellCommands 0 (take n (a .card .cells))) in
-    let connectors = commandsText (commandsFrom connectorCommands 0 (a .card .connectors)) in
+    let connectors = commandsText (commandsFrom connectorCommands 0 (each (a .card .connectors))) in
     let first : Placed (a .out .now) 0 _ cells _ = record { bytes = d .put-cells .ensures .0; at-end = d .put-cells .ensures .1 .0 } in
-    let more = placed-then first connectors (k .put-connectors .ensures .0) (k .put-connectors .ensures .1 .0) in
+    let listed-row = rw (d .before .before .each-of .ensures) at (k .put-connectors .ensures) in
+    let more = placed-then first connectors (listed-row .0) (listed-row .1 .0) in
     let all = placed-then more (part true PM-E= (a .card .trigger) LF) (c .put .ensures .0) (c .put .ensures .1 .0) in
     let whole = placed-as (wiring-parts n (a .card)) all in
     let end = whole .at-end ∙ zero-add (length (wiringText n (a .card))) in
@@ -59,6 +64,7 @@ put-wiring-spec =
     tie.close
     (tie.spec
     cells-for-requires
+    each-of-requires
     put-cells-requires
     put-connectors-requires
     slice-aggregate-put

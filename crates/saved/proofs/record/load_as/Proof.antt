@@ -8,6 +8,8 @@ use lib.ListN.{length, drop}
 use borrow.Author.Tests.{not-true, not-false}
 use borrow.Author.Needs.{needs}
 use Rattle.card.specs.declared.card.Connector.{Connector}
+use Rattle.card.specs.declared.card.Connectors.{Connectors}
+use Rattle.card.specs.Connectors.{fromEach}
 use Rattle.card.specs.Fresh.{started}
 use Rattle.card.specs.Valid.{valid}
 use Rattle.saved.specs.Record.{recordLength, triggerIn, loadCells, connectorsIn, loadNumberAs, poweredUp}
@@ -37,11 +39,11 @@ long c = headed-length _ _ _ (sym (c .before .is-headed .ensures) ∙ not-false 
 
 -- and the number by the test of the settings
 tested : (c : tie.After-valid-settings)
-    → let a = c .before .before .before .before .before .before .before .before .before .before .before .args in
+    → let a = c .before .before .before .before .before .before .before .before .before .before .before .before .before .args in
     loadNumberAs (a .n) (a .width) (a .bytes .now) ≡ cond (c .valid-settings .result) 0 15
 tested c =
-    let connectors = c .before .before .before in
-    let cells = connectors .before in
+    let connectors = c .before .before .before .before in
+    let cells = connectors .before .before in
     let heads = cells .before .before .before .before in
     let start = heads .before .before .before in
     let a = start .args in
@@ -68,8 +70,14 @@ shared-slice-read-trigger c = omega (arith, long (c .before))
 cells-in-requires : tie.Need-cells-in-requires
 cells-in-requires c κs = (omega (arith, long (c .before .before .before)), (search needs, search needs))
 
+each-of-requires : tie.Need-each-of-requires
+each-of-requires c κs = search needs
+
 connectors-in-requires : tie.Need-connectors-in-requires
-connectors-in-requires c κs = (search needs, (long (c .before .before .before .before), search needs))
+connectors-in-requires c κs = (search needs, (long (c .before .before .before .before .before), search needs))
+
+from-each-requires : tie.Need-from-each-requires
+from-each-requires c κs = search needs
 
 all-edited-requires : tie.Need-all-edited-requires
 all-edited-requires c κs = search needs
@@ -82,21 +90,22 @@ valid-settings-requires c κs = search needs
 
 returns-2 : tie.Need-returns-2
 returns-2 c =
-    let a = c .before .before .before .before .before .before .before .before .before .before .before .before .args in
+    let a = c .before .before .before .before .before .before .before .before .before .before .before .before .before .before .args in
     let bad : c .before .valid-settings .result ≡ false = not-true _ (c .if2 .taken) in
     refused-with (a .n) (a .width) (a .card) (a .bytes .now) 15 (tested (c .before) ∙ rw bad) refl
 
 returns-3 : tie.Need-returns-3
 returns-3 c =
-    let a = c .before .before .before .before .before .before .before .before .before .before .before .before .args in
+    let a = c .before .before .before .before .before .before .before .before .before .before .before .before .before .before .args in
     let good : c .before .valid-settings .result ≡ true = not-false _ (c .if2 .left) in
     let n : loadNumberAs (a .n) (a .width) (a .bytes .now) ≡ 0 = tested (c .before) ∙ rw good in
     let edits = c .before .before .before in
-    let connectors = edits .before in
-    let cells = connectors .before in
+    let row = edits .before in
+    let connectors = row .before in
+    let cells = connectors .before .before in
     let whole = loaded-from (a .n) (a .width) (a .card) (a .bytes .now) (cells .cells-in .result) (cells .cells-in .ensures) n in
-    let same = ap₂ (λ (k : List Connector) (e : ℕ). started (a .card .size) (triggerIn (a .bytes .now)) (cells .cells-in .result) k e)
-    (connectors .connectors-in .ensures) (edits .all-edited .ensures) in
+    let same = ap₂ (λ (k : Connectors) (e : ℕ). started (a .card .size) (triggerIn (a .bytes .now)) (cells .cells-in .result) k e)
+    (row .from-each .ensures ∙ ap fromEach (connectors .connectors-in .ensures)) (edits .all-edited .ensures) in
     (c .before .before .started .ensures ∙ same ∙ sym whole, sym n)
 
 pub load-as-spec : {M : Type 1} → statement M
@@ -107,7 +116,9 @@ load-as-spec =
     returns
     shared-slice-read-trigger
     cells-in-requires
+    each-of-requires
     connectors-in-requires
+    from-each-requires
     all-edited-requires
     started-requires
     valid-settings-requires

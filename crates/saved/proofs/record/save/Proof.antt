@@ -30,6 +30,9 @@ returns c =
     let full = short _ _ _ (c .before .record-length .ensures) (c .if1 .taken) in
     (rw full, rw full)
 
+each-of-requires : tie.Need-each-of-requires
+each-of-requires c κs = search needs
+
 encode-to-requires : tie.Need-encode-to-requires
 encode-to-requires c κs = search needs
 
@@ -39,12 +42,12 @@ same-length c = search needs
 returns-2 : tie.Need-returns-2
 unfolding savedTo recordOf
 returns-2 c =
-    let i = c .before .before .before .before .before .before in
+    let i = c .before .before .before .before .before .before .before in
     let z = i .before .before in
     let room = roomy _ _ _ (i .before .record-length .ensures) (i .if1 .left) in
-    (rw (c .before .before .encode-to .ensures, z .cells-for .ensures .0, room), rw room)
+    (rw (c .before .before .encode-to .ensures, c .before .before .before .each-of .ensures, z .cells-for .ensures .0, room), rw room)
 
 pub save-spec : {M : Type 1} → statement M
 save-spec =
     tie.close
-    (tie.spec cells-for-requires record-length-requires returns encode-to-requires same-length returns-2)
+    (tie.spec cells-for-requires record-length-requires returns each-of-requires encode-to-requires same-length returns-2)

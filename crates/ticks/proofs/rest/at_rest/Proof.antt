@@ -11,7 +11,7 @@ use Rattle.words.proofs.Bools.{or-left, or-right, and-left, and-right, and-both
 use Rattle.card.specs.declared.card.Card.{Card}
 use Rattle.card.specs.declared.card.Memory.{Memory}
 use Rattle.card.specs.Address.{cellsFor}
-use Rattle.ticks.specs.declared.tick.Input.{Input}
+use Rattle.ticks.specs.declared.view.Input.{Input}
 use Rattle.ticks.specs.Tick.{wiresOf}
 use Rattle.ticks.specs.Rest.{steady, AtRest, Decides}
 use Rattle.ticks.proofs.AtRest.{memory-steady, idle-rests, rests-still, rest-fits}

@@ -4,7 +4,7 @@ use mathlib.Core.Bool.{_&&_}
 use Prim.Native.Nat.{ℕ}
 use lib.Dec.{eqb}
 use borrow.Author.Needs.{needs}
-use Rattle.ticks.specs.declared.tick.Wires.{Wires}
+use Rattle.ticks.specs.declared.view.Wires.{Wires}
 use Rattle.ticks.specs.Rest.{steady}
 use Rattle.ticks.proofs.rest.holds_still.Statement.{statement}
 use Rattle.ticks.proofs.rest.holds_still.Tie as tie

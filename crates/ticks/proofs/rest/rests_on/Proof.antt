@@ -8,7 +8,7 @@ use borrow.Author.Needs.{needs}
 use Rattle.words.proofs.Bools.{or-left, or-right}
 use Rattle.ticks.specs.declared.connectors.Lines.{Lines}
 use Rattle.ticks.specs.Tick
-use Rattle.ticks.proofs.FastPath.{steady-wires, rest-seen}
+use Rattle.ticks.proofs.AtRest.{steady-wires, rest-seen}
 use Rattle.ticks.proofs.AtRest.{StillMemory, viewLast, steady-memory, still-fits, still-rests, rests-still}
 use Rattle.ticks.proofs.rest.rests_on.Statement.{statement}
 use Rattle.ticks.proofs.rest.rests_on.Tie as tie

@@ -1,8 +1,15 @@
 -- `ticks::tick::lines_in` meets its contract: the connectors read the words of two views as the views.
-use mathlib.Core.Path.{_∙_}
+use Prim.Native.Nat.{ℕ}
+use mathlib.Core.Path.{ap, _∙_}
+use native.Mathlib.Nat.{le-refl}
+use lib.Dec.{lit<}
 use Rattle.words.specs.Bits.{bitAt}
 use Rattle.ticks.specs.Levels.{effectiveSample, linesOf}
+use Rattle.words.proofs.Laws.{bit-built}
+use Rattle.card.specs.Address.{cellRoom}
+use Rattle.ticks.specs.Reading.{view}
 use Rattle.ticks.proofs.Ticks.{lines-built}
+use Rattle.ticks.proofs.Views.{level-zero}
 use borrow.Author.Needs.{needs}
 use Rattle.ticks.proofs.tick.lines_in.Statement.{statement}
 use Rattle.ticks.proofs.tick.lines_in.Tie as tie
@@ -16,8 +23,14 @@ sees-requires-2 c κs = search needs
 effective-requires : tie.Need-effective-requires
 effective-requires c κs = search needs
 
+-- base 0 of a view is low
 drive-requires : tie.Need-drive-requires
-drive-requires c κs = search needs
+unfolding view
+drive-requires c κs =
+    let s = c .before .before in
+    let m = s .before .args .m in
+    ap (λ (w : ℕ). bitAt w 0) (s .sees .ensures cellRoom (le-refl cellRoom) (search needs) (search needs))
+    ∙ bit-built (view cellRoom 0 (m .outputs) (m .outputs) (m .levels)) 64 0 (lit< tt) ∙ level-zero cellRoom _ _
 
 returns : tie.Need-returns
 returns c n room fits =

@@ -6,8 +6,8 @@ use mathlib.Core.Bool.{false}
 use borrow.Author.Tests.{not-true, not-false}
 use Rattle.card.specs.declared.card.Memory.{Memory}
 use Rattle.ticks.specs.declared.connectors.Lines.{Lines}
-use Rattle.ticks.specs.declared.tick.Wires.{Wires}
-use Rattle.ticks.specs.FastPath.{sleptAll}
+use Rattle.ticks.specs.declared.view.Wires.{Wires}
+use Rattle.ticks.specs.Rest.{sleptAll}
 use Rattle.ticks.specs.Tick.{ranWith, turned, ticked, tick}
 use Rattle.ticks.specs.Words.{FitsMemory}
 use Rattle.ticks.proofs.Trim.{trim-fits, whole-tick}

@@ -23,9 +23,9 @@ use Rattle.cells.specs.Effect.{workedBy}
 use Rattle.card.specs.Address.{cellRoom}
 use Rattle.card.specs.Fresh.{noCell}
 use Rattle.card.specs.declared.card.Card.{Card}
-use Rattle.ticks.specs.declared.tick.Wires.{Wires}
-use Rattle.ticks.specs.FastPath.{turnedTo}
-use Rattle.ticks.specs.Tick.{Turn, turnTo, outputsBelow, turnAt, turnOf, turned, ranWith, seesNow, sawLast, sawEarlier}
+use Rattle.ticks.specs.declared.view.Wires.{Wires}
+use Rattle.ticks.specs.Rest.{turnedTo}
+use Rattle.ticks.specs.Tick.{Turn, turnTo, named, outputsBelow, turnAt, turnOf, turned, ranWith, seesNow, sawLast, sawEarlier}
 use Rattle.ticks.specs.Words.{ReadsAs, MovesAs, shiftedAt, Fits, FitsMemory}
 use Rattle.ticks.proofs.Ticks.{outputs-built}
 use Rattle.ticks.proofs.Turns.{afterOf, outsOf, wokesOf, seated, upTo, as-long}
@@ -354,7 +354,8 @@ met m =
     let done = m .before .worked in
     let worked = turn-worked (a .n) (a .full) old (l .i) (a .card .edited) wires (l .outputs) (workedBy (stateOf old) (done .result)) woke
     (done .ensures _ _ (l .inv .4)) in
-    let made : (e : Effect) → Turn = λ e. turnTo old (workedBy (stateOf old) e) in
+    let made : (e : Effect) → Turn = λ e.
+    turnTo old (named (a .n) old (l .i) (a .card .edited) wires (l .outputs)) (workedBy (stateOf old) e) in
     let turn : (e : Effect) → done .result ≡ e → turnOf (a .n) (a .full) (a .card .cells) (a .card .edited) wires (l .i) ≡ made e = λ e is.
     turn-here at inside ∙ worked ∙ ap made is in
     let out : (e : Effect) → done .result ≡ e → made e .out ≡ outsOf (a .n) (a .full) (a .card) wires (l .i) = λ e is.
