@@ -1,5 +1,6 @@
 /*
- * The trigger card as a static library: target/staticlib/libtrigger.a, made by `rt staticlib trigger`.
+ * The trigger card as a static library: target/staticlib/libtrigger.a, made by `rt staticlib trigger`; the calls on a row of cards are in librack.a beside it,
+ * made by `rt staticlib rack`.
  *
  * A card is one value without pointers: a call takes it and returns the card after it. The library allocates nothing and keeps nothing between calls,
  * so two threads may call it at once, each with cards and buffers of its own.
@@ -61,9 +62,13 @@ typedef struct {
     uint16_t open_drain;
 } trigger_connectors;
 
-/* The words of the last tick that ran, of the one before it (2), and of the one before that (3). */
+/*
+ * The words of the last tick that ran, of the one before it (2), and of the one before that (3); `pulled` has the lines of the backplane that the last one
+ * pulled low.
+ */
 typedef struct {
     uint16_t driven;
+    uint16_t pulled;
     uint32_t outputs;
     uint32_t outputs2;
     uint32_t outputs3;
@@ -146,6 +151,39 @@ typedef struct {
     uint16_t connectors;
 } trigger_surveyed;
 
+/* The most cards of a rack. */
+#define TRIGGER_RACK 4
+
+/* What comes in at the front of one card: the levels at BNC1 to BNC8, and which have something attached. */
+typedef struct {
+    uint8_t sample;
+    uint8_t attached;
+} trigger_front;
+
+/*
+ * What comes in with a tick of a rack: the code of its clock, the levels at TTL0 to TTL7 and which have something attached, and the fronts, one for each of
+ * `count` cards.
+ */
+typedef struct {
+    uint8_t code;
+    uint8_t sample;
+    uint8_t attached;
+    uint8_t count;
+    trigger_front fronts[TRIGGER_RACK];
+} trigger_rackinput;
+
+/* The number of the refusal, and the answers of the cards; those past the row are idle, and with a refusal all are. */
+typedef struct {
+    uint8_t k;
+    trigger_answer answers[TRIGGER_RACK];
+} trigger_rackticked;
+
+/* The number of the refusal, and the length of the reply. */
+typedef struct {
+    uint8_t k;
+    size_t len;
+} trigger_replied;
+
 #ifdef __cplusplus
 extern "C" {
 #endif
@@ -202,6 +240,26 @@ trigger_converted trigger_convert(const uint8_t *bytes, size_t bytes_len, uint8_
  */
 trigger_surveyed trigger_survey(trigger_card card, uint64_t place);
 
+/*
+ * A rack is a row of 1 to TRIGGER_RACK cards of sixteen cells that share one backplane, numbered from 1. The calls below change each card where it sits in the
+ * row. 20 where the row is no rack, where no card has the number, or where the fronts are not one for each card: then nothing is changed, and a line is
+ * answered `:N-20` where the reply buffer has TRIGGER_REPLY bytes. 19 where a line or a load would change the type of a front connector and the cards would then
+ * draw more than 16, each at least 4 and one for each push-pull front connector. trigger_at_rest speaks of ticks outside a rack.
+ */
+
+/* Every card of the row fresh, but with all connectors as inputs. */
+uint8_t rack_start(trigger_card *row, size_t row_len);
+
+/* A tick of all cards: all drive, then all sample, then all work out their cells. */
+trigger_rackticked rack_tick(trigger_card *row, size_t row_len, bool full, trigger_rackinput input);
+
+/* A line to the card of a number, as trigger_line. */
+trigger_replied rack_line(trigger_card *row, size_t row_len, size_t number, const uint8_t *text, size_t text_len, uint8_t *reply, size_t reply_len,
+                          uint8_t *store, size_t store_len);
+
+/* A load to the card of a number, as trigger_load: its number. */
+uint8_t rack_load(trigger_card *row, size_t row_len, size_t number, const uint8_t *bytes, size_t bytes_len);
+
 #ifdef __cplusplus
 }
 #endif
@@ -233,6 +291,7 @@ TRIGGER_AT(trigger_connectors, open_drain, 18);
 
 TRIGGER_SIZE(trigger_memory, 20);
 TRIGGER_AT(trigger_memory, driven, 0);
+TRIGGER_AT(trigger_memory, pulled, 2);
 TRIGGER_AT(trigger_memory, outputs, 4);
 TRIGGER_AT(trigger_memory, outputs2, 8);
 TRIGGER_AT(trigger_memory, outputs3, 12);
@@ -285,6 +344,25 @@ TRIGGER_SIZE(trigger_surveyed, 12);
 TRIGGER_AT(trigger_surveyed, k, 0);
 TRIGGER_AT(trigger_surveyed, cells, 4);
 TRIGGER_AT(trigger_surveyed, connectors, 8);
+
+TRIGGER_SIZE(trigger_front, 2);
+TRIGGER_AT(trigger_front, sample, 0);
+TRIGGER_AT(trigger_front, attached, 1);
+
+TRIGGER_SIZE(trigger_rackinput, 12);
+TRIGGER_AT(trigger_rackinput, code, 0);
+TRIGGER_AT(trigger_rackinput, sample, 1);
+TRIGGER_AT(trigger_rackinput, attached, 2);
+TRIGGER_AT(trigger_rackinput, count, 3);
+TRIGGER_AT(trigger_rackinput, fronts, 4);
+
+TRIGGER_SIZE(trigger_rackticked, 68);
+TRIGGER_AT(trigger_rackticked, k, 0);
+TRIGGER_AT(trigger_rackticked, answers, 4);
+
+TRIGGER_SIZE(trigger_replied, 16);
+TRIGGER_AT(trigger_replied, k, 0);
+TRIGGER_AT(trigger_replied, len, 8);
 
 #undef TRIGGER_AT
 #undef TRIGGER_SIZE

@@ -1,4 +1,4 @@
-// Where the static library is: in the folder that TRIGGER_LIB names, or where `rt staticlib trigger` puts it.
+// Where the static libraries are: in the folder that TRIGGER_LIB names, or where `rt staticlib trigger` and `rt staticlib rack` put them.
 use std::env;
 use std::path::PathBuf;
 
@@ -7,9 +7,8 @@ fn main() {
         .join("../../target/staticlib");
     let folder = env::var("TRIGGER_LIB").map_or(built, PathBuf::from);
     println!("cargo:rerun-if-env-changed=TRIGGER_LIB");
-    println!(
-        "cargo:rerun-if-changed={}",
-        folder.join("libtrigger.a").display()
-    );
+    for library in ["libtrigger.a", "librack.a"] {
+        println!("cargo:rerun-if-changed={}", folder.join(library).display());
+    }
     println!("cargo:rustc-link-search=native={}", folder.display());
 }

@@ -23,7 +23,7 @@ use core::fmt;
 use core::num::NonZeroU8;
 use core::str;
 
-pub use raw::{Answer, Cell, Connectors, Input, CELLS, CONNECTORS};
+pub use raw::{Answer, Cell, Connectors, Front, Input, RackInput, CELLS, CONNECTORS, RACK};
 
 /// The length of a record of sixteen cells: a store needs as many bytes for `36SS Z`.
 pub const RECORD: usize = 308;
@@ -128,6 +128,7 @@ impl fmt::Display for Answer {
 }
 
 /// A card.
+#[repr(transparent)]
 #[derive(Clone, Copy, Debug, PartialEq, Eq)]
 pub struct Card(raw::Card);
 
@@ -283,4 +284,59 @@ pub fn convert<'a>(record: &[u8], buffer: &'a mut [u8]) -> Result<&'a [u8], Refu
     };
     accepted(converted.k)?;
     Ok(&buffer[..converted.len])
+}
+
+/// A row of 1 to [`RACK`] cards of sixteen cells that share one backplane, numbered from 1, each changed where it sits. A call is refused with 20, and changes
+/// nothing, where the row is no such rack, no card has the number, or the fronts are not one for each card; a line and a load with 19 where the type of a front
+/// connector would change and the cards would then draw more than 16. [`Card::at_rest`] speaks of ticks outside a rack.
+pub struct Rack<'a>(pub &'a mut [Card]);
+
+// A card is what the library has for one, so the row is a row of these; it overlaps nothing, since it is borrowed mutably.
+impl Rack<'_> {
+    fn row(&mut self) -> (*mut raw::Card, usize) {
+        (self.0.as_mut_ptr().cast(), self.0.len())
+    }
+
+    /// Every card fresh, but with all connectors as inputs.
+    pub fn start(&mut self) -> Result<(), Refusal> {
+        let (row, len) = self.row();
+        accepted(unsafe { raw::rack_start(row, len) })
+    }
+
+    /// A tick of all cards: all drive, then all sample, then all work out their cells. The answers of those past the row are idle.
+    pub fn tick(&mut self, full: bool, input: RackInput) -> Result<[Answer; RACK], Refusal> {
+        let (row, len) = self.row();
+        let ticked = unsafe { raw::rack_tick(row, len, full, input) };
+        accepted(ticked.k).map(|()| ticked.answers)
+    }
+
+    /// A line to the card of a number, as [`Card::line`].
+    pub fn line(&mut self, number: usize, text: &[u8], store: &mut [u8]) -> Reply {
+        let (row, len) = self.row();
+        let mut buffer = [0; REPLY];
+        let replied = unsafe {
+            raw::rack_line(
+                row,
+                len,
+                number,
+                text.as_ptr(),
+                text.len(),
+                buffer.as_mut_ptr(),
+                buffer.len(),
+                store.as_mut_ptr(),
+                store.len(),
+            )
+        };
+        Reply {
+            k: replied.k,
+            len: replied.len,
+            buffer,
+        }
+    }
+
+    /// A load to the card of a number, as [`Card::load`].
+    pub fn load(&mut self, number: usize, record: &[u8]) -> Result<(), Refusal> {
+        let (row, len) = self.row();
+        accepted(unsafe { raw::rack_load(row, len, number, record.as_ptr(), record.len()) })
+    }
 }

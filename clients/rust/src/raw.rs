@@ -45,6 +45,7 @@ pub struct Connectors {
 #[derive(Clone, Copy, Debug, PartialEq, Eq)]
 pub struct Memory {
     pub driven: u16,
+    pub pulled: u16,
     pub outputs: u32,
     pub outputs2: u32,
     pub outputs3: u32,
@@ -66,7 +67,7 @@ pub struct Card {
 }
 
 /// What comes in with a tick.
-// crates/ticks/src/tick.rt
+// crates/ticks/src/view.rt
 #[repr(C)]
 #[derive(Clone, Copy, Debug, PartialEq, Eq)]
 pub struct Input {
@@ -139,6 +140,51 @@ pub struct Surveyed {
     pub connectors: u16,
 }
 
+/// The most cards of a rack.
+pub const RACK: usize = 4;
+
+/// What comes in at the front of one card of a rack.
+// crates/rack/src/pass.rt
+#[repr(C)]
+#[derive(Clone, Copy, Debug, Default, PartialEq, Eq)]
+pub struct Front {
+    /// The levels at BNC1 to BNC8.
+    pub sample: u8,
+    /// Which of them have something attached.
+    pub attached: u8,
+}
+
+/// What comes in with a tick of a rack.
+// crates/rack/src/pass.rt
+#[repr(C)]
+#[derive(Clone, Copy, Debug, Default, PartialEq, Eq)]
+pub struct RackInput {
+    /// The code of its clock.
+    pub code: u8,
+    /// The levels at TTL0 to TTL7.
+    pub sample: u8,
+    /// Which of them have something attached.
+    pub attached: u8,
+    /// How many fronts there are.
+    pub count: u8,
+    /// The fronts, one for each card.
+    pub fronts: [Front; RACK],
+}
+
+// crates/rack/src/pass.rt
+#[repr(C)]
+pub struct RackTicked {
+    pub k: u8,
+    pub answers: [Answer; RACK],
+}
+
+// crates/rack/src/job.rt
+#[repr(C)]
+pub struct Replied {
+    pub k: u8,
+    pub len: usize,
+}
+
 // A slice of the library is a pointer and a length. Every call takes every value; what the caller sees to is that each slice is valid, and that none
 // that is written overlaps another.
 #[link(name = "trigger", kind = "static")]
@@ -168,6 +214,31 @@ extern "C" {
     pub fn trigger_survey(card: Card, place: u64) -> Surveyed;
 }
 
+// The calls on a row of cards.
+#[link(name = "rack", kind = "static")]
+extern "C" {
+    pub fn rack_start(row: *mut Card, row_len: usize) -> u8;
+    pub fn rack_tick(row: *mut Card, row_len: usize, full: bool, input: RackInput) -> RackTicked;
+    pub fn rack_line(
+        row: *mut Card,
+        row_len: usize,
+        number: usize,
+        text: *const u8,
+        text_len: usize,
+        reply: *mut u8,
+        reply_len: usize,
+        store: *mut u8,
+        store_len: usize,
+    ) -> Replied;
+    pub fn rack_load(
+        row: *mut Card,
+        row_len: usize,
+        number: usize,
+        bytes: *const u8,
+        bytes_len: usize,
+    ) -> u8;
+}
+
 // The size of a struct, and where each of its fields lies.
 macro_rules! layout {
     ($type:ty: $size:literal, $($field:ident $at:literal),+) => {
@@ -178,7 +249,7 @@ macro_rules! layout {
 
 layout!(Cell: 16, config 0, count 4, slots 8, kind 12, bit 13, pulse 14);
 layout!(Connectors: 20, sources 0, push_pull 16, open_drain 18);
-layout!(Memory: 20, driven 0, outputs 4, outputs2 8, outputs3 12, levels 16, levels2 18);
+layout!(Memory: 20, driven 0, pulled 2, outputs 4, outputs2 8, outputs3 12, levels 16, levels2 18);
 layout!(Card: 568, cells 0, connectors 512, edited 536, memory 544, pointer 564, trigger 565, size 566);
 layout!(Input: 6, code 0, sample 2, attached 4);
 layout!(Answer: 16, ran 0, driven 2, cells 4, woken 8, count 12);
@@ -188,3 +259,7 @@ layout!(Loaded: 576, card 0, k 568);
 layout!(Printed: 16, k 0, len 8);
 layout!(Converted: 16, k 0, len 8);
 layout!(Surveyed: 12, k 0, cells 4, connectors 8);
+layout!(Front: 2, sample 0, attached 1);
+layout!(RackInput: 12, code 0, sample 1, attached 2, count 3, fronts 4);
+layout!(RackTicked: 68, k 0, answers 4);
+layout!(Replied: 16, k 0, len 8);

@@ -81,8 +81,9 @@ module _ (n : ℕ) where
   lastNext c (load bytes) was = cond (eqb (loadNumber n bytes) 0) noMemory was
   lastNext c (tick full input) was =
       let a = Tick.tick n full c input .answer in
-      cond (a .ran) (moved (trimmed n was) (a .driven) (a .cells) (Tick.lines n c input .levels)) was
+      let l = Tick.lines n c input in
+      cond (a .ran) (moved (trimmed n was) (record { driven = a .driven; pulled = l .pulled; levels = l .levels }) (a .cells)) was
 
-  -- the cell words of the last three ticks that ran, the levels of the last two, and the driven word of the last
+  -- the cell words of the last three ticks that ran, the levels of the last two, and of the last the driven word and what it pulled low
   abbrev pub lastSince : Card → List Call → Memory → Memory
   lastSince = since (afterCall n) lastNext

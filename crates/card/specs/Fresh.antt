@@ -30,7 +30,7 @@ freshConnectors = record { sources = replicate connectorCount 0; «push_pull» =
 
 -- "everything before the first tick counts as low"
 abbrev pub noMemory : Memory
-noMemory = record { driven = 0; outputs = 0; outputs2 = 0; outputs3 = 0; levels = 0; levels2 = 0 }
+noMemory = record { driven = 0; pulled = 0; outputs = 0; outputs2 = 0; outputs3 = 0; levels = 0; levels2 = 0 }
 
 -- a card as it powers up with some settings: pointer 1, and nothing remembered
 abbrev pub started : ℕ → ℕ → List Cell → Connectors → ℕ → Card

@@ -28,11 +28,13 @@ pub struct Connectors {
     pub open_drain: u16,
 }
 
-// What is remembered of ticks. The words of the last tick that ran are `driven`, `outputs` and `levels`; `outputs2` and `levels2` are those of the
-// tick before it, and `outputs3` those of the one before that. No tick has to write anything for a cell that sleeps.
+// What is remembered of ticks. The words of the last tick that ran are `driven`, `pulled`, `outputs` and `levels`; `pulled` has the lines of
+// the backplane that it pulled low. `outputs2` and `levels2` are those of the tick before it, and `outputs3` those of the one before that. No tick has to
+// write anything for a cell that sleeps.
 #[repr(C)]
 pub struct Memory {
     pub driven: u16,
+    pub pulled: u16,
     pub outputs: CellWord,
     pub outputs2: CellWord,
     pub outputs3: CellWord,
@@ -64,6 +66,7 @@ pub fn started(
 {
     let memory = Memory {
         driven: 0,
+        pulled: 0,
         outputs: 0,
         outputs2: 0,
         outputs3: 0,

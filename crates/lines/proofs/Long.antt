@@ -12,7 +12,8 @@ use Rattle.saved.specs.Record.{configWidth, savedTo}
 use Rattle.commands.specs.declared.grammar.Parsed.{Parsed}
 use Rattle.commands.specs.declared.grammar.Parsed.the-variants.{Malformed}
 use Rattle.commands.specs.Grammar.{longestLine, parse}
-use Rattle.lines.specs.Line.{Outcome, outcomeOf, shortestReply, refused, decisionFor, lineDecision, replyOf, lineOutcome, lineReply, storeAfter}
+use Rattle.lines.specs.declared.line.Outcome.{Outcome}
+use Rattle.lines.specs.Line.{outcomeOf, shortestReply, refused, decisionFor, lineDecision, replyOf, lineOutcome, lineReply, storeAfter}
 
 pub parse-long : (n : ℕ) (t : List ℕ) → longestLine < length t → parse n t ≡ Malformed
 unfolding parse

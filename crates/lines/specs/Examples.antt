@@ -153,7 +153,7 @@ told =
       cells = fresh .cells;
       connectors = fresh .connectors;
       edited = 0;
-      memory = record { driven = 4; outputs = 9; outputs2 = 0; outputs3 = 0; levels = 0x1205; levels2 = 0 };
+      memory = record { driven = 4; pulled = 0; outputs = 9; outputs2 = 0; outputs3 = 0; levels = 0x1205; levels2 = 0 };
       size = cellCount;
     }
 

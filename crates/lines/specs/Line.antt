@@ -25,6 +25,7 @@ use Rattle.commands.specs.declared.grammar.Parsed.the-variants.{Malformed, Else
 use Rattle.lines.specs.declared.decision.Response.{Response}
 use Rattle.lines.specs.declared.decision.Decision.{Decision}
 use Rattle.lines.specs.declared.line.Answered.{Answered}
+use Rattle.lines.specs.declared.line.Outcome.{Outcome}
 use Rattle.commands.specs.Grammar.{parse}
 use Rattle.lines.specs.Refusal.{refusal}
 
@@ -138,11 +139,6 @@ abbrev pub lineChange : ℕ → Card → List ℕ → ℕ → ℕ → Change
 lineChange n c text reply store = lineDecision n (contextOf n c) text reply store .change
 
 -- what a line comes to: its number, the card, and the response
-pub record Outcome : Type 0 where
-  pub k : ℕ
-  pub card : Card
-  pub response : Response
-
 abbrev pub outcomeOf : ℕ → Card → Decision → Outcome
 outcomeOf n c d = record { k = d .k; card = changed n c (d .change); response = d .response }
 
@@ -166,18 +162,24 @@ unfoldable pub replyOf : ℕ → Response → List ℕ
 replyOf k r = cond (eqb k 0) (acceptance r) (refusalText k)
 
 -- a reply buffer under 16 bytes gets no reply
+abbrev pub replyWith : ℕ → ℕ → Response → List ℕ
+replyWith reply k r = cond (ltb reply shortestReply) [] (replyOf k r)
+
 unfoldable pub lineReply : ℕ → Card → List ℕ → ℕ → ℕ → List ℕ
-lineReply n c text reply store = cond (ltb reply shortestReply) [] (replyOf (lineOutcome n c text reply store .k) (lineOutcome n c text reply store .response))
+lineReply n c text reply store =
+    let o = lineOutcome n c text reply store in
+    replyWith reply (o .k) (o .response)
 
 -- "at the front of the reply buffer": beyond the reply the buffer is as it was
 unfoldable pub replyAfter : ℕ → Card → List ℕ → List ℕ → ℕ → List ℕ
 replyAfter n c text reply store = sets reply 0 (lineReply n c text (length reply) store)
 
 -- "`36SS Z` writes the record to the front of the store"; a refused line, and any other, leaves the store as it was
+abbrev pub storeWith : ℕ → Card → Outcome → List ℕ → List ℕ
+storeWith n c o store = cond (eqb (o .k) 0 && o .response .saves) (savedTo n configWidth c store) store
+
 unfoldable pub storeAfter : ℕ → Card → List ℕ → ℕ → List ℕ → List ℕ
-storeAfter n c text reply store =
-    cond (eqb (lineOutcome n c text reply (length store) .k) 0 && lineOutcome n c text reply (length store) .response .saves)
-    (savedTo n configWidth c store) store
+storeAfter n c text reply store = storeWith n c (lineOutcome n c text reply (length store)) store
 
 -- all that a line answers and leaves: its number, the reply's length, the card, and the two buffers
 pub record LineResult : Type 0 where
@@ -186,6 +188,17 @@ pub record LineResult : Type 0 where
   pub card : Card
   pub reply : List ℕ
   pub store : List ℕ
+
+-- the answer to an outcome of card c, which has n cells
+abbrev pub resultFor : ℕ → Card → Outcome → (reply store : List ℕ) → LineResult
+resultFor n c o reply store =
+    record {
+      k = o .k;
+      len = length (replyWith (length reply) (o .k) (o .response));
+      card = o .card;
+      reply = sets reply 0 (replyWith (length reply) (o .k) (o .response));
+      store = storeWith n c o store;
+    }
 
 abbrev pub lineResult : ℕ → Card → (text reply store : List ℕ) → LineResult
 lineResult n c text reply store =

@@ -32,7 +32,7 @@ pub struct Decision {
     pub response: Response,
 }
 
-const SILENT: Response = Response {
+pub const SILENT: Response = Response {
     number: false,
     value: 0,
     saves: false,

@@ -8,8 +8,9 @@ ghost use lib.Seq.{sets};
 ghost use Rattle.text.specs.Decimal.{decimal, maxDigits};
 ghost use Rattle.card.specs.Address.{cellsFor};
 ghost use Rattle.saved.specs.Record.{configWidth, savedTo};
-ghost use Rattle.lines.specs.Line.{ending, replyOf, shortestReply, lineResult, resultOf};
+ghost use Rattle.lines.specs.Line.{ending, replyOf, replyWith, shortestReply, lineOutcome, lineResult, resultFor, resultOf};
 use crate::decision::Response;
+use crate::decision::SILENT;
 use crate::decision::decide_for;
 use card::card::Card;
 use card::context::Value;
@@ -63,6 +64,66 @@ fn save_if(asked: bool, card: Card, store: &mut [u8])
     }
 }
 
+// What a line comes to: 0 or the number of its refusal, the card then, and the response. It goes by the lengths of the two buffers.
+pub struct Outcome {
+    pub k: u8,
+    pub card: Card,
+    pub response: Response,
+}
+
+pub fn outcome_of(card: Card, text: &[u8], reply: usize, store: usize) -> Outcome
+    ensures { λ o. ⌜ o ≡ lineOutcome (cellsFor (card .size)) card (now (text .entry)) reply store ⌝ }
+{
+    if reply < SHORTEST_REPLY {
+        let response = SILENT;
+        return Outcome {
+            k: 1,
+            card: card,
+            response: response,
+        };
+    }
+    let x = card::context::context_of(card);
+    let d = decide_for(x, store, parse_line(text, card.size));
+    let response = d.response;
+    let change = d.change;
+    let next = card::change::apply(card, change);
+    Outcome {
+        k: d.k,
+        card: next,
+        response: response,
+    }
+}
+
+// The reply, where its buffer has room for one.
+fn put_reply_if(reply: &mut [u8], k: u8, r: Response) -> usize
+    ensures { λ n. ⌜ now (reply .exit) ≡ sets (now (reply .entry)) 0 (replyWith (length (now (reply .entry))) k r) ⌝ }
+    ensures { λ n. ⌜ n ≡ length (replyWith (length (now (reply .entry))) k r) ⌝ }
+    ensures { λ n. ⌜ n ≤ shortestReply ⌝ }
+{
+    if reply.len() < SHORTEST_REPLY {
+        return 0;
+    }
+    put_reply(reply, k, r)
+}
+
+// The answer to an outcome: the reply is written to the front of its buffer, and a save writes the record of the card to the front of the store; beyond
+// these both are as they were.
+pub fn answer_to(card: Card, o: Outcome, reply: &mut [u8], store: &mut [u8]) -> Answered
+    ensures { λ r. ⌜ resultOf r (now (reply .exit)) (now (store .exit)) ≡ resultFor (cellsFor (card .size)) card o (now (reply .entry)) (now (store .entry)) ⌝ }
+    ensures { λ r. ⌜ r .len ≤ shortestReply ⌝ }
+{
+    let k = o.k;
+    let response = o.response;
+    let len = put_reply_if(reply, k, response);
+    save_if((k == 0) & response.saves, card, store);
+    let next = o.card;
+    Answered {
+        card: next,
+        k: k,
+        len: len,
+    }
+}
+
 // A line to the card: any bytes, without the line's own ending. The reply is written to the front of its buffer, and `36SS Z` writes the record
 // to the front of the store; beyond these both are as they were. A refused line gives its number and leaves the card. Where the buffer has
 // fewer than SHORTEST_REPLY bytes, that number is 1 and nothing is written.
@@ -70,23 +131,6 @@ pub fn line(card: Card, text: &[u8], reply: &mut [u8], store: &mut [u8]) -> Answ
     ensures { λ r. ⌜ resultOf r (now (reply .exit)) (now (store .exit)) ≡ lineResult (cellsFor (card .size)) card (now (text .entry)) (now (reply .entry)) (now (store .entry)) ⌝ }
     ensures { λ r. ⌜ r .len ≤ shortestReply ⌝ }
 {
-    if reply.len() < SHORTEST_REPLY {
-        return Answered {
-            card: card,
-            k: 1,
-            len: 0,
-        };
-    }
-    let x = card::context::context_of(card);
-    let d = decide_for(x, store.len(), parse_line(text, card.size));
-    let k = d.k;
-    let response = d.response;
-    let change = d.change;
-    let len = put_reply(reply, k, response);
-    save_if((k == 0) & response.saves, card, store);
-    Answered {
-        card: card::change::apply(card, change),
-        k: k,
-        len: len,
-    }
+    let o = outcome_of(card, text, reply.len(), store.len());
+    answer_to(card, o, reply, store)
 }

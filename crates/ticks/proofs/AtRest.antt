@@ -161,6 +161,7 @@ pub record Still (n : ℕ) (c : Card) (input : Input) : Type 0 where
   pub edited : c .edited ≡ 0
   pub memory : StillMemory (c .memory)
   pub driven : lines n c input .driven ≡ c .memory .driven
+  pub pulled : lines n c input .pulled ≡ c .memory .pulled
   pub levels : lines n c input .levels ≡ c .memory .levels
   pub cells : allRest n (viewLast n (c .memory)) (c .cells) ≡ true
 
@@ -233,6 +234,7 @@ module _ (n : ℕ) (c : Card) (input : Input) where
         edited = sym (ap (λ (d : Card). d .edited) kept);
         memory = still;
         driven = ap (λ (m : Memory). m .driven) memory;
+        pulled = ap (λ (m : Memory). m .pulled) memory;
         levels = levels;
         cells = rest-all n (viewLast n (c .memory)) (c .cells) (unstirred asleep (ap (λ (m : Memory). m .outputs) memory) levels still);
       }
@@ -276,6 +278,7 @@ module _ (n : ℕ) (c : Card) (input : Input) where
             size = c .size;
             memory = record {
               driven = s .driven k;
+              pulled = s .pulled k;
               outputs = t k .outputs;
               outputs2 = (whole ∙ sym (s .memory .outputs2)) k;
               outputs3 = (ap (λ (o : ℕ). o % 2 ^ n) (s .memory .outputs2) ∙ whole ∙ sym (s .memory .outputs3)) k;

@@ -10,7 +10,7 @@ use Rattle.ticks.specs.Levels.{effectiveAt, effectiveSample}
 use Rattle.ticks.proofs.Views.{merged, merged-bit, merged-lt}
 
 -- the word of the backplane, and of all connectors
-abbrev backplane : ℕ
+abbrev pub backplane : ℕ
 backplane = 65280
 
 abbrev every : ℕ
@@ -20,7 +20,7 @@ backplane-built : wordOf onBackplane connectorCount ≡ backplane
 unfolding wordOf
 backplane-built = refl
 
-backplane-bit : (k : ℕ) → k < connectorCount → bitAt backplane k ≡ onBackplane k
+pub backplane-bit : (k : ℕ) → k < connectorCount → bitAt backplane k ≡ onBackplane k
 backplane-bit k h = ap (λ (w : ℕ). bitAt w k) (sym backplane-built) ∙ bit-built onBackplane connectorCount k h
 
 pub effective-bit : (sample attached k : ℕ) → k < connectorCount → bitAt (effectiveSample sample attached) k ≡ effectiveAt sample attached k

@@ -10,7 +10,7 @@ use Rattle.card.specs.declared.card.Connectors.{Connectors}
 use Rattle.card.specs.Address.{connectorCount}
 use Rattle.card.specs.Connectors.{isOutput, kindAt, sourceAt}
 use Rattle.ticks.specs.declared.view.Wires.{Wires}
-use Rattle.ticks.specs.Levels.{drivenAt, drivenWord, levelsFrom, linesOf}
+use Rattle.ticks.specs.Levels.{drivenAt, drivenWord, pulledWord, levelsFrom, linesOf}
 use Rattle.ticks.proofs.Views.{reads-built}
 use Rattle.ticks.specs.Tick.{outputsBelow, turnOf}
 
@@ -29,4 +29,4 @@ unfolding linesOf drivenWord
 lines-built f g d sample =
     let same = built-same (drivenAt (bitAt (wordOf f 64)) (bitAt (wordOf g 64)) d) (drivenAt f g d) connectorCount
     (λ k h. ap (λ (b : Bool). cond (isOutput (kindAt d k)) b false) (reads-built f g (sourceAt d k))) in
-    λ i. record { driven = same i; levels = levelsFrom (d .«push_pull») (d .«open_drain») (same i) sample }
+    λ i. record { driven = same i; pulled = pulledWord d (same i); levels = levelsFrom (d .«push_pull») (d .«open_drain») (same i) sample }

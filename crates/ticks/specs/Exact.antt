@@ -65,7 +65,7 @@ pub record Exact (n : ℕ) (full : Bool) (c : Card) (l : Lines) (t : Ticked) : T
   pub size : t .card .size ≡ c .size
   pub edited : t .card .edited ≡ 0
   pub driven : t .answer .driven ≡ l .driven
-  pub memory : t .card .memory ≡ moved (trimmed n (c .memory)) (t .answer .driven) (t .answer .cells) (l .levels)
+  pub memory : t .card .memory ≡ moved (trimmed n (c .memory)) (record { driven = t .answer .driven; pulled = l .pulled; levels = l .levels }) (t .answer .cells)
 
 -- on every card, for either kind of tick and whatever its lines: its own clock does exactly this, and every other leaves the card and answers idle, with
 -- words of 0. So does a tick of the card by itself, whose connectors are driven as "One tick" says

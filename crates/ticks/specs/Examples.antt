@@ -36,7 +36,7 @@ card cells outputs edited =
       cells = cells;
       connectors = fresh .connectors;
       edited = edited;
-      memory = record { driven = 0; outputs = outputs; outputs2 = outputs; outputs3 = outputs; levels = 0; levels2 = 0 };
+      memory = record { driven = 0; pulled = 0; outputs = outputs; outputs2 = outputs; outputs3 = outputs; levels = 0; levels2 = 0 };
       size = cellCount;
     }
 

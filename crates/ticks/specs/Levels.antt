@@ -1,6 +1,6 @@
 -- Document 01, "One tick", 1 and 2: what the output connectors are driven to, and the levels; and the sample that the levels are made of.
 use Prim.Native.Nat.{ℕ}
-use mathlib.Core.Bool.{Bool, false, _&&_, cond}
+use mathlib.Core.Bool.{Bool, false, not, _&&_, cond}
 use Rattle.words.specs.Bits.{bitAt, wordOf}
 use Rattle.card.specs.declared.card.Connectors.{Connectors}
 use Rattle.card.specs.Address.{connectorCount, onBackplane}
@@ -24,6 +24,13 @@ drivenAt now before d k = cond (isOutput (kindAt d k)) (reads now before (source
 unfoldable pub drivenWord : (ℕ → Bool) → (ℕ → Bool) → Connectors → ℕ
 drivenWord now before d = wordOf (drivenAt now before d) connectorCount
 
+-- document 02, 12: "A card drives a line low where that connector was an output ... and its driven bit was 0": of the lines of the backplane
+abbrev pub pulledAt : Connectors → (driven : ℕ) → ℕ → Bool
+pulledAt d driven k = onBackplane k && (isOutput (kindAt d k) && not (bitAt driven k))
+
+unfoldable pub pulledWord : Connectors → ℕ → ℕ
+pulledWord d driven = wordOf (pulledAt d driven) connectorCount
+
 -- "an input shows its sample bit, push-pull its driven bit, open-drain high only if both are"
 abbrev pub levelBit : (push drain sample driven : Bool) → Bool
 levelBit push drain sample driven = cond push driven (cond drain (sample && driven) sample)
@@ -39,4 +46,4 @@ levelsFrom push drain driven sample = wordOf (levelIn push drain driven sample) 
 unfoldable pub linesOf : (ℕ → Bool) → (ℕ → Bool) → Connectors → ℕ → Lines
 linesOf now before d sample =
     let driven = drivenWord now before d in
-    record { driven = driven; levels = levelsFrom (d .«push_pull») (d .«open_drain») driven sample }
+    record { driven = driven; pulled = pulledWord d driven; levels = levelsFrom (d .«push_pull») (d .«open_drain») driven sample }

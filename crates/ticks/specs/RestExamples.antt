@@ -12,7 +12,7 @@ use Rattle.card.specs.Address.{cellCount}
 use Rattle.card.specs.Fresh.{fresh}
 use Rattle.ticks.specs.Reading.{levelAt, readsLevels, reads, slotsRead, mixed, view}
 use Rattle.card.specs.Connectors.{kindAt, sourceAt}
-use Rattle.ticks.specs.Levels.{effectiveSample, drivenWord, levelsFrom, linesOf}
+use Rattle.ticks.specs.Levels.{effectiveSample, drivenWord, pulledWord, levelsFrom, linesOf}
 use Rattle.ticks.specs.Tick.{readNow, readLast, named, turnAt, outputsBelow, turned, tick}
 use Rattle.ticks.specs.Examples.{card, clock0, unsettled}
 use Rattle.ticks.specs.Rest.{AtRest}
@@ -28,7 +28,7 @@ pub record Table : Type 0 where
 
 rest-table : Table
 unfolding unsettled bitAt wordOf listed rowOf taken workAs workOut stirredAs stirred disagree wakes fresh levelAt readsLevels reads slotsRead
-    mixed view effectiveSample kindAt sourceAt drivenWord levelsFrom linesOf readNow readLast named turnAt outputsBelow turned tick
+    mixed view effectiveSample kindAt sourceAt drivenWord pulledWord levelsFrom linesOf readNow readLast named turnAt outputsBelow turned tick
 rest-table =
     record {
       low = record { asleep = refl; kept = refl };

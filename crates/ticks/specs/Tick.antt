@@ -128,6 +128,7 @@ abbrev pub trimmed : (n : ℕ) → Memory → Memory
 trimmed n m =
     record {
       driven = m .driven;
+      pulled = m .pulled;
       outputs = m .outputs % 2 ^ n;
       outputs2 = m .outputs2 % 2 ^ n;
       outputs3 = m .outputs3 % 2 ^ n;
@@ -135,15 +136,16 @@ trimmed n m =
       levels2 = m .levels2;
     }
 
--- the memory moved on by a tick with these words
-abbrev pub moved : Memory → (driven outputs levels : ℕ) → Memory
-moved m driven outputs levels =
+-- the memory moved on by a tick with these lines and outputs
+abbrev pub moved : Memory → Lines → (outputs : ℕ) → Memory
+moved m l outputs =
     record {
-      driven = driven;
+      driven = l .driven;
+      pulled = l .pulled;
       outputs = outputs;
       outputs2 = m .outputs;
       outputs3 = m .outputs2;
-      levels = levels;
+      levels = l .levels;
       levels2 = m .levels;
     }
 
@@ -156,7 +158,7 @@ cardAfter m c l t =
       cells = t .cells;
       connectors = c .connectors;
       edited = 0;
-      memory = moved m (l .driven) (t .outputs) (l .levels);
+      memory = moved m l (t .outputs);
       size = c .size;
     }
 

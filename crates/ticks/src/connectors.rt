@@ -3,7 +3,7 @@ ghost use mathlib.Core.Bool.{Bool, false};
 ghost use mathlib.Core.Path.{_≡_};
 ghost use Prim.Native.Nat.{ℕ};
 ghost use Rattle.words.specs.Bits.{bitAt};
-ghost use Rattle.ticks.specs.Levels.{effectiveSample, drivenWord, levelsFrom, linesOf};
+ghost use Rattle.ticks.specs.Levels.{effectiveSample, drivenWord, pulledWord, levelsFrom, linesOf};
 ghost use Rattle.ticks.specs.Reading.{reads};
 ghost use Rattle.ticks.specs.Words.{ReadsAs};
 use crate::view::quarters;
@@ -12,9 +12,10 @@ use card::limits::BACKPLANE;
 use cells::reading::QUARTERS;
 use cells::reading::read;
 
-// The driven word and the levels of a tick.
+// The driven word of a tick, the lines of the backplane that it pulls low, and the levels.
 pub struct Lines {
     pub driven: u16,
+    pub pulled: u16,
     pub levels: u16,
 }
 
@@ -61,15 +62,24 @@ fn levels_from(push: u16, drain: u16, driven: u16, sample: u16) -> u16
     (driven & (push | sample)) | (sample & ((push | drain) ^ 0xffff))
 }
 
-// Both words: the connectors are driven, and then show their levels. `now` and `before` are views, in which base 0 is low.
+// The lines of the backplane that are pulled low: the outputs there that are driven low.
+fn pulled_by(connectors: Connectors, driven: u16) -> u16
+    ensures { λ r. ⌜ r ≡ pulledWord connectors driven ⌝ }
+{
+    BACKPLANE & ((connectors.push_pull | connectors.open_drain) & (driven ^ 0xffff))
+}
+
+// All words: the connectors are driven, and then show their levels. `now` and `before` are views, in which base 0 is low.
 pub fn drive(connectors: Connectors, now: u64, before: u64, sample: u16) -> Lines
     requires { ⌜ bitAt now 0 ≡ false ⌝ }
     ensures { λ l. ⌜ l ≡ linesOf (bitAt now) (bitAt before) connectors sample ⌝ }
 {
     let driven = driven_by(connectors, now, before);
+    let pulled = pulled_by(connectors, driven);
     let levels = levels_from(connectors.push_pull, connectors.open_drain, driven, sample);
     Lines {
         driven: driven,
+        pulled: pulled,
         levels: levels,
     }
 }

@@ -38,7 +38,7 @@ fn rests_on(card: Card, input: Input, n: u8) -> bool
     let m = card.memory;
     let connectors = card.connectors;
     let l = lines_in(connectors, m, input);
-    if (l.driven != m.driven) | (l.levels != m.levels) {
+    if ((l.driven != m.driven) | (l.pulled != m.pulled)) | (l.levels != m.levels) {
         return false;
     }
     let cells = card.cells;

@@ -179,6 +179,7 @@ fn ran_with(card: Card, m: Memory, l: Lines, outputs: CellWord, woken: CellWord)
 {
     let memory = Memory {
         driven: l.driven,
+        pulled: l.pulled,
         outputs: outputs,
         outputs2: m.outputs,
         outputs3: m.outputs2,
@@ -280,7 +281,7 @@ fn is_own(code: u8, trigger: u8) -> bool
 }
 
 // A tick whose clock is not the card's.
-fn idle(card: Card) -> Ticked
+pub fn idle(card: Card) -> Ticked
     ensures { λ t. ⌜ t ≡ Tick.idle card ⌝ }
 {
     let answer = Answer {
@@ -321,6 +322,40 @@ pub fn quick_tick(card: Card, input: Input) -> Ticked
     let m = seen_memory(card.memory, n);
     let connectors = card.connectors;
     let l = lines_in(connectors, m, input);
+    let cells = card.cells;
+    if is_quiet(cells, card.edited, wires_of(m, l.levels), n) {
+        return ran_with(card, m, l, m.outputs, 0);
+    }
+    turn_each(false, card, m, l, n)
+}
+
+// ---- a tick with given lines, for a card that shares its backplane
+
+// The lines of a card by itself.
+pub fn lines_of(card: Card, input: Input) -> Lines
+    ensures { λ l. ⌜ l ≡ Tick.lines (cellsFor (card .size)) card input ⌝ }
+{
+    let n = cells_for(card.size);
+    let m = seen_memory(card.memory, n);
+    let connectors = card.connectors;
+    lines_in(connectors, m, input)
+}
+
+// A tick that runs with these lines: every cell is worked out.
+pub fn full_tick_on(card: Card, l: Lines) -> Ticked
+    ensures { λ t. ⌜ t ≡ Tick.tickedOn (cellsFor (card .size)) true card l ⌝ }
+{
+    let n = cells_for(card.size);
+    let m = seen_memory(card.memory, n);
+    turn_each(true, card, m, l, n)
+}
+
+// The same, of the cells that the waking rules name.
+pub fn quick_tick_on(card: Card, l: Lines) -> Ticked
+    ensures { λ t. ⌜ t ≡ Tick.tickedOn (cellsFor (card .size)) false card l ⌝ }
+{
+    let n = cells_for(card.size);
+    let m = seen_memory(card.memory, n);
     let cells = card.cells;
     if is_quiet(cells, card.edited, wires_of(m, l.levels), n) {
         return ran_with(card, m, l, m.outputs, 0);

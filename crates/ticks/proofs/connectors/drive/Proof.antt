@@ -1,4 +1,4 @@
--- `ticks::connectors::drive` meets its contract: by those of its two calls.
+-- `ticks::connectors::drive` meets its contract: by those of its calls.
 use borrow.Author.Needs.{needs}
 use Rattle.ticks.specs.Levels.{linesOf}
 use Rattle.ticks.proofs.connectors.drive.Statement.{statement}
@@ -7,12 +7,15 @@ use Rattle.ticks.proofs.connectors.drive.Tie as tie
 driven-by-requires : tie.Need-driven-by-requires
 driven-by-requires c κs = search needs
 
+pulled-by-requires : tie.Need-pulled-by-requires
+pulled-by-requires c κs = search needs
+
 levels-from-requires : tie.Need-levels-from-requires
 levels-from-requires c κs = search needs
 
 returns : tie.Need-returns
 unfolding linesOf
-returns c = rw (c .levels-from .ensures, c .before .driven-by .ensures)
+returns c = rw (c .levels-from .ensures, c .before .pulled-by .ensures, c .before .before .driven-by .ensures)
 
 pub drive-spec : {M : Type 1} → statement M
-drive-spec = tie.close (tie.spec driven-by-requires levels-from-requires returns)
+drive-spec = tie.close (tie.spec driven-by-requires pulled-by-requires levels-from-requires returns)

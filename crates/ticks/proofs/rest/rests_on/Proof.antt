@@ -26,13 +26,13 @@ known d =
 
 returns : tie.Need-returns
 returns c =
-    let d = c .before .before .before .before .before in
+    let d = c .before .before .before .before .before .before .before in
     let a = d .before .before .before .args in
     let lines = known d .1 in (
       λ e. absurd (false≢true e),
       λ rest. let s = rests-still (a .n) (a .card) (a .input) (search needs) rest in
-          sym (ap₂ (λ (x y : Bool). not x || not y)
-          (eq-eqb _ _ (ap (λ (l : Lines). l .driven) lines ∙ s .driven)) (eq-eqb _ _ (ap (λ (l : Lines). l .levels) lines ∙ s .levels)))
+          sym (λ k. (not (eq-eqb _ _ (ap (λ (l : Lines). l .driven) lines ∙ s .driven) k) || not (eq-eqb _ _ (ap (λ (l : Lines). l .pulled) lines ∙ s .pulled) k))
+          || not (eq-eqb _ _ (ap (λ (l : Lines). l .levels) lines ∙ s .levels) k))
           ∙ c .if1 .taken,
     )
 
@@ -46,7 +46,7 @@ returns-2 : tie.Need-returns-2
 returns-2 c =
     let v = c .before in
     let i = v .before .before in
-    let d = i .before .before .before .before .before in
+    let d = i .before .before .before .before .before .before .before in
     let start = d .before .before .before in
     let a = start .args in
     let pre = start .pre in
@@ -60,9 +60,11 @@ returns-2 c =
           (record {
             edited = pre .1 .1 .0;
             memory = still;
-            driven = ap (λ (l : Lines). l .driven) (sym lines) ∙ eqb-true (w .driven) (m .driven) (not-false _ (or-left _ _ (i .if1 .left)));
+            driven = ap (λ (l : Lines). l .driven) (sym lines) ∙ eqb-true (w .driven) (m .driven) (not-false _ (or-left _ _ (or-left _ _ (i .if1 .left))));
+            pulled = ap (λ (l : Lines). l .pulled) (sym lines)
+                ∙ eqb-true (w .pulled) (m .pulled) (not-false _ (or-right (not (eqb (w .driven) (m .driven))) _ (or-left _ _ (i .if1 .left))));
             levels = ap (λ (l : Lines). l .levels) (sym lines)
-                ∙ eqb-true (w .levels) (m .levels) (not-false _ (or-right (not (eqb (w .driven) (m .driven))) _ (i .if1 .left)));
+                ∙ eqb-true (w .levels) (m .levels) (not-false _ (or-right (not (eqb (w .driven) (m .driven)) || not (eqb (w .pulled) (m .pulled))) _ (i .if1 .left)));
             cells = seen ∙ sym (c .all-rest .ensures .0) ∙ e;
           }),
       λ rest. c .all-rest .ensures .0 ∙ sym seen ∙ rests-still (a .n) (a .card) (a .input) (pre .1 .0) rest .cells,

@@ -27,6 +27,7 @@ returns c =
     λ k.
     record {
       driven = m .driven;
+      pulled = m .pulled;
       outputs = c .before .before .before .before .low .ensures k;
       outputs2 = c .before .before .low2 .ensures k;
       outputs3 = c .low3 .ensures k;

@@ -1,0 +1,460 @@
+// A rig of cards on one backplane, on paper. Each line of the input is a call on a row of cards, and each has a line of output:
+//     rack N, rack N 32     a row of N fresh cards of sixteen cells, 0 to 5; the last of them with thirty-two     ok
+//     start                 a start                                                                             the number
+//     line C R TEXT         a line to card C with a reply buffer of R bytes, up to 99          the number, the reply's length and the reply
+//     load C RECORD         a load of a record in hex to card C, - for no bytes                                 the number
+//     tick CODE F|Q ..      a tick: sample and attached of the backplane, then of each front   the number, and where it is 0 the answers
+// A line of another form, and one of more than 640 bytes, prints `?`. Bytes after the last LF are dropped, and the program says so.
+//
+// A program cannot lend a row of cards that it holds itself, so the cards are held by value: what is done to each is done by the jobs of the calls on a
+// lent row (rack::pass::visit, rack::job), card by card. That these jobs are the calls is proved there.
+ghost use Prim.Native.Nat.{_≤_};
+ghost use lib.ListN.{length};
+use card::card::Card;
+use card::limits::LARGE;
+use card::limits::SMALL;
+use input::BLOCK;
+use input::Reader;
+use input::next_line;
+use libc::STDERR_FILENO;
+use libc::STDIN_FILENO;
+use libc::STDOUT_FILENO;
+use rack::job::Taken;
+use rack::job::line_in;
+use rack::job::load_in;
+use rack::job::place_of;
+use rack::job::taken_by;
+use rack::pass::Front;
+use rack::pass::Pass;
+use rack::pass::RackInput;
+use rack::pass::acting;
+use rack::pass::look_order;
+use rack::pass::looking;
+use rack::pass::start_card;
+use rack::pass::start_order;
+use rack::pass::tick_order;
+use rack::pass::visit;
+use saved::record::RECORD_LENGTH;
+use ticks::tick::Answer;
+
+// One card more than a rack may have.
+const ROOM: usize = 5;
+
+// The longest line that is kept whole, and the longest that is taken.
+const KEPT: usize = 644;
+
+const LONGEST: usize = 640;
+
+const BUFFER: usize = KEPT + BLOCK;
+
+// The longest reply buffer.
+const REPLY: usize = 99;
+
+// The cards, how many of them are the row, and the pass that is on its way.
+struct Rig {
+    cards: [Card; ROOM],
+    n: usize,
+    pass: Pass,
+}
+
+fn put(text: &[u8]) {
+    io::write_all(STDOUT_FILENO, text);
+}
+
+fn put_number(v: u64) {
+    io::print_decimal(STDOUT_FILENO, v);
+}
+
+// ---- the row, by value
+
+fn visited(rig: Rig, i: usize) -> Rig {
+    if rig.n <= i {
+        return rig;
+    }
+    if ROOM <= i {
+        return rig;
+    }
+    let mut cards = rig.cards;
+    let p = rig.pass;
+    let v = visit(p, cards[i]);
+    let c = v.card;
+    cards[i] = c;
+    let next = v.pass;
+    Rig {
+        cards: cards,
+        n: rig.n,
+        pass: next,
+    }
+}
+
+fn passed(rig: Rig) -> Rig {
+    let a = visited(rig, 0);
+    let b = visited(a, 1);
+    let c = visited(b, 2);
+    let d = visited(c, 3);
+    visited(d, 4)
+}
+
+fn with_pass(rig: Rig, pass: Pass) -> Rig {
+    let cards = rig.cards;
+    Rig {
+        cards: cards,
+        n: rig.n,
+        pass: pass,
+    }
+}
+
+fn looked(rig: Rig, order: Pass) -> Rig {
+    passed(with_pass(rig, looking(order, rig.n)))
+}
+
+fn acted(rig: Rig, order: Pass) -> Rig {
+    let seen = looked(rig, order);
+    let p = seen.pass;
+    passed(with_pass(seen, acting(p)))
+}
+
+fn card_of(rig: Rig, i: usize) -> Card {
+    if rig.n <= i {
+        return start_card();
+    }
+    if ROOM <= i {
+        return start_card();
+    }
+    let cards = rig.cards;
+    cards[i]
+}
+
+fn with_card(rig: Rig, i: usize, card: Card) -> Rig {
+    if rig.n <= i {
+        return rig;
+    }
+    if ROOM <= i {
+        return rig;
+    }
+    let mut cards = rig.cards;
+    cards[i] = card;
+    let pass = rig.pass;
+    Rig {
+        cards: cards,
+        n: rig.n,
+        pass: pass,
+    }
+}
+
+// ---- the words of a call
+
+// The byte at a place, or a blank behind the line.
+fn at(line: &[u8], i: usize) -> u8 {
+    if i < line.len() {
+        return line[i];
+    }
+    b' '
+}
+
+// A digit of a number in hex, 0 where it is none.
+fn digit(b: u8) -> u8 {
+    if b < b'0' {
+        return 0;
+    }
+    if b <= b'9' {
+        return b - b'0';
+    }
+    if b < b'a' {
+        return 0;
+    }
+    if b <= b'f' {
+        return b - b'a' + 10;
+    }
+    0
+}
+
+fn hex_at(line: &[u8], i: usize) -> u8
+    requires { ⌜ i ≤ 2000 ⌝ }
+{
+    (digit(at(line, i)) % 16) * 16 + digit(at(line, i + 1)) % 16
+}
+
+fn front_at(line: &[u8], i: usize) -> Front
+    requires { ⌜ i ≤ 1000 ⌝ }
+{
+    Front {
+        sample: hex_at(line, i),
+        attached: hex_at(line, i + 3),
+    }
+}
+
+fn starts(line: &[u8], word: &[u8; 5]) -> bool {
+    let first = (at(line, 0) == word[0]) & (at(line, 1) == word[1]);
+    let second = (at(line, 2) == word[2]) & (at(line, 3) == word[3]);
+    (first & second) & (at(line, 4) == word[4])
+}
+
+// ---- the calls
+
+fn made(line: &[u8]) -> Rig {
+    let fresh = card::card::fresh_of(SMALL);
+    let n = (digit(at(line, 5)) % 16) as usize;
+    let mut cards = [fresh; ROOM];
+    if at(line, 7) == b'3' {
+        if 0 < n {
+            if n <= ROOM {
+                cards[n - 1] = card::card::fresh_of(LARGE);
+            }
+        }
+    }
+    put(b"ok\n");
+    let pass = look_order();
+    Rig {
+        cards: cards,
+        n: n,
+        pass: pass,
+    }
+}
+
+fn start(rig: Rig) -> Rig {
+    let next = acted(rig, start_order());
+    let p = next.pass;
+    put_number(p.k as u64);
+    put(b"\n");
+    next
+}
+
+fn put_word(v: u32) {
+    put(b" ");
+    io::print_hex(STDOUT_FILENO, v as u64, 4);
+}
+
+fn put_answer(a: Answer) {
+    put(b";T");
+    if a.ran {
+        put_word(a.driven as u32);
+        put_word(a.cells);
+        put_word(a.woken);
+        put(b" ");
+        put_number(a.count as u64);
+    } else {
+        put(b" -");
+    }
+}
+
+// The answers of the first n cards.
+fn put_answers(p: Pass, n: usize) {
+    let answers = p.answers;
+    if 0 < n {
+        put_answer(answers[0]);
+    }
+    if 1 < n {
+        put_answer(answers[1]);
+    }
+    if 2 < n {
+        put_answer(answers[2]);
+    }
+    if 3 < n {
+        put_answer(answers[3]);
+    }
+}
+
+// As many fronts as the line has words for; a number that is no rack's where it has more.
+fn fronts_in(line: &[u8]) -> u8 {
+    if line.len() < 14 {
+        return 255;
+    }
+    if 100 <= line.len() {
+        return 255;
+    }
+    ((line.len() - 14) / 6) as u8
+}
+
+fn tick(rig: Rig, line: &[u8]) -> Rig {
+    let fronts = [
+        front_at(line, 15),
+        front_at(line, 21),
+        front_at(line, 27),
+        front_at(line, 33),
+    ];
+    let input = RackInput {
+        code: digit(at(line, 5)),
+        sample: hex_at(line, 9),
+        attached: hex_at(line, 12),
+        count: fronts_in(line),
+        fronts: fronts,
+    };
+    let next = acted(rig, tick_order(at(line, 7) == b'F', input));
+    let p = next.pass;
+    put_number(p.k as u64);
+    if p.k == 0 {
+        put_answers(p, next.n);
+    }
+    put(b"\n");
+    next
+}
+
+// A reply without its CR and LF.
+fn put_reply(k: u8, len: usize, reply: &[u8]) {
+    put_number(k as u64);
+    put(b" ");
+    put_number(len as u64);
+    put(b" ");
+    if len < 2 {
+        put(b"-\n");
+        return;
+    }
+    if reply.len() < len {
+        put(b"-\n");
+        return;
+    }
+    put(&reply[0..len - 2]);
+    put(b"\n");
+}
+
+fn least(a: usize, b: usize) -> usize
+    ensures { λ r. ⌜ (r ≤ a) × (r ≤ b) ⌝ }
+{
+    if a < b { a } else { b }
+}
+
+// A number that is larger than any of a card or a buffer where the digits stand for none.
+fn number(line: &[u8], from: usize) -> usize {
+    if line.len() < from {
+        return REPLY;
+    }
+    let n = text::number_at(line, from);
+    if !n.ok {
+        return REPLY;
+    }
+    if n.value < 99 {
+        return n.value as usize;
+    }
+    REPLY
+}
+
+// The place behind the blank that ends the word at a place.
+fn behind(line: &[u8], from: usize) -> usize {
+    if line.len() < from {
+        return line.len();
+    }
+    let n = text::number_at(line, from);
+    let next = n.next;
+    if next < line.len() {
+        next + 1
+    } else {
+        line.len()
+    }
+}
+
+// The card after the line; what it answers is printed.
+fn answered(t: Taken, text: &[u8], reply: &mut [u8]) -> Card {
+    let mut store = [0u8; RECORD_LENGTH];
+    let a = line_in(t, text, reply, &mut store);
+    put_reply(a.k, a.len, reply);
+    a.card
+}
+
+fn line_to(rig: Rig, line: &[u8]) -> Rig {
+    let card = number(line, 5);
+    let second = behind(line, 5);
+    let room = least(number(line, second), REPLY);
+    let from = least(behind(line, second), line.len());
+    let seen = looked(rig, look_order());
+    let p = seen.pass;
+    let t = taken_by(p, card, card_of(seen, place_of(card)));
+    let mut reply = [0u8; REPLY];
+    let c = answered(t, &line[from..], &mut reply[0..room]);
+    with_card(seen, place_of(card), c)
+}
+
+// The bytes that the digits behind a place stand for, as many as a record has.
+fn bytes_at(line: &[u8], from: usize) -> [u8; RECORD_LENGTH]
+    requires { ⌜ from ≤ 100 ⌝ }
+{
+    let mut bytes = [0u8; RECORD_LENGTH];
+    for i in 0..RECORD_LENGTH {
+        bytes[i] = hex_at(line, from + 2 * i);
+    }
+    bytes
+}
+
+// How many there are.
+fn bytes_behind(line: &[u8], from: usize) -> usize
+    ensures { λ r. ⌜ r ≤ 308 ⌝ }
+{
+    if line.len() <= from {
+        return 0;
+    }
+    least((line.len() - from) / 2, RECORD_LENGTH)
+}
+
+fn load(rig: Rig, line: &[u8]) -> Rig {
+    let card = number(line, 5);
+    let from = least(behind(line, 5), 100);
+    let seen = looked(rig, look_order());
+    let p = seen.pass;
+    let t = taken_by(p, card, card_of(seen, place_of(card)));
+    let bytes = bytes_at(line, from);
+    let len = bytes_behind(line, from);
+    let r = load_in(t, &bytes[0..len]);
+    put_number(r.k as u64);
+    put(b"\n");
+    let c = r.card;
+    with_card(seen, place_of(card), c)
+}
+
+fn call(rig: Rig, line: &[u8]) -> Rig {
+    if line.len() <= LONGEST {
+        if starts(line, b"rack ") {
+            return made(line);
+        }
+        if starts(line, b"start") {
+            return start(rig);
+        }
+        if starts(line, b"tick ") {
+            return tick(rig, line);
+        }
+        if starts(line, b"line ") {
+            return line_to(rig, line);
+        }
+        if starts(line, b"load ") {
+            return load(rig, line);
+        }
+    }
+    put(b"?\n");
+    rig
+}
+
+// The call that a reader has given, if it has given one.
+fn taken(rig: Rig, r: Reader, block: &[u8]) -> Rig
+    requires { ⌜ r .start ≤ r .end ⌝ }
+    requires { ⌜ r .end ≤ length (now block) ⌝ }
+{
+    if !r.going {
+        if r.start < r.end {
+            io::write_all(
+                STDERR_FILENO,
+                b"plrack: the last line has no LF, and is not taken\n",
+            );
+        }
+        return rig;
+    }
+    let start = r.start;
+    let end = r.end;
+    call(rig, &block[start..end])
+}
+
+fn main() {
+    let mut block = [0u8; BUFFER];
+    let mut line = [0u8; KEPT];
+    let fresh = start_card();
+    let cards = [fresh; ROOM];
+    let pass = look_order();
+    let mut rig = Rig {
+        cards: cards,
+        n: 0,
+        pass: pass,
+    };
+    let mut r = input::start();
+    while r.left > 0 && r.going {
+        r = next_line(r, STDIN_FILENO, &mut block, &mut line);
+        rig = taken(rig, r, &block);
+    }
+}

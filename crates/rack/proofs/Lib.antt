@@ -1,0 +1,20 @@
+-- Laws of passes over a list of cards, and the rules of the walks: a slice lent on, a row lent on to any callee, a call on plain values.
+pub mod Rows
+pub mod Passes
+pub mod Takes
+pub mod Again
+pub mod Lent
+pub mod Called
+pub mod Types
+pub mod Plains
+pub mod LendsEach
+pub mod LendsCardAt
+pub mod LendsPutAt
+pub mod LendsPasses
+pub mod LendsTake
+pub mod LendsLineIn
+pub mod LendsLoadIn
+pub mod Draws
+pub mod Racks
+pub mod Supplies
+pub mod Alone

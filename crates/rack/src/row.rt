@@ -1,0 +1,70 @@
+// A lent row of cards, each read and changed where it sits. Proved by a walk of the code.
+ghost use mathlib.Core.Path.{_≡_};
+ghost use lib.ListN.{getD, set};
+ghost use Rattle.rack.specs.Visit.{afterRow, visitedRow, actedOver, actedRow, lookedRow, lookOrder, takenFrom};
+use crate::job::Taken;
+use crate::job::place_of;
+use crate::job::taken_by;
+use crate::pass::Pass;
+use crate::pass::acting;
+use crate::pass::look_order;
+use crate::pass::looking;
+use crate::pass::start_card;
+use crate::pass::visit;
+use card::card::Card;
+
+// A pass over the row: each card is handed by value to `visit`, and what that gives takes its place.
+pub fn each(row: &mut [Card], pass: Pass) -> Pass
+    ensures { λ p. ⌜ (p ≡ afterRow pass (now (row .entry))) × (now (row .exit) ≡ visitedRow pass (now (row .entry))) ⌝ }
+{
+    let mut p = pass;
+    let mut i: usize = 0;
+    while i < row.len() {
+        let v = visit(p, row[i]);
+        row[i] = v.card;
+        p = v.pass;
+        i = i + 1;
+    }
+    p
+}
+
+// The card at place i of the row, or the other where there is no such place.
+pub fn card_at(row: &mut [Card], i: usize, other: Card) -> Card
+    ensures { λ r. ⌜ (r ≡ getD (now (row .entry)) i other) × (now (row .exit) ≡ now (row .entry)) ⌝ }
+{
+    if i < row.len() { row[i] } else { other }
+}
+
+// Puts a card at place i of the row, where there is such a place.
+pub fn put_at(row: &mut [Card], i: usize, card: Card)
+    ensures { λ _. ⌜ now (row .exit) ≡ set (now (row .entry)) i card ⌝ }
+{
+    if i < row.len() {
+        row[i] = card;
+    }
+}
+
+// Both passes of an order: the cards are looked at, and then it is done.
+pub fn passes(row: &mut [Card], order: Pass) -> Pass
+    ensures { λ p. ⌜ (p ≡ actedOver order (now (row .entry))) × (now (row .exit) ≡ actedRow order (now (row .entry))) ⌝ }
+{
+    let n = row.len();
+    let p = looking(order, n);
+    let q = each(row, p);
+    let s = acting(q);
+    each(row, s)
+}
+
+// The card of a number, with what the cards of the row draw.
+pub fn take(row: &mut [Card], number: usize) -> Taken
+    ensures { λ t. ⌜ (t ≡ takenFrom (now (row .entry)) number) × (now (row .exit) ≡ lookedRow lookOrder (now (row .entry))) ⌝ }
+{
+    let n = row.len();
+    let o = look_order();
+    let p = looking(o, n);
+    let q = each(row, p);
+    let i = place_of(number);
+    let other = start_card();
+    let c = card_at(row, i, other);
+    taken_by(q, number, c)
+}
