@@ -141,6 +141,22 @@ static void survey(void)
     must(trigger_survey(card, UINT64_MAX).k == 5 && trigger_survey(card, UINT64_C(0x100000029)).k == 5, "a place past all");
 }
 
+/* A full tick of a fresh card names no cell; an edited one is named; the tick that brings the total to the limit still counts, and no other does. */
+static void tallies(void)
+{
+    trigger_input input = {.code = 0, .sample = 0, .attached = 0xffff};
+    trigger_card card = trigger_full_tick(trigger_fresh(), input).card;
+    trigger_tallies t = trigger_read_tallies(card);
+    must(t.total == 1 && t.cells[0] == 0 && t.cells[31] == 0, "one tick, and nobody named");
+    card.edited = 1;
+    card.tallies.total = UINT32_MAX - 1;
+    t = trigger_read_tallies(trigger_full_tick(card, input).card);
+    must(t.total == UINT32_MAX && t.cells[0] == 1 && t.cells[1] == 0, "the tick that reaches the limit");
+    card.tallies = t;
+    t = trigger_read_tallies(trigger_quick_tick(card, input).card);
+    must(t.total == UINT32_MAX && t.cells[0] == 1, "all stand still");
+}
+
 int main(void)
 {
     trigger_card card = trigger_fresh();
@@ -165,6 +181,7 @@ int main(void)
     must(convert(TRIGGER_RECORD, TRIGGER_OLD_RECORD - 1) == 1 && convert(TRIGGER_OLD_RECORD, 0) == 1, "a buffer with no room for the result");
     there_and_back(trigger_fresh());
     survey();
+    tallies();
     large();
     return faults == 0 ? 0 : 1;
 }

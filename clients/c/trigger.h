@@ -77,9 +77,18 @@ typedef struct {
 } trigger_memory;
 
 /*
+ * In how many ticks the waking rules named each cell, from cell 1 on, in full ticks too, and how many ticks ran, since the card powered up or was loaded. Once
+ * 4,294,967,295 ticks have run, all of these stand still. Those past the card's cells are 0.
+ */
+typedef struct {
+    uint32_t cells[TRIGGER_CELLS];
+    uint32_t total;
+} trigger_tallies;
+
+/*
  * The card: its cells from 1 on, its connectors, the set of edited cells, what is remembered of ticks, the place that lines are
  * for (a cell's number or 33 to 48), the code of the clock that it ticks by, and its number of cells: TRIGGER_LARGE, and any other number stands for
- * TRIGGER_SMALL. No call changes that number. Read the card as you like; to change it, use lines.
+ * TRIGGER_SMALL. No call changes that number. The tallies come last. Read the card as you like; to change it, use lines.
  */
 typedef struct {
     trigger_cell cells[TRIGGER_CELLS];
@@ -89,6 +98,7 @@ typedef struct {
     uint8_t pointer;
     uint8_t trigger;
     uint8_t size;
+    trigger_tallies tallies;
 } trigger_card;
 
 /* What comes in with a tick: the code of its clock, the levels at the connectors (bits 0-7 BNC1-8, 8-15 TTL0-7), and which have something attached. */
@@ -240,6 +250,9 @@ trigger_converted trigger_convert(const uint8_t *bytes, size_t bytes_len, uint8_
  */
 trigger_surveyed trigger_survey(trigger_card card, uint64_t place);
 
+/* All tallies: which cells cost most. */
+trigger_tallies trigger_read_tallies(trigger_card card);
+
 /*
  * A rack is a row of 1 to TRIGGER_RACK cards of sixteen cells that share one backplane, numbered from 1. The calls below change each card where it sits in the
  * row. 20 where the row is no rack, where no card has the number, or where the fronts are not one for each card: then nothing is changed, and a line is
@@ -298,7 +311,11 @@ TRIGGER_AT(trigger_memory, outputs3, 12);
 TRIGGER_AT(trigger_memory, levels, 16);
 TRIGGER_AT(trigger_memory, levels2, 18);
 
-TRIGGER_SIZE(trigger_card, 568);
+TRIGGER_SIZE(trigger_tallies, 132);
+TRIGGER_AT(trigger_tallies, cells, 0);
+TRIGGER_AT(trigger_tallies, total, 128);
+
+TRIGGER_SIZE(trigger_card, 704);
 TRIGGER_AT(trigger_card, cells, 0);
 TRIGGER_AT(trigger_card, connectors, 512);
 TRIGGER_AT(trigger_card, edited, 536);
@@ -306,6 +323,7 @@ TRIGGER_AT(trigger_card, memory, 544);
 TRIGGER_AT(trigger_card, pointer, 564);
 TRIGGER_AT(trigger_card, trigger, 565);
 TRIGGER_AT(trigger_card, size, 566);
+TRIGGER_AT(trigger_card, tallies, 568);
 
 TRIGGER_SIZE(trigger_input, 6);
 TRIGGER_AT(trigger_input, code, 0);
@@ -319,18 +337,18 @@ TRIGGER_AT(trigger_answer, cells, 4);
 TRIGGER_AT(trigger_answer, woken, 8);
 TRIGGER_AT(trigger_answer, count, 12);
 
-TRIGGER_SIZE(trigger_ticked, 584);
+TRIGGER_SIZE(trigger_ticked, 720);
 TRIGGER_AT(trigger_ticked, card, 0);
-TRIGGER_AT(trigger_ticked, answer, 568);
+TRIGGER_AT(trigger_ticked, answer, 704);
 
-TRIGGER_SIZE(trigger_answered, 584);
+TRIGGER_SIZE(trigger_answered, 720);
 TRIGGER_AT(trigger_answered, card, 0);
-TRIGGER_AT(trigger_answered, k, 568);
-TRIGGER_AT(trigger_answered, len, 576);
+TRIGGER_AT(trigger_answered, k, 704);
+TRIGGER_AT(trigger_answered, len, 712);
 
-TRIGGER_SIZE(trigger_loaded, 576);
+TRIGGER_SIZE(trigger_loaded, 712);
 TRIGGER_AT(trigger_loaded, card, 0);
-TRIGGER_AT(trigger_loaded, k, 568);
+TRIGGER_AT(trigger_loaded, k, 704);
 
 TRIGGER_SIZE(trigger_printed, 16);
 TRIGGER_AT(trigger_printed, k, 0);

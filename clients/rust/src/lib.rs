@@ -23,7 +23,7 @@ use core::fmt;
 use core::num::NonZeroU8;
 use core::str;
 
-pub use raw::{Answer, Cell, Connectors, Front, Input, RackInput, CELLS, CONNECTORS, RACK};
+pub use raw::{Answer, Cell, Connectors, Front, Input, RackInput, Tallies, CELLS, CONNECTORS, RACK};
 
 /// The length of a record of sixteen cells: a store needs as many bytes for `36SS Z`.
 pub const RECORD: usize = 308;
@@ -169,7 +169,8 @@ impl Card {
         ticked.answer
     }
 
-    /// Whether a quick tick with this input would work out no cell and leave the card as it is. Then the clock may stop until something else comes in.
+    /// Whether a quick tick with this input would work out no cell and leave the card as it is but for the count of its ticks. Then the clock may stop until
+    /// something else comes in.
     #[inline]
     pub fn at_rest(&self, input: Input) -> bool {
         unsafe { raw::trigger_at_rest(self.0, input) }
@@ -228,6 +229,12 @@ impl Card {
             cells: surveyed.cells,
             connectors: surveyed.connectors,
         })
+    }
+
+    /// Which cells cost most: in how many ticks the waking rules named each cell, and how many ticks ran, since the card powered up or was loaded.
+    #[inline]
+    pub fn tallies(&self) -> Tallies {
+        unsafe { raw::trigger_read_tallies(self.0) }
     }
 
     /// The cells, from cell 1 on: sixteen or thirty-two.

@@ -53,6 +53,18 @@ pub struct Memory {
     pub levels2: u16,
 }
 
+/// In how many ticks the waking rules named each cell, and how many ticks ran, since the card powered up. Once 4,294,967,295 ticks have run, all of
+/// these stand still.
+// crates/card/src/tallies.rt; `Ticks` there is a struct around each number.
+#[repr(C)]
+#[derive(Clone, Copy, Debug, PartialEq, Eq)]
+pub struct Tallies {
+    /// Of each cell, from cell 1 on: the ticks that named it, full ones too. Those past the card's cells are 0.
+    pub cells: [u32; CELLS],
+    /// The ticks that ran.
+    pub total: u32,
+}
+
 // crates/card/src/card.rt
 #[repr(C)]
 #[derive(Clone, Copy, Debug, PartialEq, Eq)]
@@ -64,6 +76,7 @@ pub struct Card {
     pub pointer: u8,
     pub trigger: u8,
     pub size: u8,
+    pub tallies: Tallies,
 }
 
 /// What comes in with a tick.
@@ -212,6 +225,7 @@ extern "C" {
         buffer_len: usize,
     ) -> Converted;
     pub fn trigger_survey(card: Card, place: u64) -> Surveyed;
+    pub fn trigger_read_tallies(card: Card) -> Tallies;
 }
 
 // The calls on a row of cards.
@@ -250,12 +264,13 @@ macro_rules! layout {
 layout!(Cell: 16, config 0, count 4, slots 8, kind 12, bit 13, pulse 14);
 layout!(Connectors: 20, sources 0, push_pull 16, open_drain 18);
 layout!(Memory: 20, driven 0, pulled 2, outputs 4, outputs2 8, outputs3 12, levels 16, levels2 18);
-layout!(Card: 568, cells 0, connectors 512, edited 536, memory 544, pointer 564, trigger 565, size 566);
+layout!(Tallies: 132, cells 0, total 128);
+layout!(Card: 704, cells 0, connectors 512, edited 536, memory 544, pointer 564, trigger 565, size 566, tallies 568);
 layout!(Input: 6, code 0, sample 2, attached 4);
 layout!(Answer: 16, ran 0, driven 2, cells 4, woken 8, count 12);
-layout!(Ticked: 584, card 0, answer 568);
-layout!(Answered: 584, card 0, k 568, len 576);
-layout!(Loaded: 576, card 0, k 568);
+layout!(Ticked: 720, card 0, answer 704);
+layout!(Answered: 720, card 0, k 704, len 712);
+layout!(Loaded: 712, card 0, k 704);
 layout!(Printed: 16, k 0, len 8);
 layout!(Converted: 16, k 0, len 8);
 layout!(Surveyed: 12, k 0, cells 4, connectors 8);

@@ -67,7 +67,8 @@ module _ (n : ℕ) where
   call-last c (tick full input) =
       by-tick n full c input
       (λ t. t .card .memory
-      ≡ cond (t .answer .ran) (Tick.moved (Tick.trimmed n (c .memory)) (record { driven = t .answer .driven; pulled = Tick.lines n c input .pulled; levels = Tick.lines n c input .levels })
+      ≡ cond (t .answer .ran) (Tick.moved (Tick.trimmed n (c .memory))
+      (record { driven = t .answer .driven; pulled = Tick.lines n c input .pulled; levels = Tick.lines n c input .levels })
       (t .answer .cells)) (c .memory))
       (λ _. refl) (λ _. refl)
 

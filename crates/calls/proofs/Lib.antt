@@ -6,3 +6,4 @@ pub mod Rest
 pub mod Runs
 pub mod SaveLoad
 pub mod Sizes
+pub mod Tallied

@@ -1,4 +1,5 @@
--- Document 01, "Lists of calls": calls of any kind in any order, each on the card that the one before it returned, over the number n of cells. Built from the definitions
+-- Document 01, "Lists of calls": calls of any kind in any order, each on the card that the one before it returned, over the number n of cells. Built from
+-- the definitions
 -- that the contracts of `line`, `load`, `full_tick` and `quick_tick` cite.
 use Prim.Native.Nat.{ℕ}
 use mathlib.Core.Bool.{Bool, _&&_, cond}

@@ -3,6 +3,7 @@ pub mod Runs
 pub mod Calls
 pub mod Demand3
 pub mod History
+pub mod Tallies
 pub mod Rest
 pub mod SaveLoad
 pub mod Sizes

@@ -1,11 +1,12 @@
--- Why a card's clock may stop while the card is at rest: ticks with the same input change nothing, however many and of whatever kinds.
+-- Why a card's clock may stop while the card is at rest: ticks with the same input change nothing but the tick total, however many and of whatever kinds.
 use Prim.Native.Nat.{ℕ}
 use mathlib.Core.Path.{_≡_}
 use mathlib.Core.Bool.{Bool}
 use mathlib.Core.List.{List, map}
+use lib.ListN.{length}
 use Rattle.card.specs.Fresh.{freshOf}
 use Rattle.ticks.specs.declared.view.Input.{Input}
-use Rattle.ticks.specs.Rest.{AtRest, restAnswer}
+use Rattle.ticks.specs.Rest.{AtRest, restAnswer, withTotal, restTotal}
 use Rattle.calls.specs.Calls.{Call, end, answers}
 use Rattle.calls.specs.Calls.Call.{tick}
 use Rattle.calls.specs.Calls.Reply.{tickReply}
@@ -15,11 +16,12 @@ use Rattle.calls.specs.Demand3.{AlikeReplies}
 abbrev pub ticksWith : Input → List Bool → List Call
 ticksWith input kinds = map (λ full. tick full input) kinds
 
--- behind any list of calls from a fresh card: where the card is at rest under an input, any ticks with it leave the card as it is, and each answers
--- the words of the last tick that ran, or idle where the clock is another
+-- behind any list of calls from a fresh card: where the card is at rest under an input, any ticks with it leave all of the card but the tick total, which
+-- counts
+-- those that ran up to the standstill, and each answers the words of the last tick that ran, or idle where the clock is another
 unfoldable pub RestLasts : ℕ → Type 0
 RestLasts n = (calls : List Call) (input : Input) (kinds : List Bool)
     → let c = end n (freshOf n) calls in
     AtRest n c input
-    → (end n c (ticksWith input kinds) ≡ c)
+    → (end n c (ticksWith input kinds) ≡ withTotal c (restTotal c input (length kinds)))
     × AlikeReplies (answers n c (ticksWith input kinds)) (map (λ full. tickReply (restAnswer c input)) kinds)

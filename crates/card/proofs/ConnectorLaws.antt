@@ -226,10 +226,12 @@ module _ (d : Connectors) (ok : wellFormed d ≡ true) (k : ℕ) (within : k < c
 
   module _ (v : ℕ) (good : badConnectorType v ≡ false) where
     pub each-kind : each (withKind d k v) ≡ set (each d) k (record { kind = v; source = sourceAt d k })
-    each-kind = let c : Connector = record { kind = v; source = sourceAt d k } in ap each (kind-from v) ∙ each-from (replaced c) (replaced-long c) (replaced-known c good)
+    each-kind = let c : Connector = record { kind = v; source = sourceAt d k } in ap each (kind-from v) ∙ each-from (replaced c) (replaced-long c)
+        (replaced-known c good)
 
     pub kind-formed : wellFormed (withKind d k v) ≡ true
-    kind-formed = let c : Connector = record { kind = v; source = sourceAt d k } in rw (kind-from v) (from-formed (replaced c) (replaced-long c) (replaced-known c good))
+    kind-formed = let c : Connector = record { kind = v; source = sourceAt d k } in rw (kind-from v) (from-formed (replaced c) (replaced-long c)
+        (replaced-known c good))
 
   -- another source
   source-from : (s : ℕ) → withSource d k s ≡ fromEach (replaced (record { kind = kindAt d k; source = s }))
@@ -255,4 +257,5 @@ module _ (d : Connectors) (ok : wellFormed d ≡ true) (k : ℕ) (within : k < c
 
     pub source-formed : wellFormed (withSource d k s) ≡ true
     source-formed =
-        let c : Connector = record { kind = kindAt d k; source = s } in rw (source-from s) (from-formed (replaced c) (replaced-long c) (replaced-known c (type-known d k)))
+        let c : Connector = record { kind = kindAt d k; source = s } in rw (source-from s) (from-formed (replaced c) (replaced-long c)
+        (replaced-known c (type-known d k)))

@@ -27,7 +27,7 @@ settings-edit : (n : ℕ) (c : Card) (trigger : ℕ) (cells : List Cell) (connec
     → ((i : ℕ) → i < n → bitAt edited i ≡ false → getD cells i noCell ≡ getD (c .cells) i noCell)
     → Edit n c (withSettings c trigger cells connectors edited)
 settings-edit n c trigger cells connectors edited unedited kept =
-    record { memory = refl; unedited = unedited; kept = kept }
+    record { memory = refl; tallies = refl; unedited = unedited; kept = kept }
 
 same-edit : (n : ℕ) (c : Card) (trigger : ℕ) (connectors : Connectors) → Edit n c (withSettings c trigger (c .cells) connectors (c .edited))
 same-edit n c trigger connectors = settings-edit n c trigger (c .cells) connectors (c .edited) (λ i h e. e) (λ i h e. refl)
@@ -64,7 +64,7 @@ module _ (n : ℕ) (c : Card) where
   pub move-edit : (p : ℕ) → Edit n c (move c p)
   unfolding move
   move-edit p =
-      record { memory = refl; unedited = λ i h e. e; kept = λ i h e. refl }
+      record { memory = refl; tallies = refl; unedited = λ i h e. e; kept = λ i h e. refl }
 
   pub trigger-edit : (t : ℕ) → Edit n c (setTrigger c t)
   unfolding setTrigger

@@ -10,5 +10,6 @@ pub mod PresetRows
 pub mod PresetValid
 pub mod Settings
 pub mod Slots
+pub mod TallyLaws
 pub mod ValidLaws
 pub mod WriteLaws

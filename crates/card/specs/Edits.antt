@@ -36,6 +36,7 @@ withParts c pointer trigger cells connectors edited =
       edited = edited;
       memory = c .memory;
       size = c .size;
+      tallies = c .tallies;
     }
 
 abbrev pub withPointer : Card → ℕ → Card

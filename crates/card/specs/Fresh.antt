@@ -11,6 +11,7 @@ use Rattle.card.specs.declared.card.Connectors.{Connectors}
 use Rattle.card.specs.declared.card.Card.{Card}
 use Rattle.card.specs.declared.card.Memory.{Memory}
 use Rattle.card.specs.Address.{cellCount, cellRoom, connectorCount, frontCount}
+use Rattle.card.specs.Tally.{noTallies}
 
 -- all that a cell keeps between ticks, cleared
 abbrev pub clearState : State
@@ -32,7 +33,7 @@ freshConnectors = record { sources = replicate connectorCount 0; «push_pull» =
 abbrev pub noMemory : Memory
 noMemory = record { driven = 0; pulled = 0; outputs = 0; outputs2 = 0; outputs3 = 0; levels = 0; levels2 = 0 }
 
--- a card as it powers up with some settings: pointer 1, and nothing remembered
+-- a card as it powers up with some settings: pointer 1, nothing remembered, and no tick counted
 abbrev pub started : ℕ → ℕ → List Cell → Connectors → ℕ → Card
 started size trigger cells connectors edited =
     record {
@@ -43,6 +44,7 @@ started size trigger cells connectors edited =
       edited = edited;
       memory = noMemory;
       size = size;
+      tallies = noTallies;
     }
 
 -- "pointer 1, cells constant 0, BNCs push-pull from 0, backplane inputs from 0, trigger 0"; "a fresh card has none edited": a card of n cells, with

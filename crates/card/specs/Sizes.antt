@@ -109,7 +109,8 @@ reading outputs =
       size = cellRoom;
     }
 
-read-table : lowerRead (reading 0x50003) ∷ upperRead (reading 0x50003) ∷ upperRead (reading 0xffffffff) ∷ lowerRead (reading 0xffffffff) ∷ [] ≡ 3 ∷ 5 ∷ 65535 ∷ 65535 ∷ []
+read-table : lowerRead (reading 0x50003) ∷ upperRead (reading 0x50003) ∷ upperRead (reading 0xffffffff) ∷ lowerRead
+    (reading 0xffffffff) ∷ [] ≡ 3 ∷ 5 ∷ 65535 ∷ 65535 ∷ []
 unfolding reading
 read-table = refl
 

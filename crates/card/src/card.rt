@@ -10,6 +10,8 @@ use crate::limits::FIRST_CELL;
 use crate::limits::FRONT_WORD;
 use crate::limits::SMALL;
 use crate::place::cells_for;
+use crate::tallies::Tallies;
+use crate::tallies::no_tallies;
 use cells::cell::Cell;
 use cells::cell::Pulses;
 
@@ -52,6 +54,7 @@ pub struct Card {
     pub pointer: u8,
     pub trigger: u8,
     pub size: u8,
+    pub tallies: Tallies,
 }
 
 // A card that powers up with settings: all else is fresh.
@@ -73,6 +76,7 @@ pub fn started(
         levels: 0,
         levels2: 0,
     };
+    let tallies = no_tallies();
     Card {
         cells: cells,
         connectors: connectors,
@@ -81,6 +85,7 @@ pub fn started(
         pointer: FIRST_CELL,
         trigger: trigger,
         size: size,
+        tallies: tallies,
     }
 }
 

@@ -8,4 +8,5 @@ pub mod edits;
 pub mod limits;
 pub mod place;
 pub mod presets;
+pub mod tallies;
 pub mod valid;

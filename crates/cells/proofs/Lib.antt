@@ -2,6 +2,7 @@ pub mod Rows
 pub mod Packed
 pub mod Tests
 pub mod Gates
+pub mod Steps
 pub mod Laws
 pub mod Counters
 pub mod Used

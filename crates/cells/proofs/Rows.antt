@@ -105,7 +105,7 @@ abbrev pub Missed : ℕ → ℕ → Type 0
 Missed n zero = Unit {0}
 Missed n (suc k) = Missed n k × (n ≡ k → ⊥)
 
-missed : (n k : ℕ) → Missed n k → k ≤ n
+pub missed : (n k : ℕ) → Missed n k → k ≤ n
 missed n zero m = omega arith
 missed n (suc k) m =
     let h : k ≤ n = missed n k (m .0) in

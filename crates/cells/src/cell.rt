@@ -11,6 +11,10 @@ pub type Count = Config;
 #[repr(C)]
 pub struct Pulses(pub Count);
 
+// A number of ticks, which a tally counts.
+#[repr(C)]
+pub struct Ticks(pub u32);
+
 // What a cell keeps between ticks, the same for every type: a flip-flop's bit, a timer's count and pulse, a counter's count. In a counter that is
 // started and stopped the bit says "active".
 #[repr(C)]

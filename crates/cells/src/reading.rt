@@ -1,9 +1,7 @@
 // What a cell's slots read: an address is a bit of one of four words, a word for each quarter of the addresses.
-ghost use mathlib.Core.Bool.{false};
 ghost use mathlib.Core.Path.{_≡_};
 ghost use Prim.Native.Nat.{_<_, _/_, _%_};
-ghost use Rattle.cells.specs.Table.{slots};
-ghost use Rattle.cells.specs.Reading.{readFrom, slotsFrom};
+ghost use Rattle.cells.specs.Reading.{readFrom, twoFrom, threeFrom, slotsFrom};
 use crate::table::Slots;
 
 // How many words there are.
@@ -43,7 +41,7 @@ pub fn read(q: &[u64; QUARTERS], address: u8) -> bool
 
 // The readings of slots that hold these addresses. The slots that are not given are taken as low.
 pub fn two(q: &[u64; QUARTERS], x: u8, y: u8) -> Slots
-    ensures { λ r. ⌜ r ≡ slots (readFrom (now (q .entry)) x) (readFrom (now (q .entry)) y) false false ⌝ }
+    ensures { λ r. ⌜ r ≡ twoFrom (now (q .entry)) x y ⌝ }
 {
     let rx = read(q, x);
     let ry = read(q, y);
@@ -56,7 +54,7 @@ pub fn two(q: &[u64; QUARTERS], x: u8, y: u8) -> Slots
 }
 
 pub fn three(q: &[u64; QUARTERS], x: u8, y: u8, z: u8) -> Slots
-    ensures { λ r. ⌜ r ≡ slots (readFrom (now (q .entry)) x) (readFrom (now (q .entry)) y) (readFrom (now (q .entry)) z) false ⌝ }
+    ensures { λ r. ⌜ r ≡ threeFrom (now (q .entry)) x y z ⌝ }
 {
     let rx = read(q, x);
     let ry = read(q, y);

@@ -8,9 +8,7 @@ ghost use Rattle.cells.specs.Wake;
 ghost use Rattle.cells.specs.Wake.{timerClock, timerStirred, flopClock, counterClock, hasStart, counterStirred, stirredAs, hasEdges, moved};
 use crate::cell::Pulses;
 use crate::reading::QUARTERS;
-use crate::reading::four;
 use crate::reading::read;
-use crate::reading::two;
 use crate::table::Class;
 use crate::table::CounterKind;
 use crate::table::FlopKind;
@@ -137,46 +135,46 @@ pub fn has_edges(kind: u8) -> bool
 // Two sets of words are handed in: q, what the addresses read now, and d, which of them read otherwise than in the last tick that ran.
 
 // A level slot of the first two, the first three, or all four reads otherwise.
-fn moved2(d: &[u64; QUARTERS], x: u8, y: u8) -> bool
+pub fn moved2(d: &[u64; QUARTERS], x: u8, y: u8) -> bool
     ensures { λ r. ⌜ r ≡ (readFrom (now (d .entry)) x || readFrom (now (d .entry)) y) ⌝ }
 {
     read(d, x) || read(d, y)
 }
 
-fn moved3(d: &[u64; QUARTERS], x: u8, y: u8, z: u8) -> bool
+pub fn moved3(d: &[u64; QUARTERS], x: u8, y: u8, z: u8) -> bool
     ensures { λ r. ⌜ r ≡ ((readFrom (now (d .entry)) x || readFrom (now (d .entry)) y) || readFrom (now (d .entry)) z) ⌝ }
 {
     moved2(d, x, y) || read(d, z)
 }
 
-fn moved4(d: &[u64; QUARTERS], x: u8, y: u8, z: u8, f: u8) -> bool
+pub fn moved4(d: &[u64; QUARTERS], x: u8, y: u8, z: u8, f: u8) -> bool
     ensures { λ r. ⌜ r ≡ anySlot (slotsFrom (now (d .entry)) x y z f) ⌝ }
 {
     moved2(d, x, y) || moved2(d, z, f)
 }
 
 // A D flip-flop's clock is high, or a level slot of it reads otherwise; a JK's.
-fn flop_wakes(x: u8, y: u8, z: u8, f: u8, q: &[u64; QUARTERS], d: &[u64; QUARTERS]) -> bool
+pub fn flop_wakes(x: u8, y: u8, z: u8, f: u8, q: &[u64; QUARTERS], d: &[u64; QUARTERS]) -> bool
     ensures { λ r. ⌜ r ≡ (readFrom (now (q .entry)) y || ((readFrom (now (d .entry)) x || readFrom (now (d .entry)) z) || readFrom (now (d .entry)) f)) ⌝ }
 {
     read(q, y) || moved3(d, x, z, f)
 }
 
-fn jk_wakes(x: u8, y: u8, z: u8, q: &[u64; QUARTERS], d: &[u64; QUARTERS]) -> bool
+pub fn jk_wakes(x: u8, y: u8, z: u8, q: &[u64; QUARTERS], d: &[u64; QUARTERS]) -> bool
     ensures { λ r. ⌜ r ≡ (readFrom (now (q .entry)) z || (readFrom (now (d .entry)) x || readFrom (now (d .entry)) y)) ⌝ }
 {
     read(q, z) || moved2(d, x, y)
 }
 
 // A timer is stirred, or its reset reads otherwise.
-fn timer_wakes(count: Pulses, pulse: bool, r: Slots, z: u8, d: &[u64; QUARTERS]) -> bool
+pub fn timer_wakes(count: Pulses, pulse: bool, r: Slots, z: u8, d: &[u64; QUARTERS]) -> bool
     ensures { λ q. ⌜ q ≡ (timerStirred (count .0) pulse r || readFrom (now (d .entry)) z) ⌝ }
 {
     timer_stirred(count, pulse, r) || read(d, z)
 }
 
 // A counter is stirred, or A, reset or B reads otherwise; one with start and stop: its reset.
-fn gated_wakes(
+pub fn gated_wakes(
     counter: CounterKind,
     active: bool,
     r: Slots,
@@ -190,59 +188,14 @@ fn gated_wakes(
     counter_stirred(counter, active, r) || moved3(d, x, z, f)
 }
 
-fn started_wakes(counter: CounterKind, active: bool, r: Slots, z: u8, d: &[u64; QUARTERS]) -> bool
+pub fn started_wakes(
+    counter: CounterKind,
+    active: bool,
+    r: Slots,
+    z: u8,
+    d: &[u64; QUARTERS],
+) -> bool
     ensures { λ q. ⌜ q ≡ (counterStirred counter active r || readFrom (now (d .entry)) z) ⌝ }
 {
     counter_stirred(counter, active, r) || read(d, z)
-}
-
-// Whether a cell that is not edited wakes, whose slots hold the addresses x, y, z and f.
-pub fn wakes(
-    kind: u8,
-    count: Pulses,
-    bit: bool,
-    pulse: bool,
-    x: u8,
-    y: u8,
-    z: u8,
-    f: u8,
-    q: &[u64; QUARTERS],
-    d: &[u64; QUARTERS],
-) -> bool
-    ensures { λ r. ⌜ r ≡ (Wake.stirred kind (state count bit pulse) (slotsFrom (now (q .entry)) x y z f) || moved kind (slotsFrom (now (d .entry)) x y z f)) ⌝ }
-{
-    match kind {
-        0 => false,
-        1 => flop_wakes(x, y, z, f, q, d),
-        2 => moved2(d, x, y),
-        3 => moved3(d, x, y, z),
-        4 => moved4(d, x, y, z, f),
-        5 => moved2(d, x, y),
-        6 => moved2(d, x, y),
-        7 => moved2(d, x, y),
-        8 => timer_wakes(count, pulse, two(q, x, y), z, d),
-        9 => timer_wakes(count, pulse, two(q, x, y), z, d),
-        10 => moved4(d, x, y, z, f),
-        11 => moved4(d, x, y, z, f),
-        12 => flop_wakes(x, y, z, f, q, d),
-        13 => jk_wakes(x, y, z, q, d),
-        14 => timer_wakes(count, pulse, two(q, x, y), z, d),
-        15 => timer_wakes(count, pulse, two(q, x, y), z, d),
-        16 => timer_wakes(count, pulse, four(q, x, y, z, f), z, d),
-        17 => timer_wakes(count, pulse, four(q, x, y, z, f), z, d),
-        18 => flop_wakes(x, y, z, f, q, d),
-        19 => gated_wakes(CounterKind::WhileBoth, bit, four(q, x, y, z, f), x, z, f, d),
-        20 => gated_wakes(
-            CounterKind::WhileEither,
-            bit,
-            four(q, x, y, z, f),
-            x,
-            z,
-            f,
-            d,
-        ),
-        21 => started_wakes(CounterKind::FromStart, bit, four(q, x, y, z, f), z, d),
-        22 => started_wakes(CounterKind::FromStartAtZero, bit, four(q, x, y, z, f), z, d),
-        _ => false,
-    }
 }

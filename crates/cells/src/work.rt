@@ -1,4 +1,4 @@
-// A cell worked out: one function for each family, and the one that picks among them.
+// A cell worked out: one function for each family.
 ghost use mathlib.Core.Bool.{Bool};
 ghost use mathlib.Core.Path.{_≡_};
 ghost use Rattle.cells.specs.declared.table.Class.the-variants.{Flop, OneShot, Delay, Counter};
@@ -7,26 +7,38 @@ ghost use Rattle.cells.specs.State.{state};
 ghost use Rattle.cells.specs.Reading.{slotsFrom};
 ghost use Rattle.cells.specs.Work;
 ghost use Rattle.cells.specs.Work.{lookupOut, looked, dFlop, syncDFlop, clearDFlop, flopNext, shotBusy, delayBusy, nextCount, nextPulse, pulses};
-ghost use Rattle.cells.specs.Work.{countAfter, pulseAfter, startedBy, activeAfter, keptActive, countedUp, workAs, workOut};
+ghost use Rattle.cells.specs.Work.{countAfter, pulseAfter, startedBy, activeAfter, keptActive, countedUp, workAs, gateOut};
 ghost use Rattle.cells.specs.Effect.{workedBy};
 use crate::cell::Config;
 use crate::cell::Count;
 use crate::cell::Pulses;
 use crate::reading::QUARTERS;
-use crate::reading::four;
 use crate::reading::read;
-use crate::reading::three;
-use crate::reading::two;
 use crate::table::CounterKind;
 use crate::table::FlopKind;
+use crate::table::GateKind;
 use crate::table::Slots;
 use crate::table::packed;
 
 // The bit of the code at the place that the readings choose.
-fn lookup(code: Config, r: Slots) -> bool
+pub fn lookup(code: Config, r: Slots) -> bool
     ensures { λ q. ⌜ q ≡ lookupOut code r ⌝ }
 {
     words::bit(code as u64, packed(r.x, r.y, r.z, r.f))
+}
+
+// A lookup or a gate, by the readings of its slots.
+pub fn gate_out(gate: GateKind, code: Config, r: Slots) -> bool
+    ensures { λ q. ⌜ q ≡ gateOut gate code r ⌝ }
+{
+    match gate {
+        GateKind::Lookup => lookup(code, r),
+        GateKind::And2 => r.x & r.y,
+        GateKind::Or2 => r.x | r.y,
+        GateKind::Xor2 => r.x ^ r.y,
+        GateKind::And4 => (r.x & r.y) & (r.z & r.f),
+        GateKind::Or4 => (r.x | r.y) | (r.z | r.f),
+    }
 }
 
 // What a gate of four slots answers, and how many slots it looked at.
@@ -271,8 +283,10 @@ fn counted_up(reset: bool, active: bool, clock: bool, count: Pulses) -> Pulses
     }
 }
 
-// What working a cell out gives: its output alone, or with what is new in its state. A caller writes back only what is new.
+// What becomes of a cell: nothing, its output alone, or with that what is new in its state. A caller writes back only what is new.
 pub enum Effect {
+    // it was not worked out, and keeps its output
+    Slept,
     // the state is the same, with an output
     Same(bool),
     // a flip-flop's bit, which is the output
@@ -287,95 +301,31 @@ pub enum Effect {
 
 // Each of the families asks only for the parts of the state that matter to it, and says what becomes of any state that has them.
 
-fn flop(flop: FlopKind, bit: bool, r: Slots) -> Effect
-    ensures { λ e. ⌜ ((count : Pulses) (pulse : Bool) → let s = state count bit pulse in workedBy s e ≡ workAs (Flop flop) 0 s r) ⌝ }
+pub fn flop(flop: FlopKind, bit: bool, r: Slots) -> Effect
+    ensures { λ e. ⌜ ((count : Pulses) (pulse out : Bool) → let s = state count bit pulse in workedBy s out e ≡ workAs (Flop flop) 0 s r) ⌝ }
 {
     Effect::Bit(flop_next(flop, r, bit))
 }
 
-fn one_shot(retrigger: bool, config: Config, count: Pulses, r: Slots) -> Effect
-    ensures { λ e. ⌜ ((bit pulse : Bool) → let s = state count bit pulse in workedBy s e ≡ workAs (OneShot retrigger) config s r) ⌝ }
+pub fn one_shot(retrigger: bool, config: Config, count: Pulses, r: Slots) -> Effect
+    ensures { λ e. ⌜ ((bit pulse out : Bool) → let s = state count bit pulse in workedBy s out e ≡ workAs (OneShot retrigger) config s r) ⌝ }
 {
     let took = taken(retrigger, r, shot_busy(count));
     Effect::Count(count_after(took, Pulses(config), count, r))
 }
 
-fn delay(retrigger: bool, config: Config, count: Pulses, pulse: bool, r: Slots) -> Effect
-    ensures { λ e. ⌜ ((bit : Bool) → let s = state count bit pulse in workedBy s e ≡ workAs (Delay retrigger) config s r) ⌝ }
+pub fn delay(retrigger: bool, config: Config, count: Pulses, pulse: bool, r: Slots) -> Effect
+    ensures { λ e. ⌜ ((bit out : Bool) → let s = state count bit pulse in workedBy s out e ≡ workAs (Delay retrigger) config s r) ⌝ }
 {
     let took = taken(retrigger, r, delay_busy(count, pulse));
     let next = count_after(took, Pulses(config), count, r);
     Effect::Timed(next, pulse_after(took, Pulses(config), count, pulse, r))
 }
 
-fn counter(counter: CounterKind, count: Pulses, bit: bool, r: Slots) -> Effect
-    ensures { λ e. ⌜ ((pulse : Bool) → let s = state count bit pulse in workedBy s e ≡ workAs (Counter counter) 0 s r) ⌝ }
+pub fn counter(counter: CounterKind, count: Pulses, bit: bool, r: Slots) -> Effect
+    ensures { λ e. ⌜ ((pulse out : Bool) → let s = state count bit pulse in workedBy s out e ≡ workAs (Counter counter) 0 s r) ⌝ }
 {
     let active = active_after(counter, r, count, bit);
     let next = counted_up(r.z, active, r.y, count);
     Effect::Counted(next, kept_active(counter, bit, active), active)
-}
-
-// A cell worked out, whose slots hold the addresses x, y, z and f. Each arm reads the slots that its type uses. A number past the table is no type:
-// such a cell does nothing.
-pub fn work(
-    kind: u8,
-    config: Config,
-    count: Pulses,
-    bit: bool,
-    pulse: bool,
-    x: u8,
-    y: u8,
-    z: u8,
-    f: u8,
-    q: &[u64; QUARTERS],
-) -> Effect
-    ensures { λ e. ⌜ workedBy (state count bit pulse) e ≡ workOut kind config (state count bit pulse) (slotsFrom (now (q .entry)) x y z f) ⌝ }
-{
-    match kind {
-        0 => Effect::Same(config != 0),
-        1 => flop(FlopKind::DFlop, bit, four(q, x, y, z, f)),
-        2 => Effect::Same(lookup(config, two(q, x, y))),
-        3 => Effect::Same(lookup(config, three(q, x, y, z))),
-        4 => Effect::Same(lookup(config, four(q, x, y, z, f))),
-        5 => {
-            let r = two(q, x, y);
-            Effect::Same(r.x & r.y)
-        }
-        6 => {
-            let r = two(q, x, y);
-            Effect::Same(r.x | r.y)
-        }
-        7 => {
-            let r = two(q, x, y);
-            Effect::Same(r.x ^ r.y)
-        }
-        8 => one_shot(true, config, count, three(q, x, y, z)),
-        9 => delay(true, config, count, pulse, three(q, x, y, z)),
-        10 => {
-            let l = look(DECIDES_AND, x, y, z, f, q);
-            Effect::Same(l.out)
-        }
-        11 => {
-            let l = look(DECIDES_OR, x, y, z, f, q);
-            Effect::Same(l.out)
-        }
-        12 => flop(FlopKind::SyncDFlop, bit, four(q, x, y, z, f)),
-        13 => flop(FlopKind::Jk, bit, three(q, x, y, z)),
-        14 => one_shot(false, config, count, three(q, x, y, z)),
-        15 => delay(false, config, count, pulse, three(q, x, y, z)),
-        16 => one_shot(false, config, count, four(q, x, y, z, f)),
-        17 => delay(false, config, count, pulse, four(q, x, y, z, f)),
-        18 => flop(FlopKind::ClearDFlop, bit, four(q, x, y, z, f)),
-        19 => counter(CounterKind::WhileBoth, count, bit, four(q, x, y, z, f)),
-        20 => counter(CounterKind::WhileEither, count, bit, four(q, x, y, z, f)),
-        21 => counter(CounterKind::FromStart, count, bit, four(q, x, y, z, f)),
-        22 => counter(
-            CounterKind::FromStartAtZero,
-            count,
-            bit,
-            four(q, x, y, z, f),
-        ),
-        _ => Effect::Same(false),
-    }
 }

@@ -342,7 +342,8 @@ module _ (n room : ℕ) (bytes : List ℕ) (few : n ≤ cellCount) (large : leng
     rest-at i h =
         let cells = take cellRoom (card .cells) in
         let there = getD-drop n cells i noCell in
-        let pass = split cellRoom (card .trigger) (card .cells) (each (card .connectors)) (settings-valid cellRoom card (loaded-valid cellRoom d bytes ok)) .cells-pass in
+        let pass = split cellRoom (card .trigger) (card .cells) (each (card .connectors)) (settings-valid cellRoom card
+        (loaded-valid cellRoom d bytes ok)) .cells-pass in
         let ok-at = every-at (validCell cellRoom) cells (n + i) noCell pass (omega (arith, length-drop n cells)) in
         let blank-at = ap isBlank (sym there) ∙ every-at isBlank (drop n cells) i noCell blank h in
         let clear-at = sym (List·getD-map clearedCell cells (n + i) noCell) ∙ ap (λ (l : List Cell). getD l (n + i) noCell) all-clear in

@@ -3,6 +3,7 @@
 // A chart line: the type, the used slots, the edge slots, the largest configuration; `-` for none.
 // A line of a gate: the type, the readings X Y Z F, and how many slots it looks at.
 // A line of a course: the readings X Y Z F, then the count, bit, pulse and output that they lead to. A counter's bit is "active", where it keeps that.
+ghost use mathlib.Core.Bool.{false};
 ghost use mathlib.Core.Path.{_≡_};
 ghost use Rattle.cells.specs.Effect.{workedBy};
 ghost use Rattle.cells.specs.Reading.{slotsFrom};
@@ -177,11 +178,15 @@ fn levels(r: Slots) -> [u64; QUARTERS]
     [p as u64, 0, 0, 0]
 }
 
-// What a cell of state s keeps and puts out.
+// What a cell of state s keeps and puts out, where its last output was low.
 fn worked(s: State, e: Effect) -> Worked
-    ensures { λ w. ⌜ w ≡ workedBy s e ⌝ }
+    ensures { λ w. ⌜ w ≡ workedBy s false e ⌝ }
 {
     match e {
+        Effect::Slept => Worked {
+            state: s,
+            out: false,
+        },
         Effect::Same(out) => Worked { state: s, out: out },
         Effect::Bit(bit) => {
             let mut next = s;
@@ -225,8 +230,23 @@ fn step(kind: u8, s: State, r: Slots) -> State
     ensures { λ t. ⌜ t ≡ workOut kind duration s r .state ⌝ }
 {
     let q = levels(r);
-    let e = cells::work::work(kind, DURATION, s.count, s.bit, s.pulse, 0, 1, 2, 3, &q);
-    let w = worked(s, e);
+    let t = cells::step::step(
+        true,
+        false,
+        kind,
+        DURATION,
+        s.count,
+        s.bit,
+        s.pulse,
+        0,
+        1,
+        2,
+        3,
+        &q,
+        &q,
+    );
+    let effect = t.effect;
+    let w = worked(s, effect);
     put_step(r, w);
     w.state
 }

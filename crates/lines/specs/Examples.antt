@@ -155,6 +155,7 @@ told =
       edited = 0;
       memory = record { driven = 4; pulled = 0; outputs = 9; outputs2 = 0; outputs3 = 0; levels = 0x1205; levels2 = 0 };
       size = cellCount;
+      tallies = fresh .tallies;
     }
 
 replyTo : String → List ℕ

@@ -24,8 +24,11 @@ use Rattle.lines.specs.Line.{changeFor, responseTo, decision, decisionFo
 
 -- the number of a line with room for its reply and a store of some length, on a card of each size made from a fresh one
 both : (ℕ → Card → Card) → (store : ℕ) → String → ℕ × ℕ
-both made store text =
-    (lineOutcome cellCount (made cellCount (freshOf cellCount)) (bytesOf text) 16 store .k, lineOutcome cellRoom (made cellRoom (freshOf cellRoom)) (bytesOf text) 16 store .k)
+both made store text = (
+  lineOutcome cellCount (made cellCount (freshOf cellCount)) (bytesOf text) 16 store .k,
+  lineOutcome cellRoom (made cellRoom (freshOf cellRoom))
+      (bytesOf text) 16 store .k,
+)
 
 fresh : ℕ → Card → Card
 fresh n c = c

@@ -114,7 +114,8 @@ module _ (n : ℕ) (c : Card) (ok : validCard n c ≡ true) where
   text-most =
       let s = split n (c .trigger) (c .cells) (each (c .connectors)) (settings-valid n c ok) in
       let cells = list-most cellCommands (validCell n) firstCell cellLines (λ i x pass. cell-most n x pass i) 0 (take n (c .cells)) (s .cells-pass) in
-      let connectors = list-most connectorCommands (validConnector n) firstConnector connectorLines (connector-most n) 0 (each (c .connectors)) (s .connectors-pass) in
+      let connectors = list-most connectorCommands (validConnector n) firstConnector connectorLines (connector-most n) 0 (each (c .connectors))
+      (s .connectors-pass) in
       let front : length (commandsText (commandsFrom cellCommands 0 (take n (c .cells)))) ≤ places firstCell cellLines 0 n = rw (s .cell-count) at cells in
       let back : length (commandsText (commandsFrom connectorCommands 0 (each (c .connectors)))) ≤ places firstConnector connectorLines 0 connectorCount
       = rw (s .connector-count) at connectors in

@@ -29,7 +29,8 @@ printedCell kind config slots = commandsText (cellCommands 0 (whole kind config 
 -- cells of the longest lines on a card whose connectors have the longest sources
 longCard : Card
 longCard =
-    started 16 0 (replicate 16 (whole 17 4294967295 (225 ∷ 225 ∷ 225 ∷ 225 ∷ []))) (record { sources = replicate 16 225; «push_pull» = 65535; «open_drain» = 0 }) 0
+    started 16 0 (replicate 16 (whole 17 4294967295 (225 ∷ 225 ∷ 225 ∷ 225 ∷ [])))
+    (record { sources = replicate 16 225; «push_pull» = 65535; «open_drain» = 0 }) 0
 
 -- given, expected
 abbrev table : List (List ℕ × List ℕ)

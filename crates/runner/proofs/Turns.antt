@@ -69,7 +69,8 @@ reached-turn n x y bs t p t′ p′ r e et ep =
       input = r .input ++ bs;
       stands = sym (ap flushed whole);
       bytes = length-append (r .input) bs ∙ ap (λ (n : ℕ). n + length bs) (r .bytes) ∙ sym et;
-      prints = ap (λ (s : RunState). length (s .done .printed)) whole ∙ length-append old (y .done .printed) ∙ ap (λ (n : ℕ). n + length (y .done .printed)) (r .prints) ∙ sym ep;
+      prints = ap (λ (s : RunState). length (s .done .printed)) whole ∙ length-append old (y .done .printed) ∙ ap (λ (n : ℕ). n + length
+          (y .done .printed)) (r .prints) ∙ sym ep;
     }
   where
     before : RunState

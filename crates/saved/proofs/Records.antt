@@ -34,7 +34,8 @@ use Rattle.saved.proofs.Forms.{load-accepts-as, load-save-as, each-in, 
 -- ---- saves
 
 -- the length of a record, of a card with cells of four slots and of a valid one
-pub record-length : (n width : ℕ) (c : Card) → length (take n (c .cells)) ≡ n → FourSlots (take n (c .cells)) → length (recordOf n width c) ≡ recordLength n width
+pub record-length : (n width : ℕ) (c : Card) → length (take n (c .cells)) ≡ n → FourSlots (take n (c .cells)) → length
+    (recordOf n width c) ≡ recordLength n width
 unfolding recordOf
 record-length n width c count slots =
     rw (count, length-each (c .connectors)) at (encode-length width (c .trigger) (take n (c .cells)) (each (c .connectors)) slots)
@@ -100,7 +101,8 @@ loaded-wide (suc m) d bytes e = ap (λ (w : ℕ). loadedAs (suc m) w d bytes) (w
 -- by its number a load powers the card up or leaves it
 pub loaded-by : (n : ℕ) (d : Card) (bytes : List ℕ) → let from = widthOf n bytes in
     loaded n d bytes
-    ≡ cond (eqb (loadNumber n bytes) 0) (poweredUp n (d .size) (triggerIn bytes) (loadCells n from bytes ++ drop n (d .cells)) (fromEach (connectorsIn n from bytes))) d
+    ≡ cond (eqb (loadNumber n bytes) 0) (poweredUp n (d .size) (triggerIn bytes) (loadCells n from bytes ++ drop n (d .cells)) (fromEach
+    (connectorsIn n from bytes))) d
 unfolding loadNumber loaded loadedAs
 loaded-by n d bytes = refl
 
@@ -226,7 +228,8 @@ module _ (n from to : ℕ) (bytes : List ℕ) (ok : loadNumberAs n from bytes �
   rewritten-loaded d =
       loaded-from n to d (normalRecord n from to bytes) (loadCells n from bytes ++ drop n (d .cells))
       (ap (λ (l : List Cell). l ++ drop n (d .cells)) (sym rewritten-cells)) rewritten-accepted
-      ∙ ap₂ (λ (t : ℕ) (k : List Connector). poweredUp n (d .size) t (loadCells n from bytes ++ drop n (d .cells)) (fromEach k)) rewritten-trigger rewritten-connectors
+      ∙ ap₂ (λ (t : ℕ) (k : List Connector). poweredUp n (d .size) t (loadCells n from bytes ++ drop n (d .cells))
+      (fromEach k)) rewritten-trigger rewritten-connectors
       ∙ sym (loaded-from n from d bytes _ refl ok)
 
   pub rewritten-again : (w : ℕ) → normalRecord n to w (normalRecord n from to bytes) ≡ normalRecord n from w bytes

@@ -12,7 +12,9 @@ use Rattle.card.specs.Address.{cellCount, cellRoom}
 use Rattle.card.specs.Connectors.{kindAt, sourceAt, each, fromEach}
 use Rattle.card.specs.Fresh.{clearState, freshOf, fresh}
 use Rattle.card.specs.Context.{configShown}
+use Rattle.card.specs.declared.card.Card.{Card}
 use Rattle.card.specs.Edits.{withPointer}
+use Rattle.card.specs.Tally.{ticks, tallyOf}
 use Rattle.card.specs.Valid.{permittedBase, badClock, frontDriven, badCellType, badConnectorType, badAddress, validSlot, validSlots, validCell}
 use Rattle.card.specs.Valid.{validConnector, every, valid}
 use Rattle.saved.specs.Record.{bigEndian, cellField, connectorField, fieldsFrom, encode, configWidth, bigValue, triggerIn, cellIn, connectorIn, recordOf}
@@ -122,6 +124,25 @@ saved bytes = recordOf cellCount configWidth (loaded cellCount fresh bytes)
 pointerAfter : List ℕ → List ℕ
 pointerAfter bytes = loaded cellCount (withPointer fresh 35) bytes .pointer ∷ []
 
+-- the tick total and the tally of cell 1 after a load, of a card that had counted 7 and 5
+countedCard : Card
+countedCard =
+    record {
+      pointer = 1;
+      trigger = 0;
+      cells = fresh .cells;
+      connectors = fresh .connectors;
+      edited = 0;
+      memory = fresh .memory;
+      size = cellCount;
+      tallies = record { cells = ticks 5 ∷ []; total = ticks 7 };
+    }
+
+talliesAfter : List ℕ → List ℕ
+talliesAfter bytes =
+    let t = loaded cellCount countedCard bytes .tallies in
+    t .total .0 ∷ tallyOf t 0 ∷ []
+
 with : List (ℕ × ℕ) → List ℕ
 with changes = load (changed changes whole)
 
@@ -141,6 +162,9 @@ table =
     -- "A load is a power-up": the pointer is at 1 then; a refused load leaves it
     ∷ (pointerAfter whole, 1 ∷ [])
     ∷ (pointerAfter [], 35 ∷ [])
+    -- it clears the tallies, and a refused one leaves them
+    ∷ (talliesAfter whole, 0 ∷ 0 ∷ [])
+    ∷ (talliesAfter [], 7 ∷ 5 ∷ [])
     -- so is every other above 1, not by its low bit and not by its low bytes; 1 and 0 stay
     ∷ (constantRead 4294967295, 1 ∷ [])
     ∷ (constantRead 65537, 1 ∷ [])
@@ -244,7 +268,7 @@ table =
     ∷ []
 
 examples : map (λ (e : List ℕ × List ℕ). e .0) table ≡ map (λ (e : List ℕ × List ℕ). e .1) table
-unfolding whole part oldCell old changed saved pointerAfter cellRead connectorRead load with constantRead configShown listed rowOf fresh permittedBase badClock frontDriven badCellType badConnectorType badAddress validSlot validSlots validCell validConnector every valid bigEndian cellField connectorField fieldsFrom encode bigValue cellIn normalCell connectorIn bitAt wordOf kindAt sourceAt each fromEach recordOf sameBytes loadNumberAs loadedAs loadNumber loaded
+unfolding whole part oldCell old changed saved pointerAfter countedCard talliesAfter cellRead connectorRead load with constantRead configShown listed rowOf fresh permittedBase badClock frontDriven badCellType badConnectorType badAddress validSlot validSlots validCell validConnector every valid bigEndian cellField connectorField fieldsFrom encode bigValue cellIn normalCell connectorIn bitAt wordOf kindAt sourceAt each fromEach recordOf sameBytes loadNumberAs loadedAs loadNumber loaded
 examples = refl
 
 -- ---- document 02, "Thirty-two cells": "A record has 32 cell fields and 516 bytes, the only length that a 32-cell card loads or saves"

@@ -19,6 +19,8 @@ use Rattle.card.specs.declared.card.Card.{Card}
 use Rattle.card.specs.declared.card.Memory.{Memory}
 use Rattle.card.specs.declared.card.Connectors.{Connectors}
 use Rattle.card.specs.Address.{connectorCount, firstCell, firstConnector, among, baseOf, isInverted, isEdge, onBackplane}
+use Rattle.card.specs.Tally.{tallyOf}
+use Rattle.ticks.specs.Rest.{totalOf}
 use Rattle.card.specs.Connectors.{pushPull, isOutput, kindAt, sourceAt, connectorAt}
 use Rattle.card.proofs.ConnectorLaws.{kind-push}
 use Rattle.card.proofs.Places.{among-bounds}
@@ -140,6 +142,8 @@ pub record Between (n : ℕ) (set : ℕ → Bool) (c d : Card) : Type 0 where
   pub connectors : c .connectors ≡ d .connectors
   pub edited : c .edited ≡ d .edited
   pub size : c .size ≡ d .size
+  pub tallies : (i : ℕ) → i < n → set (firstCell + i) ≡ false → tallyOf (c .tallies) i ≡ tallyOf (d .tallies) i
+  pub total : totalOf c ≡ totalOf d
   pub cells : (i : ℕ) → i < n → set (firstCell + i) ≡ false → cellAt c i ≡ cellAt d i
   pub driven : LinesOutside set (c .memory .driven) (d .memory .driven)
   pub outputs : CellsOutside n set (c .memory .outputs) (d .memory .outputs)

@@ -1,19 +1,22 @@
 -- Two runs that differ in one line agree outside a set that holds what depends on it: a tick, and lists of ticks.
 use Prim.Native.Nat.{ℕ, _+_, _-_, _%_, _^_, _<_}
 use mathlib.Core.Path.{_≡_, refl, sym, ap, ap₂, subst, _∙_}
-use mathlib.Core.Bool.{Bool, false}
+use mathlib.Core.Bool.{Bool, true, false, cond}
 use mathlib.Core.List.{[], _∷_}
-use lib.Dec.{eqb}
+use lib.Dec.{eqb, ltb}
 use Rattle.words.specs.Bits.{wordOf}
 use Rattle.words.proofs.Laws.{bit-built}
 use Rattle.words.proofs.Listed.{front-at}
 use Rattle.cells.specs.declared.cell.Cell.{Cell}
 use Rattle.card.specs.declared.card.Card.{Card}
 use Rattle.card.specs.Address.{firstCell, firstConnector}
+use Rattle.card.specs.declared.tallies.Tallies.{Tallies}
 use Rattle.card.specs.Fresh.{noCell}
+use Rattle.card.specs.Tally.{ticks, standstill, tallyOf, counted, talliedBy}
+use Rattle.card.proofs.TallyLaws.{tallied-total, tallied-at, tallied-off}
 use Rattle.ticks.specs.declared.view.Input.{Input}
 use Rattle.ticks.specs.declared.view.Wires.{Wires}
-use Rattle.ticks.specs.Tick.{Turn, turnAt, outputsBelow, cellAfter, wokeAt, turned, wiresOf, lines, ticked, idle, tick}
+use Rattle.ticks.specs.Tick.{Turn, turnAt, outputsBelow, cellAfter, namedAt, wokeAt, turned, wiresOf, lines, ticked, idle, tick}
 use Rattle.ticks.specs.Runs.{Ticks, afterTick, cellAt, runs}
 use Rattle.ticks.proofs.Cases.{by-turn, by-tick, by-ticks}
 use Rattle.ticks.proofs.Sleep.{output-bit}
@@ -29,6 +32,24 @@ reads-stays : (set : ℕ → Bool) (n : ℕ) (full : Bool) (cell : Cell) (i edit
 unfolding readsSet turnAt
 reads-stays set n full cell i edited w below =
     by-turn full cell _ _ _ _ (λ t. readsSet set (t .cell) ≡ readsSet set cell) (λ _. refl) (λ _. refl)
+
+-- the tally of a cell that both ticks name or both do not, of two cards that have run for as many ticks
+tally-alike : (n i : ℕ) (f g : ℕ → Bool) (t u : Tallies) → i < n → t .total .0 ≡ u .total .0 → tallyOf t i ≡ tallyOf u i → f i ≡ g i
+    → tallyOf (talliedBy n f t) i ≡ tallyOf (talliedBy n g u) i
+tally-alike n i f g t u h totals tallies named = go (ltb (t .total .0) standstill) refl
+  where
+    other : (b : Bool) → ltb (t .total .0) standstill ≡ b → ltb (u .total .0) standstill ≡ b
+    other b e = ap (λ (x : ℕ). ltb x standstill) (sym totals) ∙ e
+
+    go : (b : Bool) → ltb (t .total .0) standstill ≡ b → tallyOf (talliedBy n f t) i ≡ tallyOf (talliedBy n g u) i
+    go true e =
+        tallied-at n f t i h e ∙ ap₂ (λ (b : Bool) (v : ℕ). counted b (ticks v) .0) named tallies ∙ sym (tallied-at n g u i h (other true e))
+    go false e =
+        ap (λ (x : Tallies). tallyOf x i) (tallied-off n f t e) ∙ tallies ∙ sym (ap (λ (x : Tallies). tallyOf x i) (tallied-off n g u (other false e)))
+
+total-alike : (n : ℕ) (f g : ℕ → Bool) (t u : Tallies) → t .total .0 ≡ u .total .0 → talliedBy n f t .total .0 ≡ talliedBy n g u .total .0
+total-alike n f g t u totals =
+    tallied-total n f t ∙ ap (λ (x : ℕ). cond (ltb x standstill) (x + 1) x) totals ∙ sym (tallied-total n g u)
 
 module _ (n : ℕ) (set : ℕ → Bool) (k : ℕ) where
   holds-on : (c : Card) (t : Bool × Input) → Holds n (c .cells) (c .connectors) k set
@@ -79,7 +100,13 @@ module _ (n : ℕ) (set : ℕ → Bool) (k : ℕ) where
       let woken : CellsOutside n set (wordOf (wokeAt n full (c .cells) (c .edited) v) n)
       (wordOf (wokeAt n full (d .cells) (d .edited) w) n) = λ i h o.
       bit-built (wokeAt n full (c .cells) (c .edited) v) n i h ∙ ap (λ (r : Turn). r .woke) (turn i h o)
-      ∙ sym (bit-built (wokeAt n full (d .cells) (d .edited) w) n i h) in (
+      ∙ sym (bit-built (wokeAt n full (d .cells) (d .edited) w) n i h) in
+      let tallies : (i : ℕ) → i < n → set (firstCell + i) ≡ false
+      → tallyOf (ticked n full c x .card .tallies) i ≡ tallyOf (ticked n full d y .card .tallies) i = λ i h o.
+      tally-alike n i _ _ (c .tallies) (d .tallies) h (same .total) (same .tallies i h o)
+      (bit-built (namedAt n full (c .cells) (c .edited) v) n i h ∙ ap (λ (r : Turn). r .named) (turn i h o)
+      ∙ sym (bit-built (namedAt n full (d .cells) (d .edited) w) n i h)) in
+      let total = total-alike n _ _ (c .tallies) (d .tallies) (same .total) in (
         record {
           cells = cells;
           outputs = outputs;
@@ -90,6 +117,8 @@ module _ (n : ℕ) (set : ℕ → Bool) (k : ℕ) where
           pointer = same .pointer;
           edited = refl;
           size = same .size;
+          tallies = tallies;
+          total = total;
           ran = refl;
           woken = woken;
           shown = outputs;
@@ -101,6 +130,8 @@ module _ (n : ℕ) (set : ℕ → Bool) (k : ℕ) where
           connectors = same .connectors;
           edited = refl;
           size = same .size;
+          tallies = tallies;
+          total = total;
           cells = cells;
           driven = driven;
           outputs = outputs;
@@ -123,6 +154,8 @@ module _ (n : ℕ) (set : ℕ → Bool) (k : ℕ) where
         pointer = same .pointer;
         edited = same .edited;
         size = same .size;
+        tallies = same .tallies;
+        total = same .total;
         ran = refl;
         woken = λ i h o. refl;
         shown = λ i h o. refl;
@@ -160,6 +193,8 @@ alike-itself n set c = record {
   connectors = refl;
   edited = refl;
   size = refl;
+  tallies = λ i h o. refl;
+  total = refl;
   cells = λ i h o. refl;
   driven = λ j h o. refl;
   outputs = λ i h o. refl;

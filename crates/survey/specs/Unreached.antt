@@ -6,9 +6,11 @@ use mathlib.Core.List.{List, [], _∷_}
 use Rattle.words.specs.Bits.{bitAt}
 use Rattle.card.specs.declared.card.Card.{Card}
 use Rattle.card.specs.Address.{connectorCount, firstCell, firstConnector, among}
+use Rattle.card.specs.Tally.{tallyOf}
 use Rattle.ticks.specs.declared.view.Input.{Input}
 use Rattle.ticks.specs.declared.tick.Ticked.{Ticked}
 use Rattle.ticks.specs.Tick.{tick}
+use Rattle.ticks.specs.Rest.{totalOf}
 use Rattle.ticks.specs.Runs.{Ticks, afterTick, cellAt}
 use Rattle.survey.specs.declared.Surveyed.{Surveyed}
 use Rattle.survey.specs.Survey.{setOf, Survey}
@@ -43,7 +45,7 @@ abbrev pub LinesOutside : (set : ℕ → Bool) (v w : ℕ) → Type 0
 LinesOutside set v w = (j : ℕ) → j < connectorCount → set (firstConnector + j) ≡ false → bitAt v j ≡ bitAt w j
 
 -- two ticks "agree .. in every cell and connector outside the set": settings and state, output, level and driven bit, in the card and in the
--- answer, and whether a cell was worked out. What belongs to no cell and no connector agrees too
+-- answer, whether a cell was worked out, and in how many ticks it was named. What belongs to no cell and no connector agrees too
 pub record AgreeOutside (n : ℕ) (set : ℕ → Bool) (a b : Ticked) : Type 0 where
   pub cells : (i : ℕ) → i < n → set (firstCell + i) ≡ false → cellAt (a .card) i ≡ cellAt (b .card) i
   pub outputs : CellsOutside n set (a .card .memory .outputs) (b .card .memory .outputs)
@@ -54,6 +56,8 @@ pub record AgreeOutside (n : ℕ) (set : ℕ → Bool) (a b : Ticked) : Type 0 w
   pub pointer : a .card .pointer ≡ b .card .pointer
   pub edited : a .card .edited ≡ b .card .edited
   pub size : a .card .size ≡ b .card .size
+  pub tallies : (i : ℕ) → i < n → set (firstCell + i) ≡ false → tallyOf (a .card .tallies) i ≡ tallyOf (b .card .tallies) i
+  pub total : totalOf (a .card) ≡ totalOf (b .card)
   pub ran : a .answer .ran ≡ b .answer .ran
   pub woken : CellsOutside n set (a .answer .woken) (b .answer .woken)
   pub shown : CellsOutside n set (a .answer .cells) (b .answer .cells)

@@ -3,17 +3,17 @@
 -- so and the connectors stay too.
 use Prim.Native.Nat.{ℕ, zero, suc, _+_, _*_, _^_, _≤_, _<_, _%_}
 use mathlib.Core.Path.{_≡_, refl, sym, ap, ap₂, _∙_, subst}
-use mathlib.Core.Bool.{Bool, true, false, not, _&&_}
+use mathlib.Core.Bool.{Bool, true, false, not, _&&_, cond}
 use mathlib.Core.List.{List, _++_}
 use mathlib.Core.Logic.{_⊎_, inl, inr}
-use native.Mathlib.Nat.{le-refl, le-of-lt, le-of-suc-le-suc, eq-or-lt-of-le, not-suc-le-zero, lt-suc-self, mod-eq-of-lt}
+use native.Mathlib.Nat.{add-zero, le-refl, le-of-lt, le-of-suc-le-suc, eq-or-lt-of-le, not-suc-le-zero, lt-suc-self, mod-eq-of-lt}
 use native.Mathlib.Numerals.{add-one}
 use native.Mathlib.Omega.{arith}
-use lib.Dec.{eqb}
+use lib.Dec.{eqb, ltb}
 use lib.ListN.{drop, getD, length, take-append-drop}
 use lib.Pow.{pow-pos}
 use lib.Count.{ones}
-use borrow.Author.Tests.{eqb-true, not-true, eq-eqb}
+use borrow.Author.Tests.{eqb-true, not-true, eq-eqb, lt-ltb, le-ltb}
 use Rattle.words.specs.Bits.{bitAt, bitNumber, wordOf}
 use Rattle.words.proofs.Laws.{bit-zero, bit-built, built-same, built-of-bits, built-fits}
 use Rattle.words.proofs.Listed.{listed-same, listed-take}
@@ -26,16 +26,20 @@ use Rattle.cells.proofs.Laws.{wakes-splits, disagree-self, sleeps}
 use Rattle.card.specs.declared.card.Card.{Card}
 use Rattle.card.specs.declared.card.Memory.{Memory}
 use Rattle.card.specs.Fresh.{noCell}
+use Rattle.card.specs.declared.tallies.Tallies.{Tallies}
+use Rattle.card.specs.Tally.{ticks, standstill, talliedBy}
+use Rattle.card.proofs.TallyLaws.{tallied-none, tallied-total, cells-any, by-less}
 use Rattle.ticks.specs.declared.view.Wires.{Wires}
 use Rattle.ticks.specs.declared.view.Input.{Input}
 use Rattle.ticks.specs.declared.tick.Turned.{Turned}
 use Rattle.ticks.specs.declared.tick.Ticked.{Ticked}
-use Rattle.ticks.specs.Tick.{Turn, readNow, readLast, sleptTurn, named, turnAt, outputsBelow, turnOf, cellAfter, wokeAt, turned}
+use Rattle.ticks.specs.declared.tick.Answer.{Answer}
+use Rattle.ticks.specs.Tick.{Turn, readNow, readLast, sleptTurn, named, turnAt, outputsBelow, turnOf, cellAfter, namedAt, wokeAt, turned}
 use Rattle.ticks.specs.Tick.{wiresOf, lines, turnedIn, ticked, idle, tick}
 use Rattle.ticks.specs.Reading.{levelAt, slotsRead, mixed, view}
-use Rattle.ticks.specs.Rest.{steadyWires, sleptAll, steady, cellRests, allRest, AtRest, restAnswer}
+use Rattle.ticks.specs.Rest.{steadyWires, sleptAll, steady, cellRests, allRest, AtRest, restAnswer, withTotal, totalOf, totalAfter, restTotal}
 use Rattle.ticks.specs.Words.{FitsMemory}
-use Rattle.ticks.proofs.Cases.{by-tick, tick-own, tick-other}
+use Rattle.ticks.proofs.Cases.{by-tick, tick-own, tick-other, by-ticks}
 use Rattle.ticks.proofs.Sleep.{view-same, quick-set, read-whole}
 use Rattle.ticks.proofs.Views.{mixed-one, slots-built}
 use Rattle.ticks.proofs.Ticks.{outputs-built}
@@ -142,7 +146,9 @@ module _ (n o l : ℕ) (cells : List Cell) (rest : allRest n (view n 0 o o l) ce
       let out = below-same n (le-refl n) ∙ built-of-bits o n ho in
       let set = built-same (wokeAt n false cells 0 w) (bitAt 0) n (λ i h. ap (λ (t : Turn). t .woke) (turn-of i h) ∙ sym (bit-zero i))
       ∙ built-of-bits 0 n (pow-pos n) in
-      λ k. record { cells = cs k; outputs = out k; woken = set k }
+      let names = built-same (namedAt n false cells 0 w) (bitAt 0) n (λ i h. ap (λ (t : Turn). t .named) (turn-of i h) ∙ sym (bit-zero i))
+      ∙ built-of-bits 0 n (pow-pos n) in
+      λ k. record { cells = cs k; outputs = out k; named = names k; woken = set k }
 
 -- ---- cards at rest
 
@@ -183,13 +189,13 @@ steady-memory m e =
 pub idle-rests : (n : ℕ) (c : Card) (input : Input) → (input .code ≡ c .trigger → ⊥) → AtRest n c input
 idle-rests n c input other =
     let e = tick-other n false c input other in
-    record { asleep = ap (λ (t : Ticked). t .answer .woken) e; kept = ap (λ (t : Ticked). t .card) e }
+    record { asleep = ap (λ (t : Ticked). t .answer .woken) e; kept = ap (λ (t : Ticked). withTotal (t .card) (totalOf c)) e }
 
 -- the cell word of a card at rest is one that a tick gives
 pub rest-fits : (n : ℕ) (c : Card) (input : Input) → input .code ≡ c .trigger → AtRest n c input → c .memory .outputs < 2 ^ n
 unfolding turned
 rest-fits n c input own rest =
-    let kept = sym (ap (λ (t : Ticked). t .card) (tick-own n false c input own)) ∙ rest .kept in
+    let kept = sym (ap (λ (t : Ticked). withTotal (t .card) (totalOf c)) (tick-own n false c input own)) ∙ rest .kept in
     let w = wiresOf (c .memory) (lines n c input .levels) in
     subst (λ (x : ℕ). x < 2 ^ n) (ap (λ (d : Card). d .memory .outputs) kept)
     (built-fits _ n _ (outputs-built n false (c .cells) (c .edited) w n))
@@ -219,7 +225,7 @@ module _ (n : ℕ) (c : Card) (input : Input) where
   pub rests-still : input .code ≡ c .trigger → AtRest n c input → Still n c input
   rests-still own rest =
       let ran = tick-own n false c input own in
-      let kept = sym (ap (λ (t : Ticked). t .card) ran) ∙ rest .kept in
+      let kept = sym (ap (λ (t : Ticked). withTotal (t .card) (totalOf c)) ran) ∙ rest .kept in
       let asleep = sym (ap (λ (t : Ticked). t .answer .woken) ran) ∙ rest .asleep in
       let memory = ap (λ (d : Card). d .memory) kept in
       let whole : c .memory .outputs % 2 ^ n ≡ c .memory .outputs = mod-eq-of-lt (rest-fits n c input own rest) in
@@ -256,9 +262,10 @@ module _ (n : ℕ) (c : Card) (input : Input) where
       } in
       (λ k. turned n false (c .cells) (s .edited k) (words k)) ∙ quiet-turned n (m .outputs) (m .levels) (c .cells) (s .cells) hc ho
 
-  pub still-rests : n ≤ length (c .cells) → c .memory .outputs < 2 ^ n → Still n c input → AtRest n c input
-  still-rests hc ho s =
-      let r = by-tick n false c input (λ t. (t .answer .woken ≡ 0) × (t .card ≡ c)) (λ _. (ap (λ (x : Turned). x .woken) t, kept)) (λ _. (refl, refl)) in
+  pub still-rests : n ≤ length (c .cells) → n ≤ length (c .tallies .cells) → c .memory .outputs < 2 ^ n → Still n c input → AtRest n c input
+  still-rests hc ht ho s =
+      let r = by-tick n false c input (λ t. (t .answer .woken ≡ 0) × (withTotal (t .card) (totalOf c) ≡ c))
+      (λ _. (ap (λ (x : Turned). x .woken) t, kept)) (λ _. (refl, refl)) in
       record { asleep = r .0; kept = r .1 }
     where
       t : turnedIn n false c (lines n c input .levels) ≡ sleptAll (c .cells) (c .memory .outputs)
@@ -267,7 +274,10 @@ module _ (n : ℕ) (c : Card) (input : Input) where
       whole : c .memory .outputs % 2 ^ n ≡ c .memory .outputs
       whole = mod-eq-of-lt ho
 
-      kept : ticked n false c input .card ≡ c
+      tallied : talliedBy n (bitAt (turnedIn n false c (lines n c input .levels) .named)) (c .tallies) .cells ≡ c .tallies .cells
+      tallied = ap (λ (x : Tallies). x .cells) (tallied-none n _ (c .tallies) ht (λ i _. ap (λ (x : Turned). bitAt (x .named) i) t ∙ bit-zero i))
+
+      kept : withTotal (ticked n false c input .card) (totalOf c) ≡ c
       kept = λ k.
           record {
             pointer = c .pointer;
@@ -285,6 +295,7 @@ module _ (n : ℕ) (c : Card) (input : Input) where
               levels = s .levels k;
               levels2 = sym (s .memory .levels2) k;
             };
+            tallies = record { cells = tallied k; total = c .tallies .total };
           }
 
   -- ---- what a tick at rest answers
@@ -292,10 +303,106 @@ module _ (n : ℕ) (c : Card) (input : Input) where
   pub rest-answers : AtRest n c input → tick n false c input .answer ≡ restAnswer c input
   unfolding ones
   rest-answers rest =
-      by-tick n false c input (λ t. t .answer .woken ≡ 0 → t .card ≡ c → t .answer ≡ restAnswer c input)
+      by-tick n false c input (λ t. t .answer .woken ≡ 0 → withTotal (t .card) (totalOf c) ≡ c → t .answer ≡ restAnswer c input)
       (λ e none kept. rw e (λ k.
       record { ran = true; driven = kept k .memory .driven; cells = kept k .memory .outputs; woken = none k; count = ones (none k) }))
       (λ e none kept. rw e) (rest .asleep) (rest .kept)
+
+-- ---- one tick more, and another
+
+-- the total after no tick, after one, and after one and k more; at the standstill it stays
+pub after-none : (t : ℕ) → totalAfter t 0 ≡ t
+after-none t = by-less t standstill (λ b. cond b (cond (ltb (t + 0) standstill) (t + 0) standstill) t ≡ t)
+    (λ h. rw (add-zero t, lt-ltb t standstill h)) (λ _. refl)
+
+pub after-one : (t : ℕ) → totalAfter t 1 ≡ cond (ltb t standstill) (t + 1) t
+after-one t = by-less t standstill (λ b. cond b (cond (ltb (t + 1) standstill) (t + 1) standstill) t ≡ cond b (t + 1) t)
+    (λ h. by-less (t + 1) standstill (λ b. cond b (t + 1) standstill ≡ t + 1) (λ _. refl) (λ k. omega arith)) (λ _. refl)
+
+one-more : (t k : ℕ) → t + 1 + k ≡ t + suc k
+one-more t k = omega arith
+
+pub after-more : (t k : ℕ) → totalAfter (cond (ltb t standstill) (t + 1) t) k ≡ totalAfter t (suc k)
+after-more t k = by-less t standstill (λ b. totalAfter (cond b (t + 1) t) k ≡ cond b (cond (ltb (t + suc k) standstill) (t + suc k) standstill) t)
+    (λ h. below h) (λ h. rw (le-ltb t standstill h))
+  where
+    below : t < standstill → totalAfter (t + 1) k ≡ cond (ltb (t + suc k) standstill) (t + suc k) standstill
+    below h = by-less (t + 1) standstill (λ b. cond b (cond (ltb (t + 1 + k) standstill) (t + 1 + k) standstill) (t + 1)
+        ≡ cond (ltb (t + suc k) standstill) (t + suc k) standstill)
+        (λ _. ap (λ (m : ℕ). cond (ltb m standstill) m standstill) (one-more t k))
+        (λ l. let top : standstill ≤ t + suc k = omega arith in rw (le-ltb (t + suc k) standstill top) (omega arith))
+
+stands : (c : Card) (input : Input) (k : ℕ) → ltb (totalOf c) standstill ≡ false → restTotal c input k ≡ totalOf c
+stands c input k e = rw e (same (eqb (input .code) (c .trigger)))
+  where
+    same : (b : Bool) → cond b (totalOf c) (totalOf c) ≡ totalOf c
+    same true = refl
+    same false = refl
+
+-- the total of a card at rest: with no tick, and with one tick and k more
+pub rest-none : (c : Card) (input : Input) → restTotal c input 0 ≡ totalOf c
+rest-none c input = go (eqb (input .code) (c .trigger))
+  where
+    go : (b : Bool) → cond b (totalAfter (totalOf c) 0) (totalOf c) ≡ totalOf c
+    go true = after-none (totalOf c)
+    go false = refl
+
+pub rest-more : (c : Card) (input : Input) (k : ℕ) → restTotal (withTotal c (restTotal c input 1)) input k ≡ restTotal c input (suc k)
+rest-more c input k = go (eqb (input .code) (c .trigger))
+  where
+    t : ℕ
+    t = totalOf c
+
+    go : (b : Bool) → cond b (totalAfter (cond b (totalAfter t 1) t) k) (cond b (totalAfter t 1) t) ≡ cond b (totalAfter t (suc k)) t
+    go true = ap (λ (x : ℕ). totalAfter x k) (after-one t) ∙ after-more t k
+    go false = refl
+
+-- a card at rest counts its ticks, and nothing else
+total-one : (n : ℕ) (c : Card) (input : Input) → totalOf (tick n false c input .card) ≡ restTotal c input 1
+total-one n c input =
+    by-tick n false c input (λ t. totalOf (t .card) ≡ restTotal c input 1)
+    (λ e. rw e (tallied-total n _ (c .tallies) ∙ sym (after-one (totalOf c)))) (λ e. rw e)
+
+pub rest-card : (n : ℕ) (c : Card) (input : Input) → AtRest n c input → tick n false c input .card ≡ withTotal c (restTotal c input 1)
+rest-card n c input rest =
+    let d = tick n false c input .card in
+    ap (λ (e : Card). withTotal e (totalOf d)) (rest .kept) ∙ ap (withTotal c) (total-one n c input)
+
+-- no answer goes by the total
+answer-any : (n : ℕ) (c : Card) (input : Input) (total : ℕ) → tick n false (withTotal c total) input .answer ≡ tick n false c input .answer
+answer-any n c input total = by-ticks n false false (withTotal c total) c input input refl (λ a b. a .answer ≡ b .answer) refl refl
+
+-- below the standstill a card at rest is so whatever its total
+rest-any : (n : ℕ) (c : Card) (input : Input) (total : ℕ) → ltb (totalOf c) standstill ≡ true → AtRest n c input → AtRest n (withTotal c total) input
+rest-any n c input total below rest =
+    record {
+      asleep = ap (λ (a : Answer). a .woken) (answer-any n c input total) ∙ rest .asleep;
+      kept = by-ticks n false false (withTotal c total) c input input refl
+          (λ a b. withTotal (b .card) (totalOf c) ≡ c → withTotal (a .card) total ≡ withTotal c total) own (λ _. refl) (rest .kept);
+    }
+  where
+    own : withTotal (ticked n false c input .card) (totalOf c) ≡ c → withTotal (ticked n false (withTotal c total) input .card) total ≡ withTotal c total
+    own kept =
+        let stay = cells-any n _ (c .tallies .cells) (totalOf c) total below (ap (λ (d : Card). d .tallies .cells) kept) in
+        λ k.
+        record {
+          pointer = c .pointer;
+          trigger = c .trigger;
+          cells = kept k .cells;
+          connectors = c .connectors;
+          edited = kept k .edited;
+          memory = kept k .memory;
+          size = c .size;
+          tallies = record { cells = stay k; total = ticks total };
+        }
+
+-- so it still is after a tick
+pub rest-on : (n : ℕ) (c : Card) (input : Input) → AtRest n c input → AtRest n (withTotal c (restTotal c input 1)) input
+rest-on n c input rest = go (ltb (totalOf c) standstill) refl
+  where
+    go : (b : Bool) → ltb (totalOf c) standstill ≡ b → AtRest n (withTotal c (restTotal c input 1)) input
+    go true e = rest-any n c input (restTotal c input 1) e rest
+    go false e = subst (λ (t : ℕ). AtRest n (withTotal c t) input) (sym (stands c input 1 e)) rest
 
 -- ---- a card of n cells, whose words are those of n cells
 

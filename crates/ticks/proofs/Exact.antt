@@ -14,12 +14,13 @@ use Rattle.words.proofs.Listed.{front-at, length-listed}
 use Rattle.cells.specs.declared.cell.Cell.{Cell}
 use Rattle.card.specs.declared.card.Card.{Card}
 use Rattle.card.specs.Fresh.{noCell}
+use Rattle.card.proofs.TallyLaws.{tallied-same}
 use Rattle.ticks.specs.declared.connectors.Lines.{Lines}
 use Rattle.ticks.specs.declared.view.Input.{Input}
-use Rattle.ticks.specs.Tick.{readLast, turnAt, cellAfter, wokeAt, turned, wiresOf, lines, tickedOn, ticked, idle, tickOn, tick}
+use Rattle.ticks.specs.Tick.{readLast, turnAt, cellAfter, namedAt, wokeAt, turned, wiresOf, lines, turnedIn, tickedOn, ticked, idle, tickOn, tick}
 use Rattle.ticks.specs.Settled.{remembered}
-use Rattle.ticks.specs.Exact.{cellBefore, dueAt, cellExact, outputExact, Exact, WorksExactly}
-use Rattle.ticks.proofs.Cases.{turn-due, turn-cell, turn-out, tick-other}
+use Rattle.ticks.specs.Exact.{cellBefore, readsAt, namedOn, dueAt, cellExact, outputExact, Exact, WorksExactly}
+use Rattle.ticks.proofs.Cases.{turn-named, turn-due, turn-cell, turn-out, tick-other}
 use Rattle.ticks.proofs.Sleep.{output-bit}
 use Rattle.ticks.proofs.Ticks.{outputs-built}
 
@@ -42,6 +43,14 @@ module _ (n : ℕ) (full : Bool) (c : Card) (l : Lines) where
   due-at : (i : ℕ) → wokeAt n full (c .cells) (c .edited) (wiresOf (c .memory) (l .levels)) i ≡ dueAt n full c (l .levels) i
   unfolding turnAt readLast remembered
   due-at i = turn-due full (cellBefore c i) _ _ _ _
+
+  -- and named where its turn says so
+  named-on : (i : ℕ) → i < n → bitAt (turnedIn n full c (l .levels) .named) i ≡ namedOn n full c (l .levels) i
+  unfolding turned turnAt readLast remembered
+  named-on i h =
+      let w = wiresOf (c .memory) (l .levels) in
+      bit-built (namedAt n full (c .cells) (c .edited) w) n i h
+      ∙ turn-named full (cellBefore c i) _ _ _ _
 
   -- each cell, and its output
   pub cell-exact-on : (i : ℕ) → i < n → getD (tickedOn n full c l .card .cells) i noCell ≡ cellExact n full c (l .levels) i
@@ -78,6 +87,7 @@ module _ (n : ℕ) (full : Bool) (c : Card) (l : Lines) where
         connectors = refl;
         size = refl;
         edited = refl;
+        tallies = tallied-same n _ (namedOn n full c (l .levels)) (c .tallies) named-on;
         driven = refl;
         memory = refl;
       }

@@ -11,10 +11,10 @@ use lib.Count.{ones}
 use lib.Dec.{ltb}
 use lib.ListN.{drop, getD, getD-replicate, replicate, length-replicate, List·getD-append}
 use borrow.Author.Tests.{lt-ltb, le-ltb}
-use Rattle.words.specs.Bits.{bitAt, bitNumber, countOf}
+use Rattle.words.specs.Bits.{bitAt, bitNumber, wordOf, countOf}
 use Rattle.words.specs.Listed.{listed}
 use Rattle.words.proofs.Bools.{or-right}
-use Rattle.words.proofs.Laws.{bit-zero, bit-built, built-all, ones-built}
+use Rattle.words.proofs.Laws.{bit-zero, bit-built, built-all, built-same, ones-built}
 use Rattle.words.proofs.Listed.{front-at, listed-same}
 use Rattle.cells.specs.declared.table.Slots.{Slots}
 use Rattle.cells.specs.declared.cell.Cell.{Cell}
@@ -220,6 +220,16 @@ module _ (n : ℕ) (c : Card) (levels : ℕ) (settled : Settled n c) where
       (λ i h. turn-same i (outputsBelow n false (c .cells) (c .edited) w i) h .0
       ∙ ap (λ (b : ℕ). turnAt n true (getD (c .cells) i noCell) i (c .edited) w b .cell) (outputs-same i (le-of-lt h)))
 
+  -- and name the same cells
+  names-same : let w = wiresOf (c .memory) levels in
+      wordOf (namedAt n false (c .cells) (c .edited) w) n ≡ wordOf (namedAt n true (c .cells) (c .edited) w) n
+  names-same =
+      let w = wiresOf (c .memory) levels in
+      built-same (namedAt n false (c .cells) (c .edited) w) (namedAt n true (c .cells) (c .edited) w) n
+      (λ i h. named-at n false (c .cells) (c .edited) w i
+      ∙ ap (named n (getD (c .cells) i noCell) i (c .edited) w) (outputs-same i (le-of-lt h))
+      ∙ sym (named-at n true (c .cells) (c .edited) w i))
+
 -- ---- the theorems
 
 -- every tick of either kind keeps a card settled, whatever its lines
@@ -251,8 +261,9 @@ unfolding turned
 ticked-alike n c l settled =
     let cells = ap (λ (cs : List Cell). cs ++ drop n (c .cells)) (cells-same n c (l .levels) settled) in
     let outputs = outputs-same n c (l .levels) settled n (le-refl n) in
+    let names = names-same n c (l .levels) settled in
     record {
-      card = λ k. cardAfter (trimmed n (c .memory)) c l (record { cells = cells k; outputs = outputs k; woken = 0 });
+      card = λ k. cardAfter n (trimmed n (c .memory)) c l (record { cells = cells k; outputs = outputs k; named = names k; woken = 0 });
       ran = refl;
       driven = refl;
       cells = outputs;

@@ -113,22 +113,24 @@ module _ (n : ℕ) (m : Memory) where
         (λ i h. ap (λ (t : Turn). t .cell) (turn-of-trim i h)) in
         let ws = built-same (λ i. turnOf n full cells edited wt i .woke) (λ i. turnOf n full cells edited w i .woke) n
         (λ i h. ap (λ (t : Turn). t .woke) (turn-of-trim i h)) in
+        let ns = built-same (λ i. turnOf n full cells edited wt i .named) (λ i. turnOf n full cells edited w i .named) n
+        (λ i h. ap (λ (t : Turn). t .named) (turn-of-trim i h)) in
         let os = outputs-trim n (omega arith) in
-        λ k. record { cells = cs k ++ drop n cells; outputs = os k; woken = ws k }
+        λ k. record { cells = cs k ++ drop n cells; outputs = os k; named = ns k; woken = ws k }
 
 pub trim-fits : (n : ℕ) (m : Memory) → FitsMemory n (trimmed n m)
 trim-fits n m = (mod-lt (m .outputs) (pow-pos n), mod-lt (m .outputs2) (pow-pos n), mod-lt (m .outputs3) (pow-pos n))
 
 -- what the code makes of the words cut to n bits is the tick of the card, with any lines and with the card's own
 pub whole-tick-on : (n : ℕ) (full : Bool) (c : Card) (m : Memory) (l : Lines) → m ≡ trimmed n (c .memory)
-    → ranWith m c l (turned n full (c .cells) (c .edited) (wiresOf m (l .levels))) ≡ tickedOn n full c l
+    → ranWith n m c l (turned n full (c .cells) (c .edited) (wiresOf m (l .levels))) ≡ tickedOn n full c l
 whole-tick-on n full c m l e =
-    ap (λ (v : Memory). ranWith v c l (turned n full (c .cells) (c .edited) (wiresOf v (l .levels)))) e
-    ∙ ap (ranWith (trimmed n (c .memory)) c l) (turned-trim n (c .memory) full (c .cells) (c .edited) (l .levels))
+    ap (λ (v : Memory). ranWith n v c l (turned n full (c .cells) (c .edited) (wiresOf v (l .levels)))) e
+    ∙ ap (ranWith n (trimmed n (c .memory)) c l) (turned-trim n (c .memory) full (c .cells) (c .edited) (l .levels))
 
 pub whole-tick : (n : ℕ) (full : Bool) (c : Card) (input : Input) (m : Memory) (l : Lines) → m ≡ trimmed n (c .memory)
     → l ≡ linesIn n m (c .connectors) (effectiveSample (input .sample) (input .attached))
-    → ranWith m c l (turned n full (c .cells) (c .edited) (wiresOf m (l .levels))) ≡ ticked n full c input
+    → ranWith n m c l (turned n full (c .cells) (c .edited) (wiresOf m (l .levels))) ≡ ticked n full c input
 whole-tick n full c input m l e el =
     let sample = effectiveSample (input .sample) (input .attached) in
     let same = el ∙ ap (λ (v : Memory). linesIn n v (c .connectors) sample) e ∙ lines-trim n (c .memory) (c .connectors) sample in

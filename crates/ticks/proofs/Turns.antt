@@ -1,46 +1,48 @@
 -- Laws of one cell's turn, as the loop over the cells takes it: whether it is worked out, what it becomes, and the words of the next reader.
 use Prim.Native.Nat.{ℕ, _+_, _*_, _^_, _≤_, _<_}
 use mathlib.Core.Path.{_≡_, refl, sym, ap, _∙_}
-use mathlib.Core.Bool.{Bool, true, false, not, _||_, Bool·beq, true≢false}
+use mathlib.Core.Bool.{Bool, true, false, not, _||_, cond, Bool·beq, true≢false}
 use mathlib.Core.List.{List, _++_, map}
 use mathlib.Core.Logic.{⊎-elim}
 use native.Mathlib.Nat.{not-suc-le-zero, eq-or-lt-of-le}
-use native.Mathlib.Numerals.{add-one}
 use native.Mathlib.Omega.{arith}
 use lib.Bits.{bitXor, xor-lt}
-use lib.ListN.{getD, length, drop, length-map}
+use lib.ListN.{length, drop, length-map}
 use lib.Pow.{pow-pos}
 use borrow.Author.Tests.{not-false}
-use lib.Seq.{drop-cons, getD-at, append-snoc}
 use Rattle.words.specs.Bits.{bitAt, withBit, wordOf}
 use Rattle.words.specs.Listed.{listed}
 use Rattle.words.proofs.Bools.{or-left, or-right}
 use Rattle.words.proofs.Laws.{bit-zero, bit-xor, bit-with-same, bit-with-other, with-zero, with-lt, with-unique, built-of-bits, built-same}
-use Rattle.words.proofs.Listed.{length-listed}
 use Rattle.cells.specs.declared.cell.Cell.{Cell}
 use Rattle.cells.specs.declared.cell.Worked.{Worked}
-use Rattle.cells.specs.State.{stateOf}
-use Rattle.cells.specs.Wake.{wakes, stirred, disagree}
-use Rattle.cells.specs.Work.{workOut}
+use Rattle.cells.specs.declared.table.Slots.{Slots}
+use Rattle.cells.specs.declared.step.Stepped.{Stepped}
+use Rattle.cells.specs.State.{stateOf, withState}
+use Rattle.cells.specs.Effect.{workedBy, StepsTo}
+use Rattle.cells.specs.Work.{keeping, workOut}
 use Rattle.card.specs.Edits.{withSettings}
 use Rattle.card.specs.declared.card.Card.{Card}
 use Rattle.ticks.specs.declared.view.Wires.{Wires}
 use Rattle.ticks.specs.Reading.{slotsRead}
-use Rattle.ticks.specs.Tick.{cellAfter, wokeAt, seesNow, sawLast, sawEarlier, readNow, readLast, turnTo, sleptTurn, turnBy, named, turnAt}
+use Rattle.ticks.specs.Tick.{cellAfter, namedAt, wokeAt, seesNow, sawLast, sawEarlier, readNow, readLast, namedBy, turnBy, named, turnAt}
 use Rattle.ticks.specs.Words.{ReadsAs, MovesAs, shiftedAt}
-use Rattle.ticks.proofs.Cases.{turn-due}
+use Rattle.ticks.proofs.Cases.{by-turn, turn-named, all-or-named}
 use Rattle.ticks.proofs.Sleep.{view-same}
 use Rattle.ticks.proofs.Ticks.{outAt}
 use Rattle.ticks.proofs.Words.{view-step, reads-kept, moves-kept}
 
 -- ---- a tick of a card
 
--- the definition's cells, outputs and woken cells
+-- the definition's cells, outputs, named and woken cells
 abbrev pub afterOf : ℕ → Bool → Card → Wires → ℕ → Cell
 afterOf n full c w = cellAfter n full (c .cells) (c .edited) w
 
 abbrev pub outsOf : ℕ → Bool → Card → Wires → ℕ → Bool
 outsOf n full c w = outAt n full (c .cells) (c .edited) w
+
+abbrev pub namesOf : ℕ → Bool → Card → Wires → ℕ → Bool
+namesOf n full c w = namedAt n full (c .cells) (c .edited) w
 
 abbrev pub wokesOf : ℕ → Bool → Card → Wires → ℕ → Bool
 wokesOf n full c w = wokeAt n full (c .cells) (c .edited) w
@@ -56,69 +58,38 @@ upTo n full c w i = listed (afterOf n full c w) i ++ drop i (c .cells)
 pub as-long : (X Y : Type 0) (g : X → Y) (l : List X) (n : ℕ) → length (map g l) ≡ n → length l ≡ n
 as-long X Y g l n e = sym (length-map l g) ∙ e
 
--- ---- the list of cells
-
-module _ {A : Type 0} where
-  -- behind the entries that were replaced stands what stood there
-  pub behind-at : (f : ℕ → A) (i : ℕ) (l r : List A) (d : A) → r ≡ listed f i ++ drop i l → i < length l → getD r i d ≡ getD l i d
-  behind-at f i l r d e h = rw (e, drop-cons l i d h) (getD-at (listed f i) (getD l i d) _ d i (length-listed f i))
-
-  -- an entry that stays is replaced by itself
-  pub listed-kept : (f : ℕ → A) (i : ℕ) (l r : List A) (d : A) → r ≡ listed f i ++ drop i l → getD l i d ≡ f i → i < length l
-      → r ≡ listed f (i + 1) ++ drop (i + 1) l
-  unfolding listed
-  listed-kept f i l r d e same h = e ∙ rw (drop-cons l i d h, same, add-one) (sym (append-snoc (listed f i) (f i) _))
-
 -- ---- the turn
 
-or-assoc : (a b c : Bool) → (a || (b || c)) ≡ ((a || b) || c)
-or-assoc true b c = refl
-or-assoc false b c = refl
+-- a step that the code takes is the turn of the definition: whether the rules name the cell, the cell and its output
+module _ (full : Bool) (cell : Cell) (edited out : Bool) (now last : Slots) (r : Stepped)
+    (is : StepsTo r full (namedBy cell edited now last) (stateOf cell) (workOut (cell .kind) (cell .config) (stateOf cell) now)) where
+  abbrev worked : Worked
+  worked = workOut (cell .kind) (cell .config) (stateOf cell) now
 
-module _ (n : ℕ) (full : Bool) (cell : Cell) (i edited : ℕ) (w : Wires) (below : ℕ) where
-  abbrev pub due : Bool
-  due = full || named n cell i edited w below
+  abbrev rule : Bool
+  rule = namedBy cell edited now last
 
-  -- the code's test is that of the definition
-  pub woke-is : (must r : Bool) → must ≡ (full || bitAt edited i)
-      → r ≡ wakes (cell .kind) (stateOf cell) must
-      (slotsRead (seesNow n i w below) (sawLast n i w) (cell .slots)) (slotsRead (sawLast n i w) (sawEarlier n i w) (cell .slots)) → r ≡ due
-  unfolding named wakes readNow readLast
-  woke-is must r m e =
-      let now = slotsRead (seesNow n i w below) (sawLast n i w) (cell .slots) in
-      let last = slotsRead (sawLast n i w) (sawEarlier n i w) (cell .slots) in
-      e ∙ ap (λ (b : Bool). wakes (cell .kind) (stateOf cell) b now last) m
-      ∙ sym (or-assoc full (bitAt edited i) (stirred (cell .kind) (stateOf cell) now || disagree (cell .kind) now last))
+  gives : (b : Bool) → (full || rule) ≡ b → cond b worked (keeping (stateOf cell) out) ≡ workedBy (stateOf cell) out (r .effect)
+  gives b e = sym (is .gives out ∙ ap (λ (x : Bool). cond x worked (keeping (stateOf cell) out)) e)
 
-  -- and so it is where only a cell that is not due is asked
-  test : Bool → Bool
-  test must =
-      wakes (cell .kind) (stateOf cell) must
-      (slotsRead (seesNow n i w below) (sawLast n i w) (cell .slots)) (slotsRead (sawLast n i w) (sawEarlier n i w) (cell .slots))
+  pub step-named : turnBy full cell edited out now last .named ≡ r .named
+  step-named = turn-named full cell edited out now last ∙ sym (is .says)
 
-  pub woke-asked : (must r asked : Bool) → must ≡ (full || bitAt edited i) → must ≡ false → r ≡ asked
-      → asked ≡ wakes (cell .kind) (stateOf cell) false
-      (slotsRead (seesNow n i w below) (sawLast n i w) (cell .slots)) (slotsRead (sawLast n i w) (sawEarlier n i w) (cell .slots)) → r ≡ due
-  unfolding test
-  woke-asked must r asked m off er e = woke-is must r m (er ∙ e ∙ ap test (sym off))
+  pub step-cell : turnBy full cell edited out now last .cell ≡ withState cell (workedBy (stateOf cell) out (r .effect) .state)
+  step-cell =
+      by-turn full cell edited out now last (λ t. t .cell ≡ withState cell (workedBy (stateOf cell) out (r .effect) .state))
+      (λ e. ap (λ (v : Worked). withState cell (v .state)) (gives true e)) (λ e. ap (λ (v : Worked). withState cell (v .state)) (gives false e))
 
-  pub woke-due : (must r : Bool) → must ≡ (full || bitAt edited i) → must ≡ true → r ≡ must → r ≡ due
-  unfolding test wakes
-  woke-due must r m on e = woke-is must r m (e ∙ on ∙ ap test (sym on))
+  pub step-out : turnBy full cell edited out now last .out ≡ workedBy (stateOf cell) out (r .effect) .out
+  step-out =
+      by-turn full cell edited out now last (λ t. t .out ≡ workedBy (stateOf cell) out (r .effect) .out)
+      (λ e. ap (λ (v : Worked). v .out) (gives true e)) (λ e. ap (λ (v : Worked). v .out) (gives false e))
 
-  pub turn-worked : (v : Worked) → due ≡ true → v ≡ workOut (cell .kind) (cell .config) (stateOf cell)
-      (slotsRead (seesNow n i w below) (sawLast n i w) (cell .slots))
-      → turnAt n full cell i edited w below ≡ turnTo cell (named n cell i edited w below) v
-  unfolding turnAt named readNow
-  turn-worked v e worked = rw e (ap (turnTo cell _) (sym worked))
-
-  pub turn-slept : due ≡ false → turnAt n full cell i edited w below ≡ sleptTurn cell (bitAt (w .outputs) i)
-  unfolding turnAt named
-  turn-slept e = rw e
-
-  pub turn-woke : turnAt n full cell i edited w below .woke ≡ due
-  unfolding turnAt named
-  turn-woke = turn-due full cell _ _ _ _
+-- whether a cell is worked out: the tick is full, or the rules name it
+pub turn-woke : (n : ℕ) (full : Bool) (cell : Cell) (i edited : ℕ) (w : Wires) (below : ℕ)
+    → turnAt n full cell i edited w below .woke ≡ (full || turnAt n full cell i edited w below .named)
+unfolding turnAt
+turn-woke n full cell i edited w below = all-or-named full cell _ _ _ _
 
 -- a reader in position i sees of this tick's outputs only those below i
 pub turn-same : (n : ℕ) (full : Bool) (cell : Cell) (i edited : ℕ) (w : Wires) (below other : ℕ) → ((j : ℕ) → j < i → bitAt below j ≡ bitAt other j)

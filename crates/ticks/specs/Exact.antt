@@ -14,6 +14,7 @@ use Rattle.cells.specs.State.{stateOf, withState}
 use Rattle.cells.specs.Work.{workOut}
 use Rattle.card.specs.declared.card.Card.{Card}
 use Rattle.card.specs.Fresh.{noCell}
+use Rattle.card.specs.Tally.{talliedBy}
 use Rattle.ticks.specs.declared.connectors.Lines.{Lines}
 use Rattle.ticks.specs.declared.view.Input.{Input}
 use Rattle.ticks.specs.declared.tick.Ticked.{Ticked}
@@ -27,11 +28,14 @@ cellBefore c i = getD (c .cells) i noCell
 abbrev pub readsAt : (n : ℕ) → Bool → Card → (levels : ℕ) → ℕ → Slots
 readsAt n full c levels i = readOn n full c levels i (cellBefore c i .slots)
 
--- it is worked out: the tick is full or the rules name it, by what the memory says that it read in the last tick that ran
-abbrev pub dueAt : (n : ℕ) → Bool → Card → (levels : ℕ) → ℕ → Bool
-dueAt n full c levels i =
+-- the rules name it, by what the memory says that it read in the last tick that ran; and it is worked out, if they do or the tick is full
+abbrev pub namedOn : (n : ℕ) → Bool → Card → (levels : ℕ) → ℕ → Bool
+namedOn n full c levels i =
     let cell = cellBefore c i in
-    full || namedBy cell (bitAt (c .edited) i) (readsAt n full c levels i) (remembered n i (c .memory) (cell .slots))
+    namedBy cell (bitAt (c .edited) i) (readsAt n full c levels i) (remembered n i (c .memory) (cell .slots))
+
+abbrev pub dueAt : (n : ℕ) → Bool → Card → (levels : ℕ) → ℕ → Bool
+dueAt n full c levels i = full || namedOn n full c levels i
 
 -- what "Cells" gives for it
 abbrev pub workedAt : (n : ℕ) → Bool → Card → (levels : ℕ) → ℕ → Worked
@@ -48,7 +52,8 @@ outputExact n full c levels i = cond (dueAt n full c levels i) (workedAt n full 
 
 -- a tick that ran. Of each cell: its bit of the set, the cell, and its bit of the cell word. The count is "the number of ones in that set", which is the
 -- number of cells that are due; neither word has a bit from n on. Cells past n stay, and so do pointer, trigger source, connectors and size; the
--- edits are cleared. The driven word and the levels are those of the lines, and the memory moves on, of which the earlier cell words are cut to n bits
+-- edits are cleared. The tallies count the cells that the rules name. The driven word and the levels are those of the lines, and the memory moves on, of
+-- which the earlier cell words are cut to n bits
 pub record Exact (n : ℕ) (full : Bool) (c : Card) (l : Lines) (t : Ticked) : Type 0 where
   pub ran : t .answer .ran ≡ true
   pub woken : (i : ℕ) → i < n → bitAt (t .answer .woken) i ≡ dueAt n full c (l .levels) i
@@ -64,8 +69,10 @@ pub record Exact (n : ℕ) (full : Bool) (c : Card) (l : Lines) (t : Ticked) : T
   pub connectors : t .card .connectors ≡ c .connectors
   pub size : t .card .size ≡ c .size
   pub edited : t .card .edited ≡ 0
+  pub tallies : t .card .tallies ≡ talliedBy n (namedOn n full c (l .levels)) (c .tallies)
   pub driven : t .answer .driven ≡ l .driven
-  pub memory : t .card .memory ≡ moved (trimmed n (c .memory)) (record { driven = t .answer .driven; pulled = l .pulled; levels = l .levels }) (t .answer .cells)
+  pub memory : t .card .memory ≡ moved (trimmed n (c .memory)) (record { driven = t .answer .driven; pulled = l .pulled; levels = l .levels })
+      (t .answer .cells)
 
 -- on every card, for either kind of tick and whatever its lines: its own clock does exactly this, and every other leaves the card and answers idle, with
 -- words of 0. So does a tick of the card by itself, whose connectors are driven as "One tick" says

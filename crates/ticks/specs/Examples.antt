@@ -38,6 +38,7 @@ card cells outputs edited =
       edited = edited;
       memory = record { driven = 0; pulled = 0; outputs = outputs; outputs2 = outputs; outputs3 = outputs; levels = 0; levels2 = 0 };
       size = cellCount;
+      tallies = fresh .tallies;
     }
 
 twoCells : Cell → Cell → List Cell
@@ -73,6 +74,7 @@ wired cells kind source =
       edited = 3;
       memory = fresh .memory;
       size = cellCount;
+      tallies = fresh .tallies;
     }
 
 -- inputs; cell 1 is high in the tick in which TTL0 rises (address 169), cell 2 in the one in which BNC1 falls (225)

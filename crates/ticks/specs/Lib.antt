@@ -6,6 +6,7 @@ pub mod Rest
 pub mod Examples
 pub mod Sizes
 pub mod RestExamples
+pub mod TallyExamples
 -- Another view of a rule above, or what only proofs use: laws say that they agree.
 pub mod Words
 pub mod Settled

@@ -10,6 +10,7 @@ use Rattle.cells.specs.Wake.{stirredAs, stirred, disagree, wakes}
 use Rattle.card.specs.declared.card.Card.{Card}
 use Rattle.card.specs.Address.{cellCount}
 use Rattle.card.specs.Fresh.{fresh}
+use Rattle.card.specs.Tally.{counted, talliedBy}
 use Rattle.ticks.specs.Reading.{levelAt, readsLevels, reads, slotsRead, mixed, view}
 use Rattle.card.specs.Connectors.{kindAt, sourceAt}
 use Rattle.ticks.specs.Levels.{effectiveSample, drivenWord, pulledWord, levelsFrom, linesOf}
@@ -28,7 +29,7 @@ pub record Table : Type 0 where
 
 rest-table : Table
 unfolding unsettled bitAt wordOf listed rowOf taken workAs workOut stirredAs stirred disagree wakes fresh levelAt readsLevels reads slotsRead
-    mixed view effectiveSample kindAt sourceAt drivenWord pulledWord levelsFrom linesOf readNow readLast named turnAt outputsBelow turned tick
+    mixed view effectiveSample kindAt sourceAt drivenWord pulledWord levelsFrom linesOf readNow readLast named turnAt outputsBelow turned counted talliedBy tick
 rest-table =
     record {
       low = record { asleep = refl; kept = refl };

@@ -47,7 +47,8 @@ view-table = refl
 words : Ticked → List ℕ
 words t = t .answer .woken ∷ t .answer .cells ∷ t .card .memory .outputs ∷ t .card .memory .outputs2 ∷ t .card .memory .outputs3 ∷ t .card .edited ∷ []
 
-small-ticks : words (tick cellCount false (card (set (fresh .cells) 0 (whole 6 0 (17 ∷ 0 ∷ 0 ∷ 0 ∷ []))) 0xffff0000 0xffff0000) (clock0 0)) ≡ 0 ∷ 0 ∷ 0 ∷ 0 ∷ 0 ∷ 0 ∷ []
+small-ticks : words (tick cellCount false (card (set (fresh .cells) 0 (whole 6 0 (17 ∷ 0 ∷ 0 ∷ 0 ∷ []))) 0xffff0000 0xffff0000)
+    (clock0 0)) ≡ 0 ∷ 0 ∷ 0 ∷ 0 ∷ 0 ∷ 0 ∷ []
 unfolding words ones onesIn bitAt wordOf listed rowOf taken workAs workOut stirredAs stirred disagree wakes fresh levelAt readsLevels reads slotsRead mixed
     view effectiveSample kindAt sourceAt drivenWord levelsFrom linesOf readNow readLast named turnAt outputsBelow turned tick
 small-ticks = refl

@@ -17,6 +17,7 @@ use Rattle.card.specs.declared.card.Card.{Card}
 use Rattle.card.specs.declared.card.Memory.{Memory}
 use Rattle.card.specs.declared.card.Connectors.{Connectors}
 use Rattle.card.specs.Fresh.{noCell}
+use Rattle.card.specs.Tally.{talliedBy}
 use Rattle.ticks.specs.declared.connectors.Lines.{Lines}
 use Rattle.ticks.specs.declared.view.Input.{Input}
 use Rattle.ticks.specs.declared.view.Wires.{Wires}
@@ -105,9 +106,10 @@ module _ (n : ℕ) (full : Bool) (cells : List Cell) (edited : ℕ) (w : Wires) 
   abbrev pub wokeAt : ℕ → Bool
   wokeAt i = turnOf i .woke
 
-  -- the new cells (those past n stay), the cell word and the woken set, "bit 0 cell 1"
+  -- the new cells (those past n stay), the cell word, the set of the cells that the rules name, in a full tick too, and the woken set, "bit 0 cell 1"
   unfoldable pub turned : Turned
-  turned = record { cells = listed cellAfter n ++ drop n cells; outputs = outputsBelow n; woken = wordOf wokeAt n }
+  turned =
+      record { cells = listed cellAfter n ++ drop n cells; outputs = outputsBelow n; named = wordOf namedAt n; woken = wordOf wokeAt n }
 
 -- ---- a tick
 
@@ -149,9 +151,9 @@ moved m l outputs =
       levels2 = m .levels;
     }
 
--- the card after a tick that ran: it clears the edits and moves the memory m on
-abbrev pub cardAfter : Memory → Card → Lines → Turned → Card
-cardAfter m c l t =
+-- the card after a tick that ran: it clears the edits, moves the memory m on, and counts the cells that the rules name
+abbrev pub cardAfter : (n : ℕ) → Memory → Card → Lines → Turned → Card
+cardAfter n m c l t =
     record {
       pointer = c .pointer;
       trigger = c .trigger;
@@ -160,6 +162,7 @@ cardAfter m c l t =
       edited = 0;
       memory = moved m l (t .outputs);
       size = c .size;
+      tallies = talliedBy n (bitAt (t .named)) (c .tallies);
     }
 
 -- what a reader in position i reads in a tick that shows these levels, and in a tick that shows the card's own
@@ -178,12 +181,12 @@ answerOf l t = record { ran = true; driven = l .driven; cells = t .outputs; woke
 abbrev pub turnedIn : (n : ℕ) → Bool → Card → ℕ → Turned
 turnedIn n full c levels = turned n full (c .cells) (c .edited) (wiresOf (c .memory) levels)
 
-abbrev pub ranWith : Memory → Card → Lines → Turned → Ticked
-ranWith m c l t = record { card = cardAfter m c l t; answer = answerOf l t }
+abbrev pub ranWith : (n : ℕ) → Memory → Card → Lines → Turned → Ticked
+ranWith n m c l t = record { card = cardAfter n m c l t; answer = answerOf l t }
 
 -- a tick that runs: the lines l, which are the driven word and the levels, and the turns of all cells under these levels; and with the card's own lines
 abbrev pub tickedOn : (n : ℕ) → Bool → Card → Lines → Ticked
-tickedOn n full c l = ranWith (trimmed n (c .memory)) c l (turnedIn n full c (l .levels))
+tickedOn n full c l = ranWith n (trimmed n (c .memory)) c l (turnedIn n full c (l .levels))
 
 abbrev pub ticked : (n : ℕ) → Bool → Card → Input → Ticked
 ticked n full c input = tickedOn n full c (lines n c input)

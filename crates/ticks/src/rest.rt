@@ -1,4 +1,4 @@
-// Cards at rest: a tick would name no cell and change nothing.
+// Cards at rest: a tick would name no cell and change nothing but the tick total.
 ghost use mathlib.Core.Bool.{true, _&&_};
 ghost use mathlib.Core.Path.{_≡_};
 ghost use Prim.Native.Nat.{_%_, _^_, _≤_, _<_};
@@ -45,7 +45,7 @@ fn rests_on(card: Card, input: Input, n: u8) -> bool
     all_rest(cells, sees(0, m.outputs, m.outputs, m.levels), n)
 }
 
-// Whether a quick tick with the input would name no cell and leave the card as it is. No tick is made: the last words are compared, the connectors
+// Whether a quick tick with the input would name no cell and leave all but the tick total as it is. No tick is made: the last words are compared, the connectors
 // driven, and the cells with edge slots looked at.
 pub fn at_rest(card: Card, input: Input) -> bool
     ensures { λ q. ⌜ Decides q (AtRest (cellsFor (card .size)) card input) ⌝ }

@@ -5,15 +5,14 @@ ghost use Prim.Native.Nat.{ℕ, _%_, _^_, _≤_, _<_};
 ghost use lib.Dec.{eqb};
 ghost use Rattle.words.specs.Bits.{bitAt, withBit};
 ghost use Rattle.cells.specs.State.{stateOf};
-ghost use Rattle.cells.specs.Effect.{workedBy};
-ghost use Rattle.cells.specs.Wake.{wakes};
+ghost use Rattle.cells.specs.Effect.{StepsTo};
 ghost use Rattle.cells.specs.Work.{workOut};
 ghost use Rattle.card.specs.Address.{cellRoom, cellsFor};
 ghost use Rattle.ticks.specs.Reading.{slotsRead};
 ghost use Rattle.ticks.specs.Rest.{turnedTo};
 ghost use Rattle.ticks.specs.Levels.{effectiveSample};
 ghost use Rattle.ticks.specs.Tick;
-ghost use Rattle.ticks.specs.Tick.{turned, trimmed, wiresOf, linesIn, ranWith};
+ghost use Rattle.ticks.specs.Tick.{namedBy, turned, trimmed, wiresOf, linesIn, ranWith};
 ghost use Rattle.ticks.specs.Words.{ReadsAs, MovesAs, shiftedAt, FitsMemory};
 use crate::connectors::Lines;
 use crate::connectors::drive;
@@ -34,15 +33,18 @@ use card::limits::CELLS;
 use card::limits::CellWord;
 use card::limits::EditedSet;
 use card::place::cells_for;
+use card::tallies::tally;
 use cells::cell::Cell;
 use cells::reading::QUARTERS;
 use cells::reading::address;
+use cells::step::Stepped;
 use cells::work::Effect;
 
 // What a tick makes of all cells.
 pub struct Turned {
     pub cells: [Cell; CELLS],
     pub outputs: CellWord,
+    pub named: CellWord,
     pub woken: CellWord,
 }
 
@@ -62,39 +64,24 @@ pub struct Ticked {
     pub answer: Answer,
 }
 
-// Whether the rules name a cell that is not edited. q holds what the addresses read, d which of them read otherwise than in the last tick.
-fn is_named(cell: Cell, q: &[u64; QUARTERS], d: &[u64; QUARTERS]) -> bool
-    ensures { λ r. ⌜ ((f g h : ℕ → Bool) → ReadsAs (now (q .entry)) f g → MovesAs (now (d .entry)) f g h → r ≡ wakes (cell .kind) (stateOf cell) false (slotsRead f g (cell .slots)) (slotsRead g h (cell .slots))) ⌝ }
+// A cell asked and, where it is due, worked out. q holds what the addresses read, d which of them read otherwise than in the last tick.
+fn stepped(
+    full: bool,
+    edited: bool,
+    cell: Cell,
+    q: &[u64; QUARTERS],
+    d: &[u64; QUARTERS],
+) -> Stepped
+    ensures { λ r. ⌜ ((f g h : ℕ → Bool) → ReadsAs (now (q .entry)) f g → MovesAs (now (d .entry)) f g h → let now = slotsRead f g (cell .slots) in StepsTo r full (namedBy cell edited now (slotsRead g h (cell .slots))) (stateOf cell) (workOut (cell .kind) (cell .config) (stateOf cell) now)) ⌝ }
 {
     let s = cell.slots;
     let x = address(s[0]);
     let y = address(s[1]);
     let z = address(s[2]);
     let f = address(s[3]);
-    cells::wake::wakes(
-        cell.kind,
-        cell.count,
-        cell.bit,
-        cell.pulse,
-        x,
-        y,
-        z,
-        f,
-        q,
-        d,
-    )
-}
-
-// A cell worked out with what the addresses read.
-fn worked(cell: Cell, q: &[u64; QUARTERS]) -> Effect
-    ensures { λ e. ⌜ ((f g : ℕ → Bool) → ReadsAs (now (q .entry)) f g → workedBy (stateOf cell) e ≡ workOut (cell .kind) (cell .config) (stateOf cell) (slotsRead f g (cell .slots))) ⌝ }
-{
-    let s = cell.slots;
-    let x = address(s[0]);
-    let y = address(s[1]);
-    let z = address(s[2]);
-    let f = address(s[3]);
-    cells::work::work(
+    cells::step::step(
+        full,
+        edited,
         cell.kind,
         cell.config,
         cell.count,
@@ -105,6 +92,7 @@ fn worked(cell: Cell, q: &[u64; QUARTERS]) -> Effect
         z,
         f,
         q,
+        d,
     )
 }
 
@@ -128,13 +116,13 @@ pub fn seen_memory(m: Memory, n: u8) -> Memory
     next
 }
 
-// The cells that are worked out in any case: all in a full tick, and those that were edited.
-fn due(full: bool, edited: EditedSet, n: u8) -> CellWord
+// The cells that are worked out: all in a full tick, and those that the rules name.
+fn woken_by(full: bool, named: EditedSet, n: u8) -> CellWord
     requires { ⌜ n ≤ cellRoom ⌝ }
-    ensures { λ r. ⌜ ((i : ℕ) → i < n → bitAt r i ≡ (full || bitAt edited i)) ⌝ }
+    ensures { λ r. ⌜ ((i : ℕ) → i < n → bitAt r i ≡ (full || bitAt named i)) ⌝ }
     ensures { λ r. ⌜ r < 2 ^ n ⌝ }
 {
-    if full { low(ALL, n) } else { low(edited, n) }
+    if full { low(ALL, n) } else { low(named, n) }
 }
 
 // The cells whose output changed in one of the last two ticks.
@@ -144,14 +132,7 @@ fn shifted(w: Wires) -> CellWord
     (w.outputs ^ w.outputs2) | (w.outputs2 ^ w.outputs3)
 }
 
-// A word with the bit of cell i set, and with it flipped.
-fn joined(w: CellWord, i: u32) -> CellWord
-    requires { ⌜ i < cellRoom ⌝ }
-    ensures { λ r. ⌜ r ≡ withBit w i true ⌝ }
-{
-    w | (1 << i)
-}
-
+// A word with the bit of cell i flipped.
 fn flipped(w: CellWord, i: u32) -> CellWord
     requires { ⌜ i < cellRoom ⌝ }
     ensures { λ r. ⌜ r ≡ withBit w i (not (bitAt w i)) ⌝ }
@@ -173,9 +154,16 @@ pub fn lines_in(connectors: Connectors, m: Memory, input: Input) -> Lines
     drive(connectors, now, before, sample)
 }
 
-// The card after a tick that ran, and its answer. The cells are turned already, and the memory m is moved on.
-fn ran_with(card: Card, m: Memory, l: Lines, outputs: CellWord, woken: CellWord) -> Ticked
-    ensures { λ r. ⌜ r ≡ ranWith m card l (turnedTo (card .cells) outputs woken) ⌝ }
+// The card after a tick that ran, and its answer. The cells are turned already, and the memory m is moved on; `named` are the cells that the rules name.
+fn ran_with(
+    card: Card,
+    m: Memory,
+    l: Lines,
+    outputs: CellWord,
+    named: CellWord,
+    woken: CellWord,
+) -> Ticked
+    ensures { λ r. ⌜ ((n : ℕ) → n ≤ cellRoom → named < 2 ^ n → r ≡ ranWith n m card l (turnedTo (card .cells) outputs named woken)) ⌝ }
 {
     let memory = Memory {
         driven: l.driven,
@@ -186,9 +174,11 @@ fn ran_with(card: Card, m: Memory, l: Lines, outputs: CellWord, woken: CellWord)
         levels: l.levels,
         levels2: m.levels,
     };
+    let tallies = tally(card.tallies, named);
     let mut next = card;
     next.edited = 0;
     next.memory = memory;
+    next.tallies = tallies;
     let answer = Answer {
         ran: true,
         driven: l.driven,
@@ -202,75 +192,72 @@ fn ran_with(card: Card, m: Memory, l: Lines, outputs: CellWord, woken: CellWord)
     }
 }
 
-// A tick that runs: the turns of all cells, in order. The woken set starts as the cells that are due, and the outputs as those of the last tick, so
-// a cell that sleeps changes neither. The words for the next reader are made anew only where readers above the cell see something else of it, in
-// this tick or the last two, than readers up to it do.
+// A tick that runs: the turns of all cells, in order. The outputs start as those of the last tick, so a cell that sleeps changes none. The words for
+// the next reader are made anew only where readers above the cell see something else of it, in this tick or the last two, than readers up to it do.
 fn turn_each(full: bool, card: Card, m: Memory, l: Lines, n: u8) -> Ticked
     requires { ⌜ n ≤ cellRoom ⌝ }
     requires { ⌜ FitsMemory n m ⌝ }
-    ensures { λ t. ⌜ t ≡ ranWith m card l (turned n full (card .cells) (card .edited) (wiresOf m (l .levels))) ⌝ }
+    ensures { λ t. ⌜ t ≡ ranWith n m card l (turned n full (card .cells) (card .edited) (wiresOf m (l .levels))) ⌝ }
 {
     let w = wires_of(m, l.levels);
     let shifted = shifted(w);
     let mut next = card;
     let mut outputs = w.outputs;
-    let mut woken = due(full, card.edited, n);
+    let mut named: EditedSet = 0;
     let mut q = words_now(0, outputs, w);
     let mut d = words_moved(0, outputs, w);
     for i in 0..n as u32 {
         let at = i as usize;
-        let mut woke = words::bit(woken as u64, i);
-        if !woke {
-            woke = is_named(next.cells[at], &q, &d);
-            if woke {
-                woken = joined(woken, i);
+        let edited = words::bit(card.edited, i);
+        let step = stepped(full, edited, next.cells[at], &q, &d);
+        let last = words::bit(outputs as u64, i);
+        let mut out = last;
+        let effect = step.effect;
+        match effect {
+            Effect::Slept => {}
+            Effect::Same(o) => {
+                out = o;
+            }
+            Effect::Bit(b) => {
+                let mut cell = next.cells[at];
+                cell.bit = b;
+                next.cells[at] = cell;
+                out = b;
+            }
+            Effect::Count(n) => {
+                let mut cell = next.cells[at];
+                cell.count = n;
+                next.cells[at] = cell;
+                out = 0 < n.0;
+            }
+            Effect::Timed(n, p) => {
+                let mut cell = next.cells[at];
+                cell.count = n;
+                cell.pulse = p;
+                next.cells[at] = cell;
+                out = p;
+            }
+            Effect::Counted(n, b, o) => {
+                let mut cell = next.cells[at];
+                cell.count = n;
+                cell.bit = b;
+                next.cells[at] = cell;
+                out = o;
             }
         }
+        named = words::pushed(named, i, step.named);
         let mut moved = words::bit(shifted as u64, i);
-        if woke {
-            let mut out = false;
-            match worked(next.cells[at], &q) {
-                Effect::Same(o) => {
-                    out = o;
-                }
-                Effect::Bit(b) => {
-                    let mut cell = next.cells[at];
-                    cell.bit = b;
-                    next.cells[at] = cell;
-                    out = b;
-                }
-                Effect::Count(n) => {
-                    let mut cell = next.cells[at];
-                    cell.count = n;
-                    next.cells[at] = cell;
-                    out = 0 < n.0;
-                }
-                Effect::Timed(n, p) => {
-                    let mut cell = next.cells[at];
-                    cell.count = n;
-                    cell.pulse = p;
-                    next.cells[at] = cell;
-                    out = p;
-                }
-                Effect::Counted(n, b, o) => {
-                    let mut cell = next.cells[at];
-                    cell.count = n;
-                    cell.bit = b;
-                    next.cells[at] = cell;
-                    out = o;
-                }
-            }
-            if out ^ words::bit(outputs as u64, i) {
-                outputs = flipped(outputs, i);
-                moved = true;
-            }
+        if out ^ last {
+            outputs = flipped(outputs, i);
+            moved = true;
         }
         if moved {
             q = words_now(i + 1, outputs, w);
             d = words_moved(i + 1, outputs, w);
         }
     }
-    ran_with(next, m, l, outputs, woken)
+    let woken = woken_by(full, named, n);
+    ran_with(next, m, l, outputs, named as CellWord, woken)
 }
 
 // Whether a clock is the card's trigger source.
@@ -324,7 +311,7 @@ pub fn quick_tick(card: Card, input: Input) -> Ticked
     let l = lines_in(connectors, m, input);
     let cells = card.cells;
     if is_quiet(cells, card.edited, wires_of(m, l.levels), n) {
-        return ran_with(card, m, l, m.outputs, 0);
+        return ran_with(card, m, l, m.outputs, 0, 0);
     }
     turn_each(false, card, m, l, n)
 }
@@ -358,7 +345,7 @@ pub fn quick_tick_on(card: Card, l: Lines) -> Ticked
     let m = seen_memory(card.memory, n);
     let cells = card.cells;
     if is_quiet(cells, card.edited, wires_of(m, l.levels), n) {
-        return ran_with(card, m, l, m.outputs, 0);
+        return ran_with(card, m, l, m.outputs, 0, 0);
     }
     turn_each(false, card, m, l, n)
 }

@@ -15,6 +15,7 @@ ghost use Rattle.survey.specs.Survey.{Survey};
 use card::card::Card;
 use card::limits::LARGE;
 use card::limits::Number;
+use card::tallies::Tallies;
 use convert::Converted;
 use lines::line::Answered;
 use printed::print::Printed;
@@ -55,7 +56,8 @@ pub extern "C" fn trigger_quick_tick(card: Card, input: Input) -> Ticked
     ticks::tick::quick_tick(card, input)
 }
 
-// Whether a quick tick with the input would name no cell and leave the card as it is. Then every tick with it does, and the clock may stop.
+// Whether a quick tick with the input would name no cell and leave the card as it is but for the tick total. Then every tick with it does, and the clock may
+// stop.
 #[no_mangle]
 pub extern "C" fn trigger_at_rest(card: Card, input: Input) -> bool
     ensures { λ q. ⌜ Decides q (AtRest (cellsFor (card .size)) card input) ⌝ }
@@ -114,4 +116,12 @@ pub extern "C" fn trigger_survey(card: Card, place: Number) -> Surveyed
     ensures { λ r. ⌜ Survey (cellsFor (card .size)) card place r ⌝ }
 {
     survey::dependents(card, place)
+}
+
+// All tallies: in how many ticks the waking rules named each cell, and how many ticks ran.
+#[no_mangle]
+pub extern "C" fn trigger_read_tallies(card: Card) -> Tallies
+    ensures { λ t. ⌜ t ≡ card .tallies ⌝ }
+{
+    card.tallies
 }

@@ -28,6 +28,7 @@ use Rattle.ticks.proofs.Cases.{by-tick, tick-own}
 use Rattle.ticks.proofs.Sleep.{read-whole}
 use Rattle.ticks.proofs.Ticks.{outputs-built}
 use Rattle.ticks.proofs.Trim.{now-trim, last-trim}
+use Rattle.ticks.proofs.Sleep.{named-at}
 use Rattle.ticks.proofs.Turns.{turn-woke}
 use Rattle.why.specs.Reasons.{reasonsAt, reasonsIn, noReasons, tickReasons}
 
@@ -121,6 +122,7 @@ woken-for-reasons n c input =
         ≡ hasReason (listed (reasonsIn n false c input) n) i
     reasoned i h =
         turn-woke n false (getD (c .cells) i noCell) i (c .edited) _ _
+        ∙ named-at n false (c .cells) (c .edited) (wiresOf (c .memory) (lines n c input .levels)) i
         ∙ sym (named-for-a-reason n false c input i)
         ∙ ap anyReason (sym (listed-at (reasonsIn n false c input) n i noReasons h))
 

@@ -2,3 +2,4 @@
 pub mod Bools
 pub mod Laws
 pub mod Listed
+pub mod SetBits

@@ -3,7 +3,7 @@ use Prim.Native.Nat.{ℕ, zero, suc, _+_, _≤_, _<_}
 use mathlib.Core.Path.{_≡_, refl, sym, ap, ap₂, _∙_}
 use mathlib.Core.List.{List, [], _∷_, _++_, append-nil, map}
 use mathlib.Core.Logic.{_⊎_, inl, inr}
-use native.Mathlib.Nat.{le-of-suc-le-suc, eq-or-lt-of-le, not-suc-le-zero, lt-suc-self}
+use native.Mathlib.Nat.{add-zero, le-of-suc-le-suc, eq-or-lt-of-le, not-suc-le-zero, lt-suc-self}
 use native.Mathlib.Numerals.{add-one}
 use native.Mathlib.Omega.{arith}
 use lib.ListN.{length, getD, set, take, drop, length-append, length-drop, List·getD-append, List·getD-map, drop-of-length-le, length-map}
@@ -38,6 +38,24 @@ module _ {A : Type 0} where
   listed-next f i l r v d er ev h =
       rw (er, ev, drop-cons l i d h, add-one)
       (set-at (listed f i) (getD l i d) (drop (suc i) l) (f i) i (length-listed f i) ∙ sym (append-snoc (listed f i) (f i) (drop (suc i) l)))
+
+  -- behind the entries that were replaced stands what stood there
+  pub behind-at : (f : ℕ → A) (i : ℕ) (l r : List A) (d : A) → r ≡ listed f i ++ drop i l → i < length l → getD r i d ≡ getD l i d
+  behind-at f i l r d e h = rw (e, drop-cons l i d h) (getD-at (listed f i) (getD l i d) _ d i (length-listed f i))
+
+  -- an entry that stays is replaced by itself, and so are k of them
+  pub listed-kept : (f : ℕ → A) (i : ℕ) (l r : List A) (d : A) → r ≡ listed f i ++ drop i l → getD l i d ≡ f i → i < length l
+      → r ≡ listed f (i + 1) ++ drop (i + 1) l
+  unfolding listed
+  listed-kept f i l r d e same h = e ∙ rw (drop-cons l i d h, same, add-one) (sym (append-snoc (listed f i) (f i) _))
+
+  pub listed-passed : (f : ℕ → A) (i k : ℕ) (l r : List A) (d : A) → r ≡ listed f i ++ drop i l
+      → ((j : ℕ) → j < k → getD l (i + j) d ≡ f (i + j)) → i + k ≤ length l → r ≡ listed f (i + k) ++ drop (i + k) l
+  listed-passed f i zero l r d e same h = e ∙ ap (λ (m : ℕ). listed f m ++ drop m l) (sym (add-zero i))
+  listed-passed f i (suc k) l r d e same h =
+      let before = listed-passed f i k l r d e (λ j m. same j (omega arith)) (omega arith) in
+      listed-kept f (i + k) l r d before (same k (lt-suc-self k)) (omega arith)
+      ∙ ap (λ (m : ℕ). listed f m ++ drop m l) (omega arith)
 
   -- the first n entries were replaced: each of them, all of them, and the length
   pub front-at : (f : ℕ → A) (n : ℕ) (l : List A) (i : ℕ) (d : A) → i < n → getD (listed f n ++ drop n l) i d ≡ f i

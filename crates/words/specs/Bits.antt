@@ -1,5 +1,6 @@
 -- Words as numbers: the bit at a place, a word built from its bits, a bit replaced, the number of ones. Every definition is over the number of bits.
-use Prim.Native.Nat.{ℕ, zero, suc, _+_, _*_, _/_, _%_, _^_}
+use Prim.Native.Nat.{ℕ, zero, suc, _+_, _*_, _/_, _%_, _^_, _<_}
+use mathlib.Core.Path.{_≡_}
 use mathlib.Core.Bool.{Bool, true, false}
 use lib.Dec.{eqb}
 
@@ -25,3 +26,7 @@ withBit w i b = w / 2 ^ suc i * 2 ^ suc i + (bitNumber b * 2 ^ i + w % 2 ^ i)
 unfoldable pub countOf : (ℕ → Bool) → ℕ → ℕ
 countOf f zero = 0
 countOf f (suc n) = countOf f n + bitNumber (f n)
+
+-- bit k of the word w is set, and none below it
+abbrev pub IsLowest : (w k : ℕ) → Type 0
+IsLowest w k = (bitAt w k ≡ true) × ((i : ℕ) → i < k → bitAt w i ≡ false)

@@ -2,7 +2,7 @@
 ghost use mathlib.Core.Bool.{true};
 ghost use mathlib.Core.Path.{_≡_};
 ghost use Prim.Native.Nat.{_+_, _*_, _^_, _<_};
-ghost use Rattle.words.specs.Bits.{bitAt, withBit, bitNumber};
+ghost use Rattle.words.specs.Bits.{bitAt, withBit, bitNumber, IsLowest};
 
 // Bit number i of w.
 pub fn bit(w: u64, i: u32) -> bool
@@ -27,4 +27,12 @@ pub fn with_set(w: u64, i: u32) -> u64
     ensures { λ r. ⌜ r ≡ withBit w i true ⌝ }
 {
     w | (1 << i)
+}
+
+// The place of the lowest bit that is set, in a word that is not 0.
+pub fn lowest(w: u64) -> u32
+    requires { ⌜ 0 < w ⌝ }
+    ensures { λ k. ⌜ IsLowest w k × (k < 64) ⌝ }
+{
+    u64::trailing_zeros(w)
 }

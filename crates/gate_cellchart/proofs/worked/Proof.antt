@@ -3,6 +3,9 @@ use borrow.Author.Needs.{needs}
 use Rattle.gate_cellchart.proofs.worked.Statement.{statement}
 use Rattle.gate_cellchart.proofs.worked.Tie as tie
 
+enum-told : tie.Need-enum-told
+enum-told c = search needs
+
 enum-known-e : tie.Need-enum-known-e
 enum-known-e c = search needs
 
@@ -19,24 +22,28 @@ enum-known-e-5 : tie.Need-enum-known-e-5
 enum-known-e-5 c = search needs
 
 returns : tie.Need-returns
-returns c = rw (c .before .e .given .1)
+returns c = rw (c .enum-told .given .1)
 
 returns-2 : tie.Need-returns-2
-returns-2 c = rw (c .before .e2 .given .1)
+returns-2 c = rw (c .before .e .given .1)
 
 returns-3 : tie.Need-returns-3
-returns-3 c = rw (c .before .before .e3 .given .1)
+returns-3 c = rw (c .before .e2 .given .1)
 
 returns-4 : tie.Need-returns-4
-returns-4 c = rw (c .before .e4 .given .1)
+returns-4 c = rw (c .before .before .e3 .given .1)
 
 returns-5 : tie.Need-returns-5
-returns-5 c = rw (c .before .e5 .given .1)
+returns-5 c = rw (c .before .e4 .given .1)
+
+returns-6 : tie.Need-returns-6
+returns-6 c = rw (c .before .e5 .given .1)
 
 pub worked-spec : {M : Type 1} → statement M
 worked-spec =
     tie.close
     (tie.spec
+    enum-told
     enum-known-e
     enum-known-e-2
     enum-known-e-3
@@ -46,4 +53,5 @@ worked-spec =
     returns-2
     returns-3
     returns-4
-    returns-5)
+    returns-5
+    returns-6)

@@ -7,7 +7,8 @@ use Rattle.plexplain.proofs.main.Statement.{statement}
 use Rattle.plexplain.proofs.main.Tie as tie
 
 abbrev Inv-loop : tie.InvT-loop
-Inv-loop block₀ line₀ store₀ out₀ s₀ r₀ block line store out s r = (r .end ≤ r .n) × (r .n ≤ length block) × (length block ≡ 2144) × (length line ≡ 96) × (length store ≡ 308)
+Inv-loop block₀ line₀ store₀ out₀ s₀ r₀ block line store out s r = (r .end ≤ r .n) × (r .n ≤ length block) × (length block ≡ 2144) ×
+    (length line ≡ 96) × (length store ≡ 308)
 
 abbrev μ-loop : tie.MeasureT-loop
 μ-loop block₀ line₀ store₀ out₀ s₀ r₀ block line store out s r = r .left

@@ -37,7 +37,7 @@ returns c =
     let last = t .take-lines .last .1 .1 .1 in
     let room : a .state .used + longestPrint * (a .n - a .state .len) ≤ length (a .out .now) = omega (arith, t .before, o, o .pre .1 .1) in
     let over = room-for-all (a .state) r (a .n) (a .block .now) (a .out .now) _ (e .1) room in
-    let whole : length (a .line .now) ≡ kept = search needs in
+    let whole : length (a .line .now) ≡ kept = omega (arith, c .before, c .before .before, c .before .before .before) in
     let cut = ap (λ (m : ℕ). take m (part (r .start) (a .n) (a .block .now))) whole in
     let x₀ = stateOf (a .state) (a .store .now) (a .block .now) (a .out .now) in (
       kept-lines x₀ (a .state .len) r (a .block .now) (last .0) (last .1 .0) (c .keep .last .0) (a .n) (c .keep .result) over (e .0) (k .0 ∙ cut),

@@ -59,7 +59,8 @@ returns c =
     let printed = ap (λ (n : ℕ). stateOf (record { card = s .card; len = s .len; used = n }) (last .1 .0) (last .0) (last .1 .1 .0)) (wrote .0) in
     let bytes = part (a .run .len) (a .run .len + b .read-behind .result) (b .read-behind .last .1 .0) in
     let card = a .run .card in
-    let line = ap (λ (l : List ℕ). keptOf (takesAll enters (record { done = record { card = card; store = a .store .now; printed = [] }; line = l }) bytes)) (got .1) in
+    let line = ap (λ (l : List ℕ). keptOf (takesAll enters
+    (record { done = record { card = card; store = a .store .now; printed = [] }; line = l }) bytes)) (got .1) in
     let within : a .run .len + b .read-behind .result ≤ length (b .read-behind .last .1 .0) = omega (arith, t .before, got .0, o .pre .0) in
     let left : (a .run .left - 1) + 1 ≡ a .run .left = omega (arith, any) in
     let few : w .write-front .result .used ≤ longestPrint * b .read-behind .result = omega (arith, wrote .0, took .1 .1 .1) in

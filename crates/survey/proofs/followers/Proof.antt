@@ -41,8 +41,11 @@ loop-again : tie.Need-loop-again Inv-loop μ-loop
 loop-again c =
     let l = c .before .before .before .before .loop in
     let a = c .before .before .before .before .before .args in
-    let f : ℕ → Bool = λ j. drivenFrom (bitAt (a .set)) (connectorAt (a .connectors) j) in
-    (omega arith, built-next f (l .j) (l .w) _ _ (l .inv .1) (c .before .driven-from .ensures ∙ ap (drivenFrom (bitAt (a .set))) (c .before .before .connector-at .ensures)) (c .pushed .ensures))
+    let f : ℕ → Bool = λ j. drivenFrom (bitAt (a .set)) (connectorAt (a .connectors) j) in (
+      omega arith,
+      built-next f (l .j) (l .w) _ _ (l .inv .1) (c .before .driven-from .ensures ∙ ap (drivenFrom (bitAt (a .set)))
+          (c .before .before .connector-at .ensures)) (c .pushed .ensures),
+    )
 
 cast-result : tie.Need-cast-result Inv-loop μ-loop
 cast-result c =

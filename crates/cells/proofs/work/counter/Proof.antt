@@ -15,7 +15,7 @@ kept-active-requires c κs = search needs
 
 returns : tie.Need-returns
 unfolding workAs
-returns c pulse = cc
+returns c pulse out = cc
 
 pub counter-spec : {M : Type 1} → statement M
 counter-spec = tie.close (tie.spec active-after-requires counted-up-requires kept-active-requires returns)

@@ -18,7 +18,7 @@ pulse-after-requires c κs = search needs
 
 returns : tie.Need-returns
 unfolding workAs
-returns c bit = cc
+returns c bit out = cc
 
 pub delay-spec : {M : Type 1} → statement M
 delay-spec = tie.close (tie.spec delay-busy-requires taken-requires count-after-requires pulse-after-requires returns)

@@ -9,7 +9,7 @@ flop-next-requires c κs = search needs
 
 returns : tie.Need-returns
 unfolding workAs
-returns c count pulse = cc
+returns c count pulse out = cc
 
 pub flop-spec : {M : Type 1} → statement M
 flop-spec = tie.close (tie.spec flop-next-requires returns)

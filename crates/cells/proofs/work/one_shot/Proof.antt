@@ -15,7 +15,7 @@ count-after-requires c κs = search needs
 
 returns : tie.Need-returns
 unfolding workAs
-returns c bit pulse =
+returns c bit pulse out =
     let took = c .before in
     rw (c .count-after .ensures, took .taken .ensures, took .before .shot-busy .ensures)
 

@@ -21,6 +21,7 @@ returns c =
       pointer = x .pointer;
       trigger = x .trigger;
       size = x .size;
+      tallies = x .tallies;
     })
     (c .fresh .ensures)
 

@@ -2,19 +2,26 @@
 use mathlib.Core.Path.{_≡_, refl, sym, ap, ap₂, _∙_}
 use mathlib.Core.Bool.{Bool, false≢true, not, _||_}
 use lib.Dec.{eqb}
+use lib.ListN.{length}
 use borrow.Author.Tests.{eqb-true, eq-eqb, not-false}
 use native.Mathlib.Omega.{arith}
 use borrow.Author.Needs.{needs}
 use Rattle.words.proofs.Bools.{or-left, or-right}
 use Rattle.ticks.specs.declared.connectors.Lines.{Lines}
 use Rattle.ticks.specs.Tick
+use Rattle.card.specs.Address.{cellRoom}
 use Rattle.ticks.proofs.AtRest.{steady-wires, rest-seen}
+use Rattle.ticks.proofs.Turns.{as-long}
 use Rattle.ticks.proofs.AtRest.{StillMemory, viewLast, steady-memory, still-fits, still-rests, rests-still}
 use Rattle.ticks.proofs.rest.rests_on.Statement.{statement}
 use Rattle.ticks.proofs.rest.rests_on.Tie as tie
 
 lines-in-requires : tie.Need-lines-in-requires
 lines-in-requires c κs = search needs
+
+-- there are as many tallies as there is room for cells
+tallies-long : (c : tie.Start) → length (c .args .card .tallies .cells) ≡ cellRoom
+tallies-long c = search (as-long, c .good .0 .0 .1 .1 .1)
 
 known : (d : tie.After-lines-in) → let a = d .before .before .before .args in
     StillMemory (a .card .memory) × (d .lines-in .result ≡ Tick.lines (a .n) (a .card) (a .input))
@@ -31,7 +38,8 @@ returns c =
     let lines = known d .1 in (
       λ e. absurd (false≢true e),
       λ rest. let s = rests-still (a .n) (a .card) (a .input) (search needs) rest in
-          sym (λ k. (not (eq-eqb _ _ (ap (λ (l : Lines). l .driven) lines ∙ s .driven) k) || not (eq-eqb _ _ (ap (λ (l : Lines). l .pulled) lines ∙ s .pulled) k))
+          sym (λ k. (not (eq-eqb _ _ (ap (λ (l : Lines). l .driven) lines ∙ s .driven) k) || not (eq-eqb _ _ (ap (λ (l : Lines). l .pulled) lines
+          ∙ s .pulled) k))
           || not (eq-eqb _ _ (ap (λ (l : Lines). l .levels) lines ∙ s .levels) k))
           ∙ c .if1 .taken,
     )
@@ -54,9 +62,10 @@ returns-2 c =
     let w = d .lines-in .result in
     let still = known d .0 in
     let lines = known d .1 in
+    let tallies = tallies-long start in
     let seen = rest-seen (a .n) (viewLast (a .n) m) (v .sees .result) (a .card .cells)
     (v .sees .ensures (a .n) (pre .0) (pre .1 .1 .1 .0) (pre .1 .1 .1 .0)) in (
-      λ e. still-rests (a .n) (a .card) (a .input) (omega (arith, c .all-rest .ensures .1, pre .0)) (pre .1 .1 .1 .0)
+      λ e. still-rests (a .n) (a .card) (a .input) (omega (arith, c .all-rest .ensures .1, pre .0)) (omega (arith, tallies, pre .0)) (pre .1 .1 .1 .0)
           (record {
             edited = pre .1 .1 .0;
             memory = still;
@@ -64,7 +73,8 @@ returns-2 c =
             pulled = ap (λ (l : Lines). l .pulled) (sym lines)
                 ∙ eqb-true (w .pulled) (m .pulled) (not-false _ (or-right (not (eqb (w .driven) (m .driven))) _ (or-left _ _ (i .if1 .left))));
             levels = ap (λ (l : Lines). l .levels) (sym lines)
-                ∙ eqb-true (w .levels) (m .levels) (not-false _ (or-right (not (eqb (w .driven) (m .driven)) || not (eqb (w .pulled) (m .pulled))) _ (i .if1 .left)));
+                ∙ eqb-true (w .levels) (m .levels) (not-false _ (or-right (not (eqb (w .driven) (m .driven)) || not (eqb (w .pulled) (m .pulled))) _
+                (i .if1 .left)));
             cells = seen ∙ sym (c .all-rest .ensures .0) ∙ e;
           }),
       λ rest. c .all-rest .ensures .0 ∙ sym seen ∙ rests-still (a .n) (a .card) (a .input) (pre .1 .0) rest .cells,

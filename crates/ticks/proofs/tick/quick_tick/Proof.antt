@@ -3,6 +3,7 @@
 use Prim.Native.Nat.{ℕ, _^_, _<_}
 use mathlib.Core.Path.{sym, ap, subst, _∙_}
 use mathlib.Core.Bool.{false}
+use lib.Pow.{pow-pos}
 use borrow.Author.Tests.{not-true, not-false}
 use Rattle.card.specs.declared.card.Memory.{Memory}
 use Rattle.ticks.specs.declared.connectors.Lines.{Lines}
@@ -66,7 +67,7 @@ returns-2 c =
     ∙ quiet .is-quiet .ensures (c .before .if2 .taken)
     ∙ ap (λ (v : Wires). sleptAll (a .card .cells) (v .outputs)) (w .wires-of .ensures) in
     rw (sym (p .before .is-own .ensures) ∙ not-false _ (p .if1 .left))
-    (c .ran-with .ensures ∙ ap (ranWith (s .seen-memory .result) (a .card) (l .lines-in .result)) (sym slept)
+    (c .ran-with .ensures n (z .cells-for .ensures .1) (pow-pos n) ∙ ap (ranWith n (s .seen-memory .result) (a .card) (l .lines-in .result)) (sym slept)
     ∙ whole-tick n false (a .card) (a .input) (s .seen-memory .result) (l .lines-in .result) (s .seen-memory .ensures)
     (l .lines-in .ensures n (z .cells-for .ensures .1) fits)
     ∙ ap (λ (m : ℕ). ticked m false (a .card) (a .input)) (z .cells-for .ensures .0))

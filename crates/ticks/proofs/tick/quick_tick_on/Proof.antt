@@ -2,6 +2,7 @@
 use Prim.Native.Nat.{ℕ, _^_, _<_}
 use mathlib.Core.Path.{sym, ap, subst, _∙_}
 use mathlib.Core.Bool.{false}
+use lib.Pow.{pow-pos}
 use Rattle.card.specs.declared.card.Memory.{Memory}
 use Rattle.ticks.specs.declared.view.Wires.{Wires}
 use Rattle.ticks.specs.Rest.{sleptAll}
@@ -43,7 +44,7 @@ returns c =
     let slept = sym (ap (λ (v : Wires). turned n false (a .card .cells) (a .card .edited) v) (w .wires-of .ensures))
     ∙ quiet .is-quiet .ensures (c .before .if1 .taken)
     ∙ ap (λ (v : Wires). sleptAll (a .card .cells) (v .outputs)) (w .wires-of .ensures) in
-    c .ran-with .ensures ∙ ap (ranWith (s .seen-memory .result) (a .card) (a .l)) (sym slept)
+    c .ran-with .ensures n (z .cells-for .ensures .1) (pow-pos n) ∙ ap (ranWith n (s .seen-memory .result) (a .card) (a .l)) (sym slept)
     ∙ whole-tick-on n false (a .card) (s .seen-memory .result) (a .l) (s .seen-memory .ensures)
     ∙ ap (λ (k : ℕ). tickedOn k false (a .card) (a .l)) (z .cells-for .ensures .0)
 

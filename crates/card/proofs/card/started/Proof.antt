@@ -1,0 +1,13 @@
+-- `card::card::started` meets its contract: no tick is counted.
+use borrow.Author.Needs.{needs}
+use Rattle.card.proofs.card.started.Statement.{statement}
+use Rattle.card.proofs.card.started.Tie as tie
+
+no-tallies-requires : tie.Need-no-tallies-requires
+no-tallies-requires c κs = search needs
+
+returns : tie.Need-returns
+returns c = rw (c .no-tallies .ensures)
+
+pub started-spec : {M : Type 1} → statement M
+started-spec = tie.close (tie.spec no-tallies-requires returns)

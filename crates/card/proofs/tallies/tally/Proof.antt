@@ -1,0 +1,137 @@
+-- `card::tallies::tally` meets its contract: before each turn the cells below i are counted, and `left` is what is left of the word.
+use Prim.Native.Nat.{ℕ, _+_, _-_, _^_, _≤_, _<_, zero-le}
+use mathlib.Core.Path.{_≡_, refl, sym, ap, subst, _∙_}
+use mathlib.Core.List.{List, map}
+use native.Mathlib.Nat.{div-one}
+use native.Mathlib.Omega.{arith}
+use lib.ListN.{length, length-map}
+use borrow.Author.Needs.{needs}
+use borrow.Author.Tests.{lt-ltb, le-ltb}
+use Rattle.words.specs.Listed.{listed}
+use Rattle.cells.specs.declared.cell.Ticks.{Ticks}
+use Rattle.card.specs.declared.tallies.Tallies.{Tallies}
+use Rattle.card.specs.Address.{cellRoom}
+use Rattle.card.specs.Tally.{standstill, talliedBy}
+use Rattle.card.proofs.TallyLaws.{CountedTo, next-within, next-counted, end-counted}
+use Rattle.card.proofs.tallies.tally.Statement.{statement}
+use Rattle.card.proofs.tallies.tally.Tie as tie
+
+as-long : (X Y : Type 0) (g : X → Y) (l : List X) (n : ℕ) → length (map g l) ≡ n → length l ≡ n
+as-long X Y g l n e = sym (length-map l g) ∙ e
+
+abbrev Inv-loop : tie.InvT-loop
+Inv-loop named next₀ left₀ i₀ next left i = CountedTo named (next₀ .cells) i left (next .cells) × (next .total ≡ next₀ .total)
+
+abbrev μ-loop : tie.MeasureT-loop
+μ-loop named next₀ left₀ i₀ next left i = cellRoom - i
+
+-- the word has a bit for each cell, and there are as many tallies
+fits : (at : tie.At-loop Inv-loop μ-loop) → at .before .before .before .before .before .args .named < 2 ^ cellRoom
+fits at = search needs
+
+room : (at : tie.At-loop Inv-loop μ-loop) → length (at .before .before .before .before .before .args .t .cells) ≡ cellRoom
+room at = search (as-long, at .before .before .before .before .before .good)
+
+-- the next named cell is one of the card's
+here : (c : tie.After-lowest Inv-loop μ-loop) → c .before .before .loop .i + c .lowest .result < cellRoom
+here c =
+    let at = c .before .before in
+    next-within _ _ (fits at) (room at) _ _ _ _ (at .loop .inv .0) (c .lowest .ensures .0)
+
+returns : tie.Need-returns Inv-loop μ-loop
+unfolding talliedBy
+returns c n h small = rw (le-ltb (c .before .before .before .args .t .total .0) standstill (c .if1 .taken))
+
+add-t12 : tie.Need-add-t12 Inv-loop μ-loop
+add-t12 c = search needs
+
+loop-holds : tie.Need-loop-holds Inv-loop μ-loop
+unfolding listed
+loop-holds c = (record { within = zero-le; rest = sym (div-one _); so-far = refl }, refl)
+
+lowest-requires : tie.Need-lowest-requires Inv-loop μ-loop
+lowest-requires c κs = search needs
+
+add-at : tie.Need-add-at Inv-loop μ-loop
+add-at c = search needs
+
+cast-at : tie.Need-cast-at Inv-loop μ-loop
+cast-at c = search needs
+
+mul-counted : tie.Need-mul-counted Inv-loop μ-loop
+mul-counted c = search needs
+
+element-copy-out-counted : tie.Need-element-copy-out-counted Inv-loop μ-loop
+element-copy-out-counted c = search (needs, here c)
+
+counted-requires : tie.Need-counted-requires Inv-loop μ-loop
+counted-requires c κs = search needs
+
+mul-v : tie.Need-mul-v Inv-loop μ-loop
+mul-v c = search needs
+
+element-set-from-v : tie.Need-element-set-from-v Inv-loop μ-loop
+element-set-from-v c = search (needs, here (c .before .before))
+
+add-left : tie.Need-add-left Inv-loop μ-loop
+add-left c = search needs
+
+cast-left : tie.Need-cast-left Inv-loop μ-loop
+cast-left c = search needs
+
+shr-left : tie.Need-shr-left Inv-loop μ-loop
+shr-left c = search (needs, here (c .before .before))
+
+add-i : tie.Need-add-i Inv-loop μ-loop
+add-i c = search needs
+
+add-i-2 : tie.Need-add-i-2 Inv-loop μ-loop
+add-i-2 c = search needs
+
+loop-less : tie.Need-loop-less Inv-loop μ-loop
+loop-less c = search (needs, here (c .before .before))
+
+loop-again : tie.Need-loop-again Inv-loop μ-loop
+loop-again c =
+    let low = c .before .before in
+    let at = low .before .before in
+    let l = at .loop in
+    (next-counted _ _ (fits at) (room at) _ _ _ _ _ (l .inv .0) (low .lowest .ensures .0) (c .counted .ensures), l .inv .1)
+
+returns-2 : tie.Need-returns-2 Inv-loop μ-loop
+unfolding talliedBy
+returns-2 c n h small =
+    let at = c .before in
+    let l = at .loop in
+    let a = at .before .before .before .before .before .args in
+    let none : l .left ≡ 0 = search needs in
+    let so = subst (λ (w : ℕ). CountedTo (a .named) (a .t .cells) (l .i) w (l .next .cells)) none (l .inv .0) in
+    let cells = end-counted (a .named) (a .t .cells) (fits at) (room at) (l .i) n (l .next .cells) so h small in
+    let total = l .inv .1 in
+    rw (lt-ltb (a .t .total .0) standstill (omega (arith, at .before .before .if1 .left))) (λ k. record { cells = cells k; total = total k })
+
+pub tally-spec : {M : Type 1} → statement M
+tally-spec =
+    tie.close
+    (tie.spec
+    Inv-loop
+    μ-loop
+    returns
+    add-t12
+    loop-holds
+    lowest-requires
+    add-at
+    cast-at
+    mul-counted
+    element-copy-out-counted
+    counted-requires
+    mul-v
+    element-set-from-v
+    add-left
+    cast-left
+    shr-left
+    add-i
+    add-i-2
+    loop-less
+    loop-again
+    returns-2)

@@ -1,0 +1,14 @@
+-- `cells::step::fixed_step` meets its contract: only an edit names it.
+use mathlib.Core.Path.{refl}
+use Rattle.cells.proofs.Steps.{step-worked, step-slept}
+use Rattle.cells.proofs.step.fixed_step.Statement.{statement}
+use Rattle.cells.proofs.step.fixed_step.Tie as tie
+
+returns : tie.Need-returns
+returns c s = step-worked _ _ _ s _ refl _ (c .if1 .taken) (λ out. refl)
+
+returns-2 : tie.Need-returns-2
+returns-2 c s = step-slept _ _ _ s _ refl (c .if1 .left)
+
+pub fixed-step-spec : {M : Type 1} → statement M
+fixed-step-spec = tie.close (tie.spec returns returns-2)

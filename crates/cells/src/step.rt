@@ -1,0 +1,522 @@
+// A cell asked and worked out: one dispatch by type says whether the rules name it, and what becomes of it. A full tick works out every cell and asks
+// each all the same; a quick tick works out those that the rules name.
+ghost use mathlib.Core.Bool.{Bool, false, _||_};
+ghost use mathlib.Core.Path.{_≡_};
+ghost use Rattle.cells.specs.declared.table.Class.the-variants.{Gate, Flop, OneShot, Delay, Counter};
+ghost use Rattle.cells.specs.declared.table.GateKind.the-variants.{Lookup};
+ghost use Rattle.cells.specs.declared.table.FlopKind.the-variants.{Jk};
+ghost use Rattle.cells.specs.declared.cell.Pulses.{Pulses};
+ghost use Rattle.cells.specs.declared.cell.State.{State};
+ghost use Rattle.cells.specs.Table.{slots, anySlot};
+ghost use Rattle.cells.specs.State.{state};
+ghost use Rattle.cells.specs.Reading.{readFrom, twoFrom, threeFrom, slotsFrom};
+ghost use Rattle.cells.specs.Wake;
+ghost use Rattle.cells.specs.Wake.{stirredAs, moved};
+ghost use Rattle.cells.specs.Work.{keeping, looked, workAs, workOut};
+ghost use Rattle.cells.specs.Effect.{StepsTo, flopOf};
+use crate::cell::Config;
+use crate::cell::Pulses;
+use crate::reading::QUARTERS;
+use crate::reading::four;
+use crate::reading::three;
+use crate::reading::two;
+use crate::table::CounterKind;
+use crate::table::FlopKind;
+use crate::table::GateKind;
+use crate::table::Slots;
+use crate::wake::flop_wakes;
+use crate::wake::gated_wakes;
+use crate::wake::jk_wakes;
+use crate::wake::moved2;
+use crate::wake::moved3;
+use crate::wake::moved4;
+use crate::wake::started_wakes;
+use crate::wake::timer_wakes;
+use crate::work::Effect;
+use crate::work::counter;
+use crate::work::delay;
+use crate::work::flop;
+use crate::work::gate_out;
+use crate::work::look;
+use crate::work::lookup;
+use crate::work::one_shot;
+
+// The type of OR4, which a high reading decides; a low one decides AND4, the type before it.
+const OR4: u8 = 11;
+
+// Whether the rules name a cell, and what becomes of it.
+pub struct Stepped {
+    pub named: bool,
+    pub effect: Effect,
+}
+
+// A function for each way of reading the slots. It reads for the work only where there is work.
+
+// A constant, or what is no type: only an edit names it.
+fn fixed_step(full: bool, edited: bool, out: bool) -> Stepped
+    ensures { λ r. ⌜ ((s : State) → StepsTo r full edited s (keeping s out)) ⌝ }
+{
+    let slept = Effect::Slept;
+    let same = Effect::Same(out);
+    if full | edited {
+        Stepped {
+            named: edited,
+            effect: same,
+        }
+    } else {
+        Stepped {
+            named: edited,
+            effect: slept,
+        }
+    }
+}
+
+// A lookup or a gate of two slots, a lookup of three, and one of four.
+fn pair_step(
+    gate: GateKind,
+    full: bool,
+    edited: bool,
+    config: Config,
+    x: u8,
+    y: u8,
+    q: &[u64; QUARTERS],
+    d: &[u64; QUARTERS],
+) -> Stepped
+    ensures { λ r. ⌜ ((s : State) → StepsTo r full (edited || anySlot (twoFrom (now (d .entry)) x y)) s (workAs (Gate gate) config s (twoFrom (now (q .entry)) x y))) ⌝ }
+{
+    let named = edited | moved2(d, x, y);
+    if full | named {
+        let effect = Effect::Same(gate_out(gate, config, two(q, x, y)));
+        Stepped {
+            named: named,
+            effect: effect,
+        }
+    } else {
+        let effect = Effect::Slept;
+        Stepped {
+            named: named,
+            effect: effect,
+        }
+    }
+}
+
+fn lookup3_step(
+    full: bool,
+    edited: bool,
+    config: Config,
+    x: u8,
+    y: u8,
+    z: u8,
+    q: &[u64; QUARTERS],
+    d: &[u64; QUARTERS],
+) -> Stepped
+    ensures { λ r. ⌜ ((s : State) → StepsTo r full (edited || anySlot (threeFrom (now (d .entry)) x y z)) s (workAs (Gate Lookup) config s (threeFrom (now (q .entry)) x y z))) ⌝ }
+{
+    let named = edited | moved3(d, x, y, z);
+    if full | named {
+        let effect = Effect::Same(lookup(config, three(q, x, y, z)));
+        Stepped {
+            named: named,
+            effect: effect,
+        }
+    } else {
+        let effect = Effect::Slept;
+        Stepped {
+            named: named,
+            effect: effect,
+        }
+    }
+}
+
+fn lookup4_step(
+    full: bool,
+    edited: bool,
+    config: Config,
+    x: u8,
+    y: u8,
+    z: u8,
+    f: u8,
+    q: &[u64; QUARTERS],
+    d: &[u64; QUARTERS],
+) -> Stepped
+    ensures { λ r. ⌜ ((s : State) → StepsTo r full (edited || anySlot (slotsFrom (now (d .entry)) x y z f)) s (workAs (Gate Lookup) config s (slotsFrom (now (q .entry)) x y z f))) ⌝ }
+{
+    let named = edited | moved4(d, x, y, z, f);
+    if full | named {
+        let effect = Effect::Same(lookup(config, four(q, x, y, z, f)));
+        Stepped {
+            named: named,
+            effect: effect,
+        }
+    } else {
+        let effect = Effect::Slept;
+        Stepped {
+            named: named,
+            effect: effect,
+        }
+    }
+}
+
+// A gate of four slots, which looks at them one by one.
+fn look_step(
+    deciding: bool,
+    full: bool,
+    edited: bool,
+    x: u8,
+    y: u8,
+    z: u8,
+    f: u8,
+    q: &[u64; QUARTERS],
+    d: &[u64; QUARTERS],
+) -> Stepped
+    ensures { λ r. ⌜ ((s : State) → StepsTo r full (edited || anySlot (slotsFrom (now (d .entry)) x y z f)) s (keeping s (looked deciding (slotsFrom (now (q .entry)) x y z f) .out))) ⌝ }
+{
+    let named = edited | moved4(d, x, y, z, f);
+    if full | named {
+        let l = look(deciding, x, y, z, f, q);
+        let effect = Effect::Same(l.out);
+        Stepped {
+            named: named,
+            effect: effect,
+        }
+    } else {
+        let effect = Effect::Slept;
+        Stepped {
+            named: named,
+            effect: effect,
+        }
+    }
+}
+
+// The flip-flop that a type is, of those with D. A function that is called from one place alone is compiled into it: in the loop over the cells a call costs
+// more than this test.
+fn flop_of(kind: u8) -> FlopKind
+    ensures { λ r. ⌜ r ≡ flopOf kind ⌝ }
+{
+    match kind {
+        1 => FlopKind::DFlop,
+        12 => FlopKind::SyncDFlop,
+        _ => FlopKind::ClearDFlop,
+    }
+}
+
+// A D flip-flop, and a JK.
+fn flop_step(
+    kind: FlopKind,
+    full: bool,
+    edited: bool,
+    bit: bool,
+    x: u8,
+    y: u8,
+    z: u8,
+    f: u8,
+    q: &[u64; QUARTERS],
+    d: &[u64; QUARTERS],
+) -> Stepped
+    ensures { λ r. ⌜ ((count : Pulses) (pulse : Bool) → let s = state count bit pulse in StepsTo r full (edited || (readFrom (now (q .entry)) y || anySlot (slots (readFrom (now (d .entry)) x) false (readFrom (now (d .entry)) z) (readFrom (now (d .entry)) f)))) s (workAs (Flop kind) 0 s (slotsFrom (now (q .entry)) x y z f))) ⌝ }
+{
+    let named = edited | flop_wakes(x, y, z, f, q, d);
+    if full | named {
+        let effect = flop(kind, bit, four(q, x, y, z, f));
+        Stepped {
+            named: named,
+            effect: effect,
+        }
+    } else {
+        let effect = Effect::Slept;
+        Stepped {
+            named: named,
+            effect: effect,
+        }
+    }
+}
+
+fn jk_step(
+    full: bool,
+    edited: bool,
+    bit: bool,
+    x: u8,
+    y: u8,
+    z: u8,
+    q: &[u64; QUARTERS],
+    d: &[u64; QUARTERS],
+) -> Stepped
+    ensures { λ r. ⌜ ((count : Pulses) (pulse : Bool) → let s = state count bit pulse in StepsTo r full (edited || (stirredAs (Flop Jk) s (threeFrom (now (q .entry)) x y z) || anySlot (twoFrom (now (d .entry)) x y))) s (workAs (Flop Jk) 0 s (threeFrom (now (q .entry)) x y z))) ⌝ }
+{
+    let named = edited | jk_wakes(x, y, z, q, d);
+    if full | named {
+        let effect = flop(FlopKind::Jk, bit, three(q, x, y, z));
+        Stepped {
+            named: named,
+            effect: effect,
+        }
+    } else {
+        let effect = Effect::Slept;
+        Stepped {
+            named: named,
+            effect: effect,
+        }
+    }
+}
+
+// A one-shot and a delay, by what their slots read: the trigger and the clock are asked for in any case. Their reset is the one level slot.
+fn shot_step(
+    retrigger: bool,
+    full: bool,
+    edited: bool,
+    config: Config,
+    count: Pulses,
+    pulse: bool,
+    r: Slots,
+    z: u8,
+    d: &[u64; QUARTERS],
+) -> Stepped
+    ensures { λ t. ⌜ ((bit : Bool) → let s = state count bit pulse in StepsTo t full (edited || (stirredAs (OneShot retrigger) s r || anySlot (slots false false (readFrom (now (d .entry)) z) false))) s (workAs (OneShot retrigger) config s r)) ⌝ }
+{
+    let named = edited | timer_wakes(count, pulse, r, z, d);
+    if full | named {
+        let effect = one_shot(retrigger, config, count, r);
+        Stepped {
+            named: named,
+            effect: effect,
+        }
+    } else {
+        let effect = Effect::Slept;
+        Stepped {
+            named: named,
+            effect: effect,
+        }
+    }
+}
+
+fn delay_step(
+    retrigger: bool,
+    full: bool,
+    edited: bool,
+    config: Config,
+    count: Pulses,
+    pulse: bool,
+    r: Slots,
+    z: u8,
+    d: &[u64; QUARTERS],
+) -> Stepped
+    ensures { λ t. ⌜ ((bit : Bool) → let s = state count bit pulse in StepsTo t full (edited || (stirredAs (Delay retrigger) s r || anySlot (slots false false (readFrom (now (d .entry)) z) false))) s (workAs (Delay retrigger) config s r)) ⌝ }
+{
+    let named = edited | timer_wakes(count, pulse, r, z, d);
+    if full | named {
+        let effect = delay(retrigger, config, count, pulse, r);
+        Stepped {
+            named: named,
+            effect: effect,
+        }
+    } else {
+        let effect = Effect::Slept;
+        Stepped {
+            named: named,
+            effect: effect,
+        }
+    }
+}
+
+// A counter that counts while A and B say so, and one that is started and stopped.
+fn gated_step(
+    kind: CounterKind,
+    full: bool,
+    edited: bool,
+    count: Pulses,
+    bit: bool,
+    r: Slots,
+    x: u8,
+    z: u8,
+    f: u8,
+    d: &[u64; QUARTERS],
+) -> Stepped
+    ensures { λ t. ⌜ ((pulse : Bool) → let s = state count bit pulse in StepsTo t full (edited || (stirredAs (Counter kind) s r || anySlot (slots (readFrom (now (d .entry)) x) false (readFrom (now (d .entry)) z) (readFrom (now (d .entry)) f)))) s (workAs (Counter kind) 0 s r)) ⌝ }
+{
+    let named = edited | gated_wakes(kind, bit, r, x, z, f, d);
+    if full | named {
+        let effect = counter(kind, count, bit, r);
+        Stepped {
+            named: named,
+            effect: effect,
+        }
+    } else {
+        let effect = Effect::Slept;
+        Stepped {
+            named: named,
+            effect: effect,
+        }
+    }
+}
+
+fn started_step(
+    kind: CounterKind,
+    full: bool,
+    edited: bool,
+    count: Pulses,
+    bit: bool,
+    r: Slots,
+    z: u8,
+    d: &[u64; QUARTERS],
+) -> Stepped
+    ensures { λ t. ⌜ ((pulse : Bool) → let s = state count bit pulse in StepsTo t full (edited || (stirredAs (Counter kind) s r || anySlot (slots false false (readFrom (now (d .entry)) z) false))) s (workAs (Counter kind) 0 s r)) ⌝ }
+{
+    let named = edited | started_wakes(kind, bit, r, z, d);
+    if full | named {
+        let effect = counter(kind, count, bit, r);
+        Stepped {
+            named: named,
+            effect: effect,
+        }
+    } else {
+        let effect = Effect::Slept;
+        Stepped {
+            named: named,
+            effect: effect,
+        }
+    }
+}
+
+// A cell, whose slots hold the addresses x, y, z and f. The words q say what the addresses read now, and d which of them read otherwise than in the last
+// tick that ran. A number past the table is no type: such a cell does nothing.
+pub fn step(
+    full: bool,
+    edited: bool,
+    kind: u8,
+    config: Config,
+    count: Pulses,
+    bit: bool,
+    pulse: bool,
+    x: u8,
+    y: u8,
+    z: u8,
+    f: u8,
+    q: &[u64; QUARTERS],
+    d: &[u64; QUARTERS],
+) -> Stepped
+    ensures { λ t. ⌜ (let s = state count bit pulse in let r = slotsFrom (now (q .entry)) x y z f in StepsTo t full (edited || (Wake.stirred kind s r || moved kind (slotsFrom (now (d .entry)) x y z f))) s (workOut kind config s r)) ⌝ }
+{
+    match kind {
+        0 => fixed_step(full, edited, config != 0),
+        1 | 12 | 18 => flop_step(flop_of(kind), full, edited, bit, x, y, z, f, q, d),
+        2 => pair_step(GateKind::Lookup, full, edited, config, x, y, q, d),
+        3 => lookup3_step(full, edited, config, x, y, z, q, d),
+        4 => lookup4_step(full, edited, config, x, y, z, f, q, d),
+        5 => pair_step(GateKind::And2, full, edited, config, x, y, q, d),
+        6 => pair_step(GateKind::Or2, full, edited, config, x, y, q, d),
+        7 => pair_step(GateKind::Xor2, full, edited, config, x, y, q, d),
+        8 => shot_step(
+            true,
+            full,
+            edited,
+            config,
+            count,
+            pulse,
+            three(q, x, y, z),
+            z,
+            d,
+        ),
+        9 => delay_step(
+            true,
+            full,
+            edited,
+            config,
+            count,
+            pulse,
+            three(q, x, y, z),
+            z,
+            d,
+        ),
+        10 | 11 => look_step(kind == OR4, full, edited, x, y, z, f, q, d),
+        13 => jk_step(full, edited, bit, x, y, z, q, d),
+        14 => shot_step(
+            false,
+            full,
+            edited,
+            config,
+            count,
+            pulse,
+            three(q, x, y, z),
+            z,
+            d,
+        ),
+        15 => delay_step(
+            false,
+            full,
+            edited,
+            config,
+            count,
+            pulse,
+            three(q, x, y, z),
+            z,
+            d,
+        ),
+        16 => shot_step(
+            false,
+            full,
+            edited,
+            config,
+            count,
+            pulse,
+            four(q, x, y, z, f),
+            z,
+            d,
+        ),
+        17 => delay_step(
+            false,
+            full,
+            edited,
+            config,
+            count,
+            pulse,
+            four(q, x, y, z, f),
+            z,
+            d,
+        ),
+        19 => gated_step(
+            CounterKind::WhileBoth,
+            full,
+            edited,
+            count,
+            bit,
+            four(q, x, y, z, f),
+            x,
+            z,
+            f,
+            d,
+        ),
+        20 => gated_step(
+            CounterKind::WhileEither,
+            full,
+            edited,
+            count,
+            bit,
+            four(q, x, y, z, f),
+            x,
+            z,
+            f,
+            d,
+        ),
+        21 => started_step(
+            CounterKind::FromStart,
+            full,
+            edited,
+            count,
+            bit,
+            four(q, x, y, z, f),
+            z,
+            d,
+        ),
+        22 => started_step(
+            CounterKind::FromStartAtZero,
+            full,
+            edited,
+            count,
+            bit,
+            four(q, x, y, z, f),
+            z,
+            d,
+        ),
+        _ => fixed_step(full, edited, false),
+    }
+}
