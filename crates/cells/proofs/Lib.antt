@@ -5,4 +5,5 @@ pub mod Gates
 pub mod Steps
 pub mod Laws
 pub mod Counters
+pub mod Timers
 pub mod Used

@@ -6,6 +6,7 @@ pub mod Wake
 pub mod Reading
 pub mod Effect
 pub mod Counting
+pub mod Timing
 pub mod Examples
 pub mod GateExamples
 pub mod WakeExamples

@@ -129,6 +129,8 @@ fn main() {
     replay(b"readout.lines");
     replay(b"comes-to-rest.lines");
     replay(b"never-rests.lines");
+    replay(b"delays.lines");
+    replay(b"one-shots.lines");
     replay(b"long.in");
     replay(b"edge.in");
     replay(b"late.in");

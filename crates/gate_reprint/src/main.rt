@@ -1,7 +1,7 @@
 // Stored wirings: for each file of lines, its name and then the wiring that the card prints of itself at the end.
 //
 // The files that end in `.txt` or `.wiring` are printed wirings themselves. Fed to a fresh card, each prints itself. `wiring` ones are random and
-// busy with every rule of the printer, the others are those of the folder examples; what they print was worked out apart from this program.
+// busy with every rule of the printer, the others are wirings of the folder examples; what they print was worked out apart from this program.
 fn reprint(path: &[u8]) {
     let input = os::open_read(path);
     if input < 0 {

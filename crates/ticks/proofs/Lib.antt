@@ -11,6 +11,7 @@ pub mod Quarters
 pub mod Runs
 pub mod Sleep
 pub mod Ticks
+pub mod Timing
 pub mod Trim
 pub mod Turns
 pub mod ValidTicks

@@ -14,3 +14,5 @@ pub mod Settled
 pub mod Exact
 pub mod Runs
 pub mod Counting
+pub mod Timing
+pub mod TimingExamples
