@@ -43,7 +43,8 @@ fn end_line(card: Card, text: &[u8], store: &mut [u8], out: &mut Page) -> Said
     }
 }
 
-// The line that a reader has given. Where it has given none, the run is over.
+// The line that a reader has given, cut to the bytes that are kept of one that ends in another block, so that what is said does not depend on how the input
+// comes. No line that is obeyed is longer. Where none was given, the run is over.
 fn take_given(card: Card, r: Reader, block: &[u8], store: &mut [u8], out: &mut Page) -> Said
     requires { ⌜ r .start ≤ r .end ⌝ }
     requires { ⌜ r .end ≤ length (now block) ⌝ }
@@ -55,8 +56,8 @@ fn take_given(card: Card, r: Reader, block: &[u8], store: &mut [u8], out: &mut P
         };
     }
     let start = r.start;
-    let end = r.end;
-    end_line(card, &block[start..end], store, out)
+    let long = least(r.end - start, LINE);
+    end_line(card, &block[start..start + long], store, out)
 }
 
 // The run ends with the input, and where a write fails.

@@ -1,4 +1,4 @@
--- A card in a rack wakes whom the rules name; and a row of one card without push-pull lines on the backplane ticks as that card alone: what it pulls low are
+-- A card in a rack wakes whom the rules name, and its timers keep their word; and a row of one card without push-pull lines on the backplane ticks as that card alone: what it pulls low are
 -- its open-drain lines that are driven low, and those are low already.
 use Prim.Native.Nat.{ℕ, _<_}
 use mathlib.Core.Path.{_≡_, refl, sym, ap, ap₂, _∙_}
@@ -18,11 +18,13 @@ use Rattle.ticks.specs.declared.view.Input.{Input}
 use Rattle.ticks.specs.declared.tick.Ticked.{Ticked}
 use Rattle.ticks.specs.Levels.{effectiveSample, pulledAt, pulledWord, levelBit, levelIn, levelsFrom, linesOf}
 use Rattle.ticks.specs.Tick.{wiresOf, linesIn, lines, tickedOn, idle, tick}
+use Rattle.ticks.specs.Runs.{stepped}
 use Rattle.ticks.proofs.Sleep.{quick-set}
+use Rattle.ticks.proofs.Timing.{keeps-word-on, ignores-all-on}
 use Rattle.rack.specs.Shared.{pulls, sharedAt, sharedLevels, sharedLines, sharedTick}
 use Rattle.rack.specs.Supply.{mostCards}
 use Rattle.rack.specs.Rack.{anyLarge, badFronts, inputFor, lowLines, ticksFrom, tickedRow, idleAnswer, rowAnswers}
-use Rattle.rack.specs.Alone.{SharedWoken, NoPush, AloneInRow}
+use Rattle.rack.specs.Alone.{SharedWoken, SharedTicks, sharedStep, SharedKeepsWord, NoPush, AloneInRow}
 
 module _ (n : ℕ) where
   pub shared-woken : SharedWoken n
@@ -31,6 +33,15 @@ module _ (n : ℕ) where
       let l = sharedLines n c input low in
       ap (λ (b : Bool). bitAt (cond b (tickedOn n false c l) (idle c) .answer .woken) i) (eq-eqb _ _ own)
       ∙ quick-set n (c .cells) (c .edited) (wiresOf (c .memory) (l .levels)) i h
+
+  -- a step on shared lines is a rack tick of the card
+  pub shared-step : (c : Card) (t : SharedTicks) → stepped n c (sharedStep n c t) ≡ sharedTick n (t .0) c (t .1 .0) (t .1 .1)
+  unfolding sharedTick
+  shared-step c t = refl
+
+  pub shared-keeps-word : SharedKeepsWord n
+  unfolding SharedKeepsWord
+  shared-keeps-word = (keeps-word-on n SharedTicks (sharedStep n), ignores-all-on n SharedTicks (sharedStep n))
 
   -- ---- the levels of one card
 
