@@ -1,0 +1,120 @@
+// The modules inside a page against the programs of target/bin and the stored outputs, and the page's own reading of what they write.
+import fs from 'node:fs';
+import path from 'node:path';
+import { spawnSync } from 'node:child_process';
+import { runBytes, programsOf } from './programs.js';
+import { runSession, cardAfter, splitLines, asInput, truthTable } from './session.js';
+import { TOP, PROGRAMS, makePage } from './make.mjs';
+import { randomLines, randomWiring } from './random.mjs';
+import { expect } from './expect.mjs';
+
+const NAMES = PROGRAMS.map((p) => p.name);
+const RANDOM_INPUTS = 40;
+const RANDOM_LINES = 500;
+
+const sameBytes = (a, b) => Buffer.compare(Buffer.from(a), Buffer.from(b)) === 0;
+
+// The modules as the page has them.
+export function modulesIn(page) {
+  const [, json] = page.match(/<script type="application\/json" id="wasm">(.*?)<\/script>/s);
+  return Object.fromEntries(Object.entries(JSON.parse(json)).map(([name, base64]) => [name, Buffer.from(base64, 'base64')]));
+}
+
+// The page is made of the files here and of the papers as they are, with the modules that it has.
+export function comparePage(page, bytes, work) {
+  for (const [name, b] of Object.entries(bytes)) fs.writeFileSync(path.join(work, `${name}.wasm`), b);
+  expect('its programs are those of programs.json', Object.keys(bytes), NAMES);
+  expect('docs/card.html is the page that clients/web/make makes: else make it anew', makePage(work) === page, true);
+}
+
+// Modules that were made here of the programs as they are now, which their stamps say, are those of the page.
+export function compareModules(bytes) {
+  const read = (...parts) => (fs.existsSync(path.join(TOP, 'target', ...parts)) ? fs.readFileSync(path.join(TOP, 'target', ...parts)) : Buffer.alloc(0));
+  const made = NAMES.filter((name) => read('stamp', name).length && sameBytes(read('stamp', name), read('web', `${name}.stamp`)));
+  for (const name of made) expect(`the page has the module of ${name} that was made here`, sameBytes(bytes[name], read('web', `${name}.wasm`)), true);
+  console.log(`modules ${made.length} of ${NAMES.length} compared with those in target/web`);
+}
+
+// ---- stored sessions
+
+// Every input that a crate of the gate has: its stdin, and its data. Those of larger cards and rows of hex are lines too, mostly refused.
+function storedInputs() {
+  const inputs = [];
+  for (const crate of fs.readdirSync(path.join(TOP, 'crates'))) {
+    const folder = path.join(TOP, 'crates', crate);
+    if (fs.existsSync(path.join(folder, 'stdin'))) inputs.push(path.join(folder, 'stdin'));
+    const data = path.join(folder, 'data');
+    if (fs.existsSync(data)) inputs.push(...fs.readdirSync(data).map((name) => path.join(data, name)).filter((file) => fs.statSync(file).isFile()));
+  }
+  return inputs;
+}
+
+// One input through both builds of every program.
+function compareInput(modules, where, input) {
+  for (const name of NAMES) {
+    const here = runBytes(modules[name], input);
+    const there = spawnSync(path.join(TOP, 'target', 'bin', name), { input, maxBuffer: 1 << 30 });
+    expect(`${name} < ${where} writes the same`, sameBytes(here.output, there.stdout), true);
+    expect(`${name} < ${where} writes the same errors`, here.errors, there.stderr.toString());
+  }
+  return input.filter((b) => b === 10).length;
+}
+
+export function compareBytes(modules) {
+  const files = storedInputs();
+  const lines = files.reduce((sum, file) => sum + compareInput(modules, path.relative(TOP, file), fs.readFileSync(file)), 0);
+  console.log(`bytes   ${files.length} stored inputs, ${lines} lines, ${NAMES.length} programs, in both builds`);
+}
+
+export function compareRandom(modules) {
+  const inputs = Array.from({ length: RANDOM_INPUTS }, (_, seed) => Buffer.from(asInput(randomWiring(seed + 1, RANDOM_LINES))));
+  const lines = inputs.reduce((sum, input, seed) => sum + compareInput(modules, `random wiring ${seed + 1}`, input), 0);
+  console.log(`random  ${inputs.length} wirings with ticks, ${lines} lines, ${NAMES.length} programs, in both builds`);
+}
+
+// Outputs that the gate stores: of each program by itself, and of plrun in crates/gate_replay.
+export function compareStored(modules) {
+  let compared = 0;
+  for (const name of NAMES) {
+    const [input, output] = ['stdin', 'stdout'].map((f) => path.join(TOP, 'crates', name, f));
+    if (!fs.existsSync(input)) continue;
+    expect(`${name} writes crates/${name}/stdout`, sameBytes(runBytes(modules[name], fs.readFileSync(input)).output, fs.readFileSync(output)), true);
+    compared += 1;
+  }
+  const replay = path.join(TOP, 'crates', 'gate_replay');
+  const parts = fs.readFileSync(path.join(replay, 'stdout'), 'latin1').split(/^([\w-]+\.(?:in|lines))\n/m).slice(1);
+  for (let i = 0; i < parts.length; i += 2) {
+    const { output } = runBytes(modules.plrun, fs.readFileSync(path.join(replay, 'data', parts[i])));
+    expect(`plrun answers ${parts[i]} as crates/gate_replay/stdout`, Buffer.from(output).toString('latin1') === parts[i + 1], true);
+    compared += 1;
+  }
+  for (const file of fs.readdirSync(path.join(TOP, 'examples')).filter((f) => f.endsWith('.lines'))) {
+    const picture = fs.readFileSync(path.join(TOP, 'docs', 'pictures', file.replace('.lines', '.svg')));
+    expect(`pldraw draws the picture of ${file}`, sameBytes(runBytes(modules.pldraw, fs.readFileSync(path.join(TOP, 'examples', file))).output, picture), true);
+    compared += 1;
+  }
+  console.log(`stored  ${compared} stored outputs`);
+}
+
+// ---- the page's reading
+
+export function compareReading(modules) {
+  const programs = programsOf(modules);
+  const files = storedInputs().filter((file) => /replay|reprint|examples/.test(file));
+  for (const file of files) {
+    const { lines } = splitLines(fs.readFileSync(file, 'latin1'));
+    const session = runSession(programs, lines);
+    expect(`probes leave the answers of ${path.basename(file)} as they are`, session.disagreements.slice(0, 5), []);
+    expect(`all words about ticks of ${path.basename(file)} are placed`, session.ticks.flatMap((e) => e.tick.other ?? []).slice(0, 3), []);
+  }
+  // lines that look like plexplain's own words
+  const odd = ['    The pointer is at cell 1 (constant).', ':A', 'W E', '    ', '36RDADC X?', '', 'T 0 0000 ffff Q', 'T -'];
+  expect('odd lines', runSession(programs, odd).disagreements, []);
+  expect('odd answers', runSession(programs, odd).entries.map((e) => e.answer), [':N-2', ':N-2', ':A 1', ':N-2', ':A 0', ':N-2', 'T 0000 0000 0000 0', ':N-2']);
+  const random = Array.from({ length: 300 }, (_, seed) => randomLines(seed + 1, 40)).find((lines) => runSession(programs, lines).disagreements.length);
+  expect('random lines', random ?? null, null);
+  const rows = truthTable(programs, { type: 4, configuration: 34953, slotCount: 4 }).rows.filter((r) => r.high).map((r) => r.p);
+  expect('34953 tried on the card', rows, [0, 3, 7, 11, 15]);
+  expect('fresh card', cardAfter(programs, []).connectors.slice(7, 9).map((c) => c.words), ['push-pull from 0, always low', 'input']);
+  console.log(`reading ${files.length} stored inputs, 12000 random lines`);
+}

@@ -1,0 +1,159 @@
+// The timing diagram: rows of levels, one column for each tick line. It draws what the session holds and decides nothing about the card.
+
+import { bitOf } from './session.js';
+
+const ROW = 24;
+const NARROW = 22;
+const WIDE = 40;
+const HEAD = 30;
+const HIGH = 5;
+const LOW = 19;
+
+// ---- which rows
+
+// Inputs, then cells, then outputs, in the order that the last card gives. A row is left out when it was never high and neither of the two cards speaks of
+// it: the last one, and the one at the line that is looked at, which gives the labels.
+export function rowsOf(session, last, at, showAll) {
+  const ticks = session.ticks.filter((e) => !e.tick.idle && !e.covered).map((e) => e.tick);
+  const named = new Set([last, at].flatMap((card) => [...card.cells, ...card.connectors]).flatMap((part) => part.names));
+  const rows = [];
+  const add = (row, wired) => {
+    if (showAll || named.has(row.name) || wired || ticks.some(row.level)) rows.push(row);
+  };
+  const isDriven = (c) => !c.isInput && c.address !== '0';
+  const isWired = (c) => c.typeName !== 'constant';
+  const connectors = (inputs) => last.connectors.forEach((c, i) => {
+    if (c.isInput === inputs) add(connectorRow(at.connectors[i], i), isDriven(c) || isDriven(at.connectors[i]));
+  });
+  connectors(true);
+  last.cells.forEach((c, i) => add(cellRow(at.cells[i]), isWired(c) || isWired(at.cells[i])));
+  connectors(false);
+  return rows;
+}
+
+const connectorRow = (c, i) => ({
+  name: c.name, group: c.isInput ? 'input' : 'output', label: c.isInput ? c.name : `${c.name} ← ${c.source}`, note: c.kind, help: `${c.name}: ${c.words}.`,
+  level: (t) => bitOf(t.levels, i),
+});
+
+const cellRow = (c) => ({
+  name: c.name, group: 'cell', cell: c.cell, label: c.name, note: c.typeName, help: `${c.name} (${c.typeName}): ${c.words.join('; ')}`,
+  level: (t) => bitOf(t.cells, c.cell - 1), woken: (t) => bitOf(t.woken, c.cell - 1),
+});
+
+// ---- the drawing
+
+export const columnWidthFor = (count, room) => Math.max(NARROW, Math.min(WIDE, Math.floor((room - 2) / Math.max(count, 1))));
+export const columnAt = (x, count, column) => Math.max(0, Math.min(count - 1, Math.floor(x / column)));
+export const rowAt = (y) => Math.floor(y / ROW);
+export const ROW_HEIGHT = ROW;
+export const HEAD_HEIGHT = HEAD;
+
+// Columns are drawn from `from` up to `to`: those in sight, where there are many. The heads of the columns are a drawing of their own, since they stay in
+// sight when the rows are scrolled.
+export function drawWaves(session, rows, column, from, to) {
+  const columns = session.ticks.slice(from, to);
+  const height = rows.length * ROW;
+  const body = [
+    columnBands(columns, height, column),
+    rows.map((row, i) => rowGround(row, i, columns, column)).join(''),
+    grid(columns, height, column),
+    rows.map((row, i) => `<path class="wave ${row.group}" d="${wavePath(row, columns, i * ROW, column)}"/>`).join(''),
+  ];
+  const heads = columnBands(columns, HEAD, column) + columnHeads(columns, column) + editMarks(session, column, from, to);
+  return { width: columns.length * column + 1, height, heads, body: body.join('') };
+}
+
+const rect = (cls, x, y, w, h, more = '') => `<rect class="${cls}" x="${x}" y="${y}" width="${w}" height="${h}" ${more}/>`;
+
+function columnBands(columns, height, column) {
+  return columns.map((e, i) => {
+    if (e.covered) return rect('covered', i * column, 0, column, height);
+    if (e.tick.idle) return rect('idle', i * column, 0, column, height);
+    return e.tick.full ? rect('full', i * column, 0, column, height) : '';
+  }).join('');
+}
+
+// Woken cells are tinted by plrun's woken set. In a full tick every cell is in it; those that plexplain names with another reason stand out.
+function rowGround(row, i, columns, column) {
+  const y = i * ROW;
+  const line = `<path class="rule" d="M0 ${y + ROW - 0.5}H${columns.length * column}"/>`;
+  if (!row.woken) return line;
+  const paths = { woken: '', 'woken-full': '' };
+  let counts = '';
+  columns.forEach((e, c) => {
+    if (e.tick.idle || e.covered || !row.woken(e.tick)) return;
+    const words = e.tick.cellWords.find((w) => w.cell === row.cell);
+    paths[words && !words.onlyFull ? 'woken' : 'woken-full'] += `M${c * column} ${y + 1}h${column}v${ROW - 2}h${-column}z`;
+    counts += countText(words, c * column + column / 2, y + ROW / 2 + 3, column);
+  });
+  return Object.entries(paths).map(([cls, d]) => (d ? `<path class="${cls}" d="${d}"/>` : '')).join('') + counts + line;
+}
+
+// The count that plexplain gives for a timer or a counter; three dots where it does not fit.
+function countText(words, x, y, column) {
+  const count = words?.text.match(/, count (\d+)\.$/)?.[1];
+  return count ? `<text class="count" x="${x}" y="${y}">${count.length * 6 < column ? count : '…'}</text>` : '';
+}
+
+function grid(columns, height, column) {
+  return `<path class="grid" d="${columns.map((_, i) => `M${i * column + 0.5} 0V${height}`).join('')}"/>`;
+}
+
+function columnHeads(columns, column) {
+  return columns.map((e, i) => {
+    const x = i * column + column / 2;
+    const kind = e.covered ? '?' : e.tick.idle ? '–' : e.tick.full ? 'F' : '';
+    const every = !e.tick.idle && (column >= 28 || e.tick.number === 1 || e.tick.number % 5 === 0);
+    return (every ? `<text class="number" x="${x}" y="11">${e.tick.number}</text>` : '') + (kind ? `<text class="kind" x="${x}" y="23">${kind}</text>` : '');
+  }).join('');
+}
+
+// A small mark between two ticks where lines that are no ticks stand.
+function editMarks(session, width, from, to) {
+  const marks = [];
+  for (let column = Math.max(from, 1); column <= to; column += 1) {
+    const between = session.entries.slice(session.ticks[column - 1].index + 1, session.ticks[column]?.index);
+    if (between.length) marks.push(editMark((column - from) * width, between));
+  }
+  return marks.join('');
+}
+
+const LINES_IN_MARK = 20;
+
+function editMark(x, entries) {
+  const shown = entries.slice(0, LINES_IN_MARK);
+  const refused = shown.some((e) => e.kind === 'refused' && !e.covered);
+  const title = shown.map((e) => `${e.line}   ${e.covered ? '?' : e.answer}`).join('\n');
+  return `<path class="edit${refused ? ' refused' : ''}" d="M${x - 4} ${HEAD - 10}h8l-4 7z"><title>${escapeText(title)}</title></path>`;
+}
+
+function wavePath(row, columns, top, column) {
+  let path = '';
+  let level = false;
+  columns.filter((e) => !e.covered).forEach((e, i) => {
+    const now = e.tick.idle ? level : row.level(e.tick);
+    const y = top + (now ? HIGH : LOW);
+    path += i === 0 ? `M0 ${y}` : now !== level ? `V${y}` : '';
+    path += `H${(i + 1) * column}`;
+    level = now;
+  });
+  return path;
+}
+
+// What is predicted for the first covered tick. A mark of waking has a frame.
+export function drawGuess(rows, column, left, cover) {
+  return rows.map((r, i) => `<path class="guess" d="M${left + 2} ${i * ROW + (cover.high[r.name] ? HIGH : LOW)}h${column - 4}"/>${
+    cover.wakes[r.name] ? rect('guess-wakes', left + 1, i * ROW + 1, column - 2, ROW - 3, 'rx="4"') : ''}`).join('');
+}
+
+// Where a tick was not as predicted.
+export function drawMisses(rows, column, left, missed) {
+  return missed.map(({ name, kind }) => {
+    const y = rows.findIndex((r) => r.name === name) * ROW;
+    if (y < 0) return '';
+    return kind === 'high' ? rect('miss', left + 1, y + 1, column - 2, ROW - 3, 'rx="4"') : rect('miss wakes', left + 4, y + 4, column - 8, ROW - 9, 'rx="2"');
+  }).join('');
+}
+
+export const escapeText = (s) => s.replace(/[&<>"]/g, (c) => ({ '&': '&amp;', '<': '&lt;', '>': '&gt;', '"': '&quot;' })[c]);

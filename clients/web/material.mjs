@@ -1,0 +1,114 @@
+// What the page takes from the papers: examples, first wiring, classroom errors, presets and the steps of a tick, so that it has no second copy of them.
+import fs from 'node:fs';
+import path from 'node:path';
+
+const read = (...parts) => fs.readFileSync(path.join(...parts), 'utf8');
+
+// ---- a little Markdown, as much as the examples and the manual use
+
+const escapeHtml = (s) => s.replace(/[&<>]/g, (c) => ({ '&': '&amp;', '<': '&lt;', '>': '&gt;' })[c]);
+
+const inline = (s) => escapeHtml(s)
+  .replace(/!\[[^\]]*\]\([^)]*\)/g, '')
+  .replace(/\[([^\]]*)\]\([^)]*\)/g, '$1')
+  .replace(/`([^`]*)`/g, '<code>$1</code>')
+  .replace(/\*\*([^*]*)\*\*/g, '<strong>$1</strong>');
+
+const cellsOf = (row) => row.replace(/^\||\|$/g, '').split('|').map((c) => c.trim());
+
+function table(rows) {
+  const [head, , ...body] = rows.map(cellsOf);
+  const line = (tag, cells) => `<tr>${cells.map((c) => `<${tag}>${inline(c)}</${tag}>`).join('')}</tr>`;
+  return `<table><thead>${line('th', head)}</thead><tbody>${body.map((r) => line('td', r)).join('')}</tbody></table>`;
+}
+
+const list = (block) => `<ul>${block.slice(2).split('\n- ').map((i) => `<li>${inline(i.replace(/\n/g, ' '))}</li>`).join('')}</ul>`;
+
+function markdown(text) {
+  return text.trim().split(/\n\s*\n/).map((block) => {
+    if (block.startsWith('#')) return '';
+    if (block.startsWith('|')) return table(block.split('\n'));
+    if (block.startsWith('```')) return remarks(block);
+    if (block.startsWith('- ')) return list(block);
+    const html = inline(block.replace(/\n/g, ' ')).trim();
+    return html ? `<p>${html}</p>` : '';
+  }).join('');
+}
+
+// A block of the manual: its lines with their remarks. The answers are left out, since the page shows its own.
+function remarks(block) {
+  const rows = runOf(block).map((r) => `<tr><td><code>${escapeHtml(r.line)}</code></td><td>${inline(r.remark)}</td></tr>`);
+  return `<table class="remarks"><tbody>${rows.join('')}</tbody></table>`;
+}
+
+// The manual's examples load a saved card first. On the page every wiring has a fresh card of its own, so `L` at the start of one is left out.
+function runOf(block) {
+  const rows = [];
+  for (const text of block.split('\n')) {
+    if (text.startsWith('> ')) rows.push({ line: text.slice(2).replace(/\s+#.*$/, ''), remark: '' });
+    else if (rows.length && text.includes('#')) rows.at(-1).remark = text.slice(text.indexOf('#') + 1).trim();
+  }
+  return rows[0]?.line === 'L' ? rows.slice(1) : rows;
+}
+
+const linesIn = (section) => (section.match(/```[\s\S]*?```/g) ?? []).flatMap((b) => runOf(b).map((r) => r.line)).map((l) => l + '\n').join('');
+
+// ---- the parts
+
+// A section is found by its title, whatever its number is.
+function section(manual, title) {
+  const sections = manual.split(/^## \d+ /m);
+  const found = sections.find((text) => text.startsWith(`${title}\n`));
+  if (!found) throw new Error(`the manual has no section "${title}"`);
+  return found.slice(title.length);
+}
+
+function firstWiring(manual) {
+  const text = section(manual, 'A first wiring');
+  const [block] = text.match(/```[\s\S]*?```/);
+  const intro = text.slice(0, text.indexOf('Make an empty file'));
+  return { name: 'first', title: 'A first wiring', lines: linesIn(block), html: markdown(intro) + remarks(block) };
+}
+
+// The three steps of a tick: the first sentence of each.
+const tickSteps = (manual) => section(manual, 'How a tick goes').match(/^\d\. .*$/gm).map((l) => l.slice(3).replace(/\. .*/, '.'));
+
+function classroomErrors(manual) {
+  return section(manual, 'Four classroom errors').split('\n### ').slice(1).map((text, i) => ({
+    name: `error-${i + 1}`, title: text.slice(0, text.indexOf('\n')), lines: linesIn(text), html: markdown(text.slice(text.indexOf('\n'))),
+  }));
+}
+
+function exampleWirings(top) {
+  const rows = read(top, 'examples', 'README.md').split('\n').filter((l) => /^\| [a-z]/.test(l) && !l.startsWith('| wiring')).map(cellsOf);
+  return rows.map(([name, title]) => ({ name, title, lines: read(top, 'examples', `${name}.lines`), html: markdown(read(top, 'examples', `${name}.md`)) }));
+}
+
+// What a person looks up while wiring: the first tables of these sections, with a heading each.
+const TABLES = [
+  ['Lines', 'Lines'], ['A first wiring', 'The answer of a tick'], ['Cells', 'Cells'], ['Addresses', 'Addresses'], ['Connectors', 'Connectors'],
+  ['Words and their bits', 'Words and their bits'], ['When the card says no', 'When the card says no'],
+];
+
+const firstTable = (text) => table(text.match(/^(\|.*\n)+/m)[0].trim().split('\n'));
+
+const wiringTables = (manual) => TABLES.map(([title, heading]) => `<h2>${heading}</h2>${firstTable(section(manual, title))}`).join('');
+
+// "| 5, 6, 7, 8 | ... |" and "| 37 to 43 | ... |"
+function presetTable(manual) {
+  const rows = section(manual, 'Presets').split('\n').filter((l) => /^\| \d/.test(l)).map(cellsOf);
+  return rows.map(([numbers, text]) => ({ numbers: numbers.split(', ').flatMap(spread), text }));
+}
+
+function spread(part) {
+  const [from, to = from] = part.split(' to ').map(Number);
+  return Array.from({ length: to - from + 1 }, (_, i) => from + i);
+}
+
+export function materialOf(top) {
+  const manual = read(top, 'docs', 'MANUAL.md');
+  return {
+    first: [firstWiring(manual)], errors: classroomErrors(manual), examples: exampleWirings(top),
+    presets: presetTable(manual), steps: tickSteps(manual), tables: wiringTables(manual),
+  };
+}

@@ -1,0 +1,206 @@
+// The tabs: what plexplain says of the line that is looked at, the card at that line, what each program makes of all lines, and predictions.
+
+import { decoded } from './programs.js';
+import { truthTable, bitOf } from './session.js';
+import { escapeText } from './diagram.js';
+import { foundWords, totals } from './predict.js';
+import { when } from './runs.js';
+import { state, view, programs, cardAt, outputFor } from './state.js';
+import { byId, capital, count, failed } from './dom.js';
+
+const panel = { steps: [], tabs: [], asked: 0 };
+
+// ---- which tabs
+
+// `covers` says whether the tab would give covered ticks away.
+export function buildTabs(table, steps) {
+  const ofPrograms = [...new Set(table.map((p) => p.tab).filter(Boolean))].map((title) => {
+    const its = table.filter((p) => p.tab === title);
+    return { id: its[0].name, title, html: () => programsHtml(its), covers: () => its.some((p) => p.tellsTicks) };
+  });
+  panel.steps = steps;
+  panel.tabs = [
+    { id: 'line', title: 'This line', html: lineHtml },
+    { id: 'card', title: 'Card', html: cardHtml, covers: () => state.selected >= state.cover.from },
+    ...ofPrograms,
+    { id: 'score', title: 'Predictions', html: scoreHtml, needs: () => state.score.length },
+    { id: 'about', title: 'About the example', html: aboutHtml, needs: () => state.about },
+  ];
+  byId('tabs').innerHTML = panel.tabs.map((t) => `<button role="tab" id="tab-${t.id}" aria-controls="panel">${t.title}</button>`).join('');
+}
+
+export const tabIds = () => tabsNow().map((t) => t.id);
+
+const tabsNow = () => panel.tabs.filter((t) => !t.needs || t.needs());
+
+export function showTabs() {
+  const now = tabIds();
+  const chosen = now.includes(state.tab) ? state.tab : 'line';
+  for (const { id } of panel.tabs) {
+    const button = byId(`tab-${id}`);
+    button.hidden = !now.includes(id);
+    button.setAttribute('aria-selected', id === chosen);
+    button.tabIndex = id === chosen ? 0 : -1;
+  }
+  byId('panel').setAttribute('aria-labelledby', `tab-${chosen}`);
+}
+
+// What a worker has yet to give is shown when it comes, unless something else is looked at by then.
+export function showPanel(marked = null) {
+  const tab = tabsNow().find((t) => t.id === state.tab) ?? panel.tabs[0];
+  const asked = ++panel.asked;
+  const covered = state.cover && tab.covers?.();
+  const html = covered ? '<p class="quiet">Covered until the ticks are uncovered.</p>' : tab.html();
+  if (html instanceof Promise) byId('panel').innerHTML = '<p class="quiet">Running …</p>';
+  when(html, (found) => {
+    if (asked === panel.asked) byId('panel').innerHTML = found;
+  })?.catch?.(failed);
+  if (marked) byId('panel').querySelector(`[data-mark="${marked}"]`)?.focus();
+}
+
+export function openTab(id) {
+  state.tab = id;
+  showTabs();
+  showPanel();
+  byId('panel').scrollTop = 0;
+  byId(`tab-${id}`).scrollIntoView({ block: 'nearest', inline: 'nearest' });
+}
+
+// ---- the line that is looked at
+
+// Who a sentence is about stands out: "cell 2 (one-shot)", "BNC1", "Driven high".
+const withSubject = (text) => escapeText(text).replace(/^(cell \d+|BNC\d|TTL\d|Driven high|High cells)/, '<b>$1</b>');
+const said = (texts) => texts.map((t) => `<p class="said">${withSubject(t)}</p>`).join('');
+
+function lineHtml() {
+  const entry = view.session.entries[state.selected];
+  if (!entry) return '<p class="quiet">Type lines, or take an example. The tables say what each line, cell and address means. Then give the card a tick.</p>';
+  if (entry.covered) return predictionHtml(entry);
+  const head = `<h3>${headingOf(entry)}</h3>`;
+  if (entry.kind === 'tick') return head + verdictHtml(entry) + stepsHtml(entry.tick);
+  const words = `${head}<div class="said ${entry.kind}">${escapeText(entry.words.join('\n'))}</div>`;
+  return when(lookupAt(entry), (lookup) => `${words}${lookup}${pointerHtml(entry)}`);
+}
+
+// A line at a lookup shows at once what its code does.
+function lookupAt(entry) {
+  const cell = entry.pointer.match(/^cell (\d+) \(lookup/)?.[1];
+  return cell ? when(cardAt(entry.index), (card) => `<div class="card">${lookupHtml(card.cells[cell - 1])}</div>`) : '';
+}
+
+function headingOf(entry) {
+  const what = entry.kind === 'tick' ? `Tick ${entry.tick.number}, ${entry.tick.full ? 'full' : 'quick'}` : `Line ${entry.index + 1}`;
+  return `${what} <code>${escapeText(entry.line)}</code> <code class="${entry.kind}">${escapeText(entry.answer)}</code>`;
+}
+
+const pointerHtml = (entry) => (entry.kind === 'idle' ? '' : `<p class="quiet">Pointer after this line: ${escapeText(entry.pointer)}</p>`);
+
+// The manual's three steps, and under each what plexplain says of it. So it is seen that not everything changes together.
+function stepsHtml(t) {
+  const [drive, levels, cells] = panel.steps.map(escapeText);
+  const quietOnes = t.cellWords.filter((w) => w.onlyFull);
+  const loudOnes = t.cellWords.filter((w) => !w.onlyFull);
+  const texts = (list) => said(list.map((w) => w.text));
+  const fold = `<details><summary>${count(quietOnes.length, 'cell')} only because the tick is full</summary>${texts(quietOnes)}</details>`;
+  const step = (rule, words) => `<li><p class="step">${rule}</p><div>${words}</div></li>`;
+  const steps = [
+    step(drive, said(t.drivenWords)),
+    step(levels, said(t.lineWords)),
+    step(cells, texts(loudOnes) + (quietOnes.length ? fold : '') + said(t.highWords)),
+  ];
+  return `<ol class="steps">${steps.join('')}</ol>${said(t.other)}`;
+}
+
+// ---- predictions
+
+function predictionHtml(entry) {
+  if (entry.index !== state.cover.from) return `<p class="quiet">Covered. <button data-next>Predict the first covered tick</button></p>`;
+  const box = (kind, r) => `<label><input type="checkbox" data-mark="${kind} ${r.name}" ${state.cover[kind][r.name] ? 'checked' : ''}> ${kind}</label>`;
+  const row = (r) => `<div role="group" aria-label="${r.name}"><b>${r.name}</b> ${box('high', r)} ${r.woken ? box('wakes', r) : ''}</div>`;
+  return `<h3>What will tick ${entry.tick.number} do? <code>${escapeText(entry.line)}</code></h3>
+    <p class="quiet">Mark what will be high behind it, here or in the picture, and which cells wake (in the picture with Shift).
+    Levels start as in the tick before.</p>
+    <div class="marks">${view.rows.map(row).join('')}</div>
+    <p class="tools"><button class="main" data-uncover>Uncover</button> <button data-uncover-all>Show all, count no more</button> ${totalHtml()}</p>`;
+}
+
+function verdictHtml(entry) {
+  const verdict = state.score.find((t) => t.index === entry.index);
+  if (!verdict) return '';
+  const { asked, missed } = verdict;
+  const text = missed.length ? `${asked - missed.length} of ${asked} as predicted. Not as predicted: ${missed.map(foundWords).join(', ')}.`
+    : `All ${asked} as predicted.`;
+  const next = state.cover ? `<button class="main" data-next>Predict tick ${view.session.entries[state.cover.from].tick.number}</button>` : '';
+  return `<div class="tools"><p class="verdict${missed.length ? ' missed' : ''}">${text}</p>${next} ${totalHtml()}</div>`;
+}
+
+function totalHtml() {
+  const { ticks, perfect, right, asked } = totals(state.score);
+  return ticks ? `<span class="quiet total">So far ${perfect} of ${count(ticks, 'tick')} without a miss, ${right} of ${asked} marks right.</span>` : '';
+}
+
+function scoreHtml() {
+  const { ticks, perfect, right, asked } = totals(state.score);
+  const rows = state.score.map((t) => `<tr><th scope="row">tick ${t.number}</th><td>${t.asked - t.missed.length} of ${t.asked}</td><td>${
+    escapeText(t.missed.map(foundWords).join(', '))}</td></tr>`);
+  return `<h3>${perfect} of ${count(ticks, 'tick')} without a miss, ${right} of ${asked} marks right</h3>
+    <table class="card"><thead><tr><th>tick</th><th>as predicted</th><th>not as predicted</th></tr></thead><tbody>${rows.join('')}</tbody></table>`;
+}
+
+// ---- the card
+
+function cardHtml() {
+  return when(cardAt(state.selected), (at) => {
+    const named = new Set([...at.cells, ...at.connectors].flatMap((p) => p.names));
+    const cells = at.cells.filter((c) => c.typeName !== 'constant' || named.has(c.name) || c.configuration);
+    const wires = at.connectors.filter((c) => (c.isInput ? named.has(c.name) : c.address !== '0'));
+    if (cells.length + wires.length === 0) return '<p class="quiet">Nothing is wired yet.</p>';
+    const rows = [...cells.map(cellHtml), ...wires.map(wireHtml)];
+    return `<h3>Card after line ${state.selected + 1}</h3><table class="card"><tbody>${rows.join('')}</tbody></table>`;
+  });
+}
+
+const cellHtml = (c) => `<tr><th scope="row">${c.name}</th><td>${escapeText(c.typeName)}</td><td>${escapeText(c.words.join(' '))}${lookupHtml(c)}</td></tr>`;
+
+const wireHtml = (c) => `<tr><th scope="row">${c.name}</th><td>${escapeText(c.kind)}</td><td>${
+  c.isInput ? '' : `from ${c.address}, ${escapeText(c.source)}`}</td></tr>`;
+
+const isLookup = (c) => c.typeName.startsWith('lookup');
+
+// A lookup code is easily copied wrong: every combination is tried on the card, and shown.
+function lookupHtml(c) {
+  if (!isLookup(c)) return '';
+  const { slots, rows: tried } = truthTable(programs(), c);
+  const line = (name, cell) => `<tr><th scope="row">${name}</th>${tried.map((r) => `<td class="${r.high ? 'high' : ''}">${cell(r)}</td>`).join('')}</tr>`;
+  return `<table class="truth"><caption>code ${c.configuration}, tried on the card in every combination</caption><tbody>${line('p', (r) => r.p)}${
+    slots.map((s, i) => line(s, (r) => (bitOf(r.p, i) ? 1 : 0))).join('')}${line('output', (r) => `<b>${r.high ? 1 : 0}</b>`)}</tbody></table>`;
+}
+
+// ---- what programs make of all lines
+
+const SHOWN = 200000; // characters of a program's output; the file has all
+
+function programsHtml(table) {
+  const shown = table.filter((p) => !p.onlySaved);
+  const outputs = shown.map((p) => outputFor(p.name));
+  const all = outputs.some((o) => o instanceof Promise) ? Promise.all(outputs) : outputs;
+  return when(all, (found) => `<p class="tools">${table.map(saveHtml).join(' ')}</p>${shown.map((p, i) => outputHtml(p, found[i])).join('')}`);
+}
+
+const saveHtml = (p) => `<span><button data-save="${p.name}" data-file="${p.file}">Save as ${p.file}</button>
+  <span class="quiet">what ${p.name} ${p.does} for these lines</span></span>`;
+
+function outputHtml(p, { output, errors }) {
+  const complaint = errors ? `<p class="bad said">${escapeText(errors)}</p>` : '';
+  if (p.image) return complaint + imageHtml(output);
+  const text = decoded(output.subarray(0, SHOWN));
+  return `${complaint}<pre class="${p.name}">${escapeText(text)}</pre>${output.length > SHOWN ? '<p class="quiet">… The saved file has all of it.</p>' : ''}`;
+}
+
+// As an image, so that the styles inside the picture stay inside.
+export const imageHtml = (output) => `<img class="picture" alt="Timing diagram of these lines, drawn by pldraw"
+  src="data:image/svg+xml,${encodeURIComponent(decoded(output))}">`;
+
+function aboutHtml() {
+  return `<h3>${escapeText(capital(state.about.title))}</h3><div class="prose">${state.about.html}</div>`;
+}

@@ -1,0 +1,13 @@
+// The picture of the page for README, docs/pictures/card.png:  node clients/web/picture.mjs
+import path from 'node:path';
+import { pathToFileURL } from 'node:url';
+import { TOP } from './make.mjs';
+import { openBrowser } from './browser.mjs';
+
+const { page, close } = await openBrowser();
+await page.size(1280, 720);
+await page.open(pathToFileURL(path.join(TOP, 'docs', 'card.html')).href);
+await page.press('#tab-line');
+await page.press('#answers [data-line="7"]');
+await page.shot(path.join(TOP, 'docs', 'pictures', 'card.png'));
+await close();

@@ -1,0 +1,250 @@
+// The page in a browser: what a person does there, and what is shown.
+import fs from 'node:fs';
+import path from 'node:path';
+import { TOP } from './make.mjs';
+import { materialOf } from './material.mjs';
+import { expect } from './expect.mjs';
+
+const SHIFT = 8;
+const focusLines = (page) => page.evaluate('document.getElementById("text").focus()');
+const leaveLines = (page) => page.evaluate('document.activeElement.blur()');
+const answers = (page) => page.texts('#answers b');
+const switchTtl0 = (page) => page.key(')', 'Digit0', { modifiers: SHIFT });
+const quick = (page) => page.key('q', 'KeyQ');
+const pause = (ms) => new Promise((resolve) => setTimeout(resolve, ms));
+
+// With the mouse and the keyboard only: the manual's first example, its picture, and why each cell woke.
+export async function wiresFirstExample(page) {
+  await page.press('#new');
+  await page.press('#text');
+  for (const line of ['M E=1', '36CCA Y=14', '36CCA Z=2', '36CCB X=41 Y=192', 'M E=35']) {
+    await page.type(line);
+    await page.key('Enter', 'Enter', { text: '\r' });
+  }
+  await page.type('36CCA Z=1');
+  expect('answers', await answers(page), [':A', ':A', ':A', ':A', ':A', ':A']);
+  expect('open last line is said', (await page.text('#hint')).startsWith('The last line has no line end yet.'), true);
+  await page.press('#quick');
+  await page.press('#switch-8');
+  for (let i = 0; i < 3; i += 1) await page.press('#quick');
+  await page.press('#switch-8');
+  await page.press('#quick');
+  const wanted = ['T 0000 0000 0001 1', 'T 0000 0001 0001 1', 'T 0004 0001 0001 1', 'T 0004 0000 0001 1', 'T 0000 0000 0000 0'];
+  expect('ticks', (await answers(page)).slice(6), wanted);
+  expect('hint is gone', await page.text('#hint'), '');
+  expect('rows', await page.texts('#labels b'), ['TTL0', 'cell 1', 'BNC3 ← cell 1']);
+  expect('woken columns', await page.evaluate('document.querySelector("#drawing .woken").getAttribute("d").match(/M/g).length'), 4);
+  expect('counts in the row of cell 1', await page.evaluate('[...document.querySelectorAll("#drawing .count")].map(t => t.textContent)'), ['0', '2', '1', '0']);
+  await page.press('#tab-pldraw');
+  await page.until('document.querySelector("#panel .picture")?.complete');
+  expect('its picture', await page.evaluate('document.querySelector("#panel .picture").naturalWidth > 100'), true);
+  await page.press('#tab-plsurvey');
+  expect('its survey', await page.text('#panel pre'), 'TTL0: cells 1; BNC3\nBNC3 <- TTL0\n');
+}
+
+export async function looksAtReasons(page) {
+  await page.press('#tab-line');
+  await leaveLines(page);
+  await page.key('Home');
+  await page.key('ArrowRight');
+  const panel = await page.text('#panel');
+  expect('tick 2 is looked at', panel.split('\n')[0].startsWith('Tick 2, quick'), true);
+  expect('its reason', panel.includes('cell 1 (one-shot): X (trigger) is high (169, rise of TTL0). Output goes high, count 2.'), true);
+  expect('its line', panel.includes('TTL0 goes high: input.'), true);
+  await page.key('ArrowRight');
+  expect('lamp of BNC3', await page.evaluate('document.getElementById("lamp-2").className'), 'lamp high driven');
+  expect('slider', await page.evaluate('document.getElementById("waves").getAttribute("aria-valuetext")'), 'tick 3, quick; high: TTL0, cell 1, BNC3');
+  await page.click('#undo');
+  expect('undo takes one tick', (await answers(page)).length, 10);
+  await page.key('r', 'KeyR');
+  expect('redo gives it again', (await answers(page)).length, 11);
+}
+
+// Nothing of a covered tick is seen before it is uncovered. Levels and waking are marked, and counted.
+export async function predicts(page) {
+  await page.click('#predict');
+  await switchTtl0(page);
+  await quick(page);
+  expect('covered answer', (await answers(page)).at(-1), '?');
+  expect('lamps stay', await page.evaluate('document.querySelectorAll(".lamp.high").length'), 0);
+  expect('question', (await page.text('#panel')).startsWith('What will tick 6 do?'), true);
+  for (const tab of ['plexplain', 'pldraw', 'card']) {
+    await page.click(`#tab-${tab}`);
+    expect(`${tab} does not tell`, await page.text('#panel'), 'Covered until the ticks are uncovered.');
+  }
+  await page.click('#tab-line');
+  await page.press('[data-mark="high cell 1"]');
+  await page.key('a', 'KeyA');
+  expect('uncovered answer', (await answers(page)).at(-1), 'T 0000 0001 0001 1');
+  expect('verdict', await page.text('.verdict'), '2 of 4 as predicted. Not as predicted: TTL0 is high, cell 1 wakes.');
+  await quick(page);
+  await page.press('[data-mark="wakes cell 1"]');
+  await page.press('[data-mark="high BNC3"]');
+  await page.press('[data-uncover]');
+  expect('second verdict', await page.text('.verdict'), 'All 4 as predicted.');
+  expect('counted', await page.text('.total'), 'So far 1 of 2 ticks without a miss, 6 of 8 marks right.');
+  await quick(page);
+  await page.click('#undo');
+  await page.key('r', 'KeyR');
+  expect('undo and redo do not tell', (await answers(page)).at(-1), '?');
+  await page.click('#undo');
+  await page.click('#tab-score');
+  expect('listed', await page.texts('#panel tbody td'), ['2 of 4', 'TTL0 is high, cell 1 wakes', '4 of 4', '']);
+  await page.click('#predict');
+}
+
+// A teacher covers the first wiring from tick 2 on and hands out the link; a student opens it.
+export async function doesExercise(page, url) {
+  await page.click('#examples [data-group=first]');
+  await page.press('#open-exercise');
+  await page.evaluate('document.getElementById("exercise-from").value = 2');
+  await page.press('#exercise-copy');
+  await page.until('document.getElementById("exercise-link").value.includes("&x=8")');
+  const link = await page.evaluate('document.getElementById("exercise-link").value');
+  expect('the link is to this page', link.startsWith(`${url}#w=`), true);
+  await page.open(link);
+  expect('ticks 2 to 9 are covered', (await answers(page)).slice(6), ['T 0000 0000 0001 1', ...Array(8).fill('?')]);
+  expect('the lines stay', await page.evaluate('document.getElementById("text").readOnly'), true);
+  await quick(page);
+  expect('no new tick', (await answers(page)).length, 15);
+  const drawing = await page.evaluate('(() => { const r = document.getElementById("drawing").getBoundingClientRect(); return [r.x, r.y]; })()');
+  const column = await page.evaluate('Number(document.getElementById("chosen").getAttribute("width"))');
+  const inPicture = (row, modifiers) => page.pressAt(drawing[0] + 1.5 * column, drawing[1] + 24 * row + 12, modifiers);
+  await inPicture(0, 0);
+  await inPicture(1, 0);
+  await inPicture(1, SHIFT);
+  await page.press('[data-uncover]');
+  expect('marked in the picture', await page.text('.verdict'), 'All 4 as predicted.');
+  expect('one is uncovered', (await answers(page)).slice(6, 9), ['T 0000 0000 0001 1', 'T 0000 0001 0001 1', '?']);
+  for (let i = 0; i < 7; i += 1) {
+    await page.press('[data-next]');
+    await page.press('[data-uncover]');
+  }
+  expect('all are uncovered', (await answers(page)).includes('?'), false);
+  expect('nothing to predict is left', await page.evaluate('document.querySelectorAll("[data-next]").length'), 0);
+  await page.click('#tab-score');
+  expect('counted to the end', await page.text('#panel h3'), '1 of 8 ticks without a miss, 17 of 32 marks right');
+}
+
+// The code that the class copies: the line itself shows what it does.
+export async function triesLookup(page) {
+  await page.click('#examples [data-group=errors][data-index="0"]');
+  await page.click('#tab-line');
+  await page.click('#answers [data-line="3"]');
+  expect('34953 at its line', (await page.text('#panel .truth caption')), 'code 34953, tried on the card in every combination');
+  expect('its output', (await page.texts('#panel .truth tr:last-child td')).join(''), '1001000100010001');
+}
+
+// BNC3 shows cell 1, and later cell 2: each tick has the label of its time.
+export async function labelsByTick(page) {
+  await page.click('#new');
+  await focusLines(page);
+  await page.type('M E=1\n36CCA Z=1\nM E=35\n36CCA Z=1\nT 0 0000 ffff Q\nT 0 0000 ffff Q\n36CCA Z=2\nT 0 0000 ffff Q\n');
+  await leaveLines(page);
+  expect('label at the end', (await page.texts('#labels b')).at(-1), 'BNC3 ← cell 2');
+  await page.key('Home');
+  expect('label at tick 1', (await page.texts('#labels b')).at(-1), 'BNC3 ← cell 1');
+  await page.key('End');
+  expect('label at tick 3', (await page.texts('#labels b')).at(-1), 'BNC3 ← cell 2');
+}
+
+export async function meetsRefusal(page) {
+  await page.click('#new');
+  await focusLines(page);
+  await page.type('M E=17\nM E=1');
+  expect('refusal is red beside the line', await page.text('#answers .refused'), ':N-5 the pointer cannot go to 17.');
+  await page.until('document.querySelectorAll("#refusals li").length === 1');
+  expect('and in full below', (await page.text('#refusals')).includes('5: the pointer cannot go to 17.'), true);
+  expect('tally', await page.text('#tally'), '2 lines, 0 ticks, 1 refused');
+  await leaveLines(page);
+}
+
+// Every wiring of the menu and every preset: no exception, no disagreement, and nothing refused.
+export async function opensEverything(page) {
+  const { examples, errors, presets } = materialOf(TOP);
+  const menu = [['first', 0], ...errors.map((_, i) => ['errors', i]), ...examples.map((_, i) => ['examples', i])];
+  const tabs = await page.evaluate('[...document.querySelectorAll("#tabs button")].map(b => b.id).filter(id => id !== "tab-score")');
+  for (const [group, index] of menu) {
+    await page.click(`#examples [data-group=${group}][data-index="${index}"]`);
+    const seen = [await page.evaluate('document.querySelectorAll("#answers .refused").length'), await page.text('#hint'), await page.text('#notice')];
+    expect(`${group} ${index}`, seen, [0, '', '']);
+    for (const tab of tabs) {
+      await page.click(`#${tab}`);
+      expect(`${tab} of ${group} ${index}`, (await page.evaluate('document.getElementById("panel").innerHTML')).length > 40, true);
+    }
+  }
+  await page.click('#new');
+  const numbers = presets.flatMap((p) => p.numbers);
+  for (const number of numbers) await page.click(`#presets [data-preset="${number}"]`);
+  expect('presets', await answers(page), numbers.map(() => ':A'));
+}
+
+const openFile = (page, name, text) => page.evaluate(`(() => { const data = new DataTransfer();
+  data.items.add(new File([${JSON.stringify(text)}], ${JSON.stringify(name)}));
+  const file = document.getElementById('file'); file.files = data.files; file.dispatchEvent(new Event('change')); })()`);
+
+export async function opensCarriageReturns(page) {
+  await openFile(page, 'word.lines', 'M E=2\r\nW E');
+  await page.until('document.getElementById("hint").innerText.includes("word.lines")');
+  expect('CR LF is taken', await answers(page), [':A', ':A 2']);
+  expect('and said', await page.text('#hint'), 'word.lines has CR LF at 1 line end. plrun refuses such lines; the page took the CRs out. '
+    + 'The last line of word.lines has no LF. plrun drops such a line; the page put the LF in.');
+  await page.evaluate(`(() => { URL.createObjectURL = (blob) => { window.saved = blob.text(); return 'about:blank#'; };
+    HTMLAnchorElement.prototype.click = () => {}; })()`);
+  await page.click('#save');
+  expect('saved file', await page.evaluate('window.saved'), 'M E=2\nW E\n');
+  await page.click('#tab-plprint');
+  await page.click('[data-save=plprint]');
+  expect('saved output', (await page.evaluate('window.saved')).startsWith('M E=1\n36CCA Y=0\n'), true);
+}
+
+// Long runs are made in a worker: the page says so meanwhile, and ends with the answers of the stored session. The last line of this one has no LF.
+export async function runsLong(page, url) {
+  await page.open(url);
+  const folder = path.join(TOP, 'crates', 'gate_replay');
+  await openFile(page, 'long.in', fs.readFileSync(path.join(folder, 'data', 'long.in'), 'latin1'));
+  await page.until('document.documentElement.classList.contains("running")');
+  expect('it says so', await page.text('#tally'), 'running 9518 lines …');
+  await page.until('!document.documentElement.classList.contains("running")', 60000);
+  const stored = fs.readFileSync(path.join(folder, 'stdout'), 'latin1').split('\nlong.in\n')[1].split('\n');
+  expect('the last answers', (await answers(page)).slice(-101, -1), stored.slice(9517 - 100, 9517));
+  await page.evaluate('document.getElementById("editor").scrollTop = 0');
+  await page.until('document.querySelector("#answers [data-line=\\"0\\"]")');
+  expect('the first answers', (await answers(page)).slice(0, 100), stored.slice(0, 100));
+  await page.click('#answers [data-line="20"]');
+  await page.click('#tab-card');
+  await page.until('/^Card after line 21|^Nothing is wired/.test(document.getElementById("panel").innerText)');
+  expect('nothing failed', await page.text('#notice'), '');
+}
+
+export async function followsLink(page, url) {
+  await page.click('#examples [data-group=examples][data-index="1"]');
+  const text = await page.evaluate('document.getElementById("text").value');
+  await pause(600);
+  const hash = await page.evaluate('location.hash');
+  await page.open(`${url}${hash}&l=20`);
+  expect('link to a tick', (await page.text('#panel')).split('\n')[0].startsWith('Tick 3, quick'), true);
+  expect(`link of ${hash.length} characters`, await page.evaluate('document.getElementById("text").value'), text);
+  await page.open(`${url}#w=%%%`);
+  expect('damaged link', await page.text('#notice'), 'The link is damaged: the wiring behind # could not be read.');
+}
+
+export async function fits(page) {
+  const cutOff = `[...document.querySelectorAll('.bench button, .bench input, .bench select, .diagram label')]
+    .filter(e => e.getBoundingClientRect().right > document.documentElement.clientWidth).map(e => e.id)`;
+  for (const [width, height] of [[390, 844], [768, 1024], [1024, 768], [1280, 720]]) {
+    await page.size(width, height, width < 500);
+    expect(`nothing is cut off at ${width}`, await page.evaluate(cutOff), []);
+    expect(`no sideways scroll at ${width}`, await page.evaluate('document.documentElement.scrollWidth - document.documentElement.clientWidth'), 0);
+  }
+  const nameless = `[...document.querySelectorAll('button, input:not([hidden]), select, textarea')]
+    .filter(e => !(e.ariaLabel || e.labels?.length || e.textContent.trim())).map(e => e.id)`;
+  expect('every control has a name', await page.evaluate(nameless), []);
+}
+
+// On paper a handout, without the frame of the page.
+export async function prints(page) {
+  await page.evaluate('window.dispatchEvent(new Event("beforeprint"))');
+  expect('the sheet has the title', await page.evaluate('document.querySelector("#sheet h1").textContent'), 'A first wiring');
+  expect('and every line', await page.evaluate('document.querySelectorAll("#sheet tr, #sheet .ticks > div").length'), 15);
+}
