@@ -1,5 +1,5 @@
 /*
- * How much stack each call of the library takes: the call runs in a thread of its own on a stack that was filled with one byte, and the deepest byte that
+ * How much stack each call of the libraries takes: the call runs in a thread of its own on a stack that was filled with one byte, and the deepest byte that
  * is another one afterwards tells. What the thread itself takes, counted with a call that does nothing, is taken off.
  */
 #include <pthread.h>
@@ -12,11 +12,13 @@
 #define STACK (1 << 18)
 #define PAINT 0xa5
 
-static trigger_card card;
-static uint8_t reply[TRIGGER_REPLY], store[TRIGGER_LARGE_RECORD], text[TRIGGER_TEXT];
+static trigger_card card, row[TRIGGER_RACK];
+static trigger_tallies tallies;
+static uint8_t reply[TRIGGER_REPLY], store[TRIGGER_LARGE_RECORD], row_store[TRIGGER_RECORD], text[TRIGGER_TEXT];
 static size_t record_len;
 static const char *given;
 static const trigger_input input = {0, 0x0100, 0xffff};
+static const trigger_rackinput rack_input = {0, 0x01, 0xff, TRIGGER_RACK, {{0, 0xff}, {0, 0xff}, {0, 0xff}, {0, 0xff}}};
 
 static void nothing(void) {}
 static void full_tick(void) { card = trigger_full_tick(card, input).card; }
@@ -30,6 +32,15 @@ static void load(void) { card = trigger_load(card, store, record_len).card; }
 static void print(void) { trigger_print(card, text, sizeof text); }
 static void convert(void) { trigger_convert(store, record_len, text, sizeof text); }
 static void survey(void) { trigger_survey(card, 41); }
+static void read_tallies(void) { tallies = trigger_read_tallies(card); }
+static void start_row(void) { rack_start(row, TRIGGER_RACK); }
+static void tick_row_full(void) { rack_tick(row, TRIGGER_RACK, true, rack_input); }
+static void tick_row_quick(void) { rack_tick(row, TRIGGER_RACK, false, rack_input); }
+static void line_to_row(void)
+{
+    rack_line(row, TRIGGER_RACK, 1, (const uint8_t *)given, strlen(given), reply, sizeof reply, row_store, sizeof row_store);
+}
+static void load_to_row(void) { rack_load(row, TRIGGER_RACK, 1, row_store, sizeof row_store); }
 
 static void *run(void *call)
 {
@@ -55,23 +66,28 @@ static long depth(void (*call)(void))
     return STACK - free_bytes;
 }
 
-static void wire(const char *lines[])
+static void wire(const char *lines[], void (*function)(void))
 {
     for (; *lines != NULL; lines++) {
         given = *lines;
-        line();
+        function();
         if (reply[1] != 'A')
             exit(3);
     }
 }
 
-/* The card that is measured: a preset of sixteen cells, one of connectors, and a timer. */
+/* The card that is measured: a preset of sixteen cells, one of connectors, and a timer; and a row whose first card has that preset of cells. */
 static void prepare(int large)
 {
     const char *lines[] = {"36CCA X=4", "36CCA X=19", "M E=1", "36CCA Y=14", "36CCB X=41 Y=192", "36SS Z", NULL};
+    const char *row_lines[] = {"36CCA X=4", "36SS Z", NULL};
     card = large ? trigger_fresh_large() : trigger_fresh();
     record_len = large ? TRIGGER_LARGE_RECORD : TRIGGER_RECORD;
-    wire(lines);
+    wire(lines, line);
+    for (size_t i = 0; i < TRIGGER_RACK; i++)
+        row[i] = trigger_fresh();
+    start_row();
+    wire(row_lines, line_to_row);
 }
 
 static long call(const char *text_of_line, void (*function)(void), int large)
@@ -99,9 +115,17 @@ int main(void)
         {"print", NULL, print},
         {"convert", NULL, convert},
         {"survey", NULL, survey},
+        {"read the tallies", NULL, read_tallies},
+        {"rack of four: start", NULL, start_row},
+        {"rack of four: full tick", NULL, tick_row_full},
+        {"rack of four: quick tick", NULL, tick_row_quick},
+        {"rack of four: M E=2", "M E=2", line_to_row},
+        {"rack of four: 36CCA X=4 (preset)", "36CCA X=4", line_to_row},
+        {"rack of four: 36SS Z", "36SS Z", line_to_row},
+        {"rack of four: load", NULL, load_to_row},
     };
-    printf("%-28s %8s %8s\n", "call", "16 cells", "32 cells");
+    printf("%-34s %8s %8s\n", "call", "16 cells", "32 cells");
     for (size_t i = 0; i < sizeof calls / sizeof calls[0]; i++)
-        printf("%-28s %8ld %8ld\n", calls[i].name, call(calls[i].line, calls[i].function, 0), call(calls[i].line, calls[i].function, 1));
+        printf("%-34s %8ld %8ld\n", calls[i].name, call(calls[i].line, calls[i].function, 0), call(calls[i].line, calls[i].function, 1));
     return 0;
 }

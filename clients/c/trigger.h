@@ -1,17 +1,25 @@
 /*
- * The trigger card as a static library: target/staticlib/libtrigger.a, made by `rt staticlib trigger`; the calls on a row of cards are in librack.a beside it,
- * made by `rt staticlib rack`.
+ * The trigger card as a static library, for C11 and C++11.
  *
- * A card is one value without pointers: a call takes it and returns the card after it. The library allocates nothing and keeps nothing between calls,
- * so two threads may call it at once, each with cards and buffers of its own.
+ * There are two kinds of calls. Those whose names end in _at take the card by a pointer and change it where it is: they are the same on every processor, and
+ * `clients/firmware/make TARGET` builds them. Those under TRIGGER_BY_VALUE pass structs by value; they are for x86-64 alone, and stand in
+ * target/staticlib/libtrigger.a, which `rt staticlib trigger` makes, and beside the others in the library that `clients/firmware/make x86-64` makes. The calls on a
+ * row of cards, whose names start with rack_, are in a library of their own beside it: librack.a, which `rt staticlib rack` makes.
+ *
+ * A card comes from trigger_fresh or trigger_fresh_large, and from calls on such a card. Memory that is all zero is no card: its pointer is at no place, and what
+ * is proved of cards that calls have made does not hold of it. A card has no pointers to memory, so it may be copied by assignment and kept anywhere. It has
+ * padding, which calls leave to chance: memcmp may find two equal cards different. Compare fields, or the records that `36SS Z` saves.
+ *
+ * The library allocates nothing and keeps nothing between calls, so two threads, or a loop and an interrupt, may call it at once, each with cards and buffers
+ * of its own.
  *
  * Bytes are passed as a pointer and a length. The pointer is never NULL, also where the length is 0; it must be good for that many bytes for the time
- * of the call, and a buffer that is written must not overlap another buffer of the same call. No buffer needs to end in a zero, and no text that is
+ * of the call, and what is written must not overlap anything else that the call is given. No buffer needs to end in a zero, and no text that is
  * written ends in one. What a length leaves no room for is refused, never written.
  *
- * `k` is 0, or the number of the refusal; docs/MANUAL.md says what each means. A refused call leaves card and store as they were.
+ * `k` is 0, or the number of the refusal (TRIGGER_REFUSED_...); docs/MANUAL.md says what each means. A refused call leaves card and store as they were.
  *
- * No call takes more than 6,000 bytes of stack on x86-64, on a card of either size (measured by bench/stack; docs/PERFORMANCE.md has each call).
+ * docs/PERFORMANCE.md has the stack that each call takes, on each processor.
  */
 #ifndef TRIGGER_H
 #define TRIGGER_H
@@ -19,6 +27,12 @@
 #include <stdbool.h>
 #include <stddef.h>
 #include <stdint.h>
+
+/*
+ * The version that this header belongs to: a hundred times the number of the last change request that the card meets, and a count. The library has its own
+ * (trigger_version), and with TRIGGER_LAYOUT below one can tell at start whether the two belong together: see trigger_matches.
+ */
+#define TRIGGER_VERSION 1401
 
 /* A card has sixteen cells or thirty-two, and always room for thirty-two. */
 #define TRIGGER_SMALL 16
@@ -38,6 +52,85 @@
 
 /* A buffer of this length has room for the wiring of any card. */
 #define TRIGGER_TEXT 4611
+
+/* The types of cells: 36CCA Y at a cell. */
+enum {
+    TRIGGER_CONSTANT = 0,
+    TRIGGER_D_FLOP = 1,
+    TRIGGER_LOOKUP2 = 2,
+    TRIGGER_LOOKUP3 = 3,
+    TRIGGER_LOOKUP4 = 4,
+    TRIGGER_AND2 = 5,
+    TRIGGER_OR2 = 6,
+    TRIGGER_XOR2 = 7,
+    TRIGGER_ONE_SHOT_RETRIGGERABLE = 8,
+    TRIGGER_DELAY_RETRIGGERABLE = 9,
+    TRIGGER_AND4 = 10,
+    TRIGGER_OR4 = 11,
+    TRIGGER_SYNC_D_FLOP = 12,
+    TRIGGER_JK_FLOP = 13,
+    TRIGGER_ONE_SHOT = 14,
+    TRIGGER_DELAY = 15,
+    TRIGGER_ONE_SHOT_TWO_TRIGGERS = 16,
+    TRIGGER_DELAY_TWO_TRIGGERS = 17,
+    TRIGGER_D_FLOP_TWO_RESETS = 18,
+    TRIGGER_COUNTER_AND = 19,
+    TRIGGER_COUNTER_OR = 20,
+    TRIGGER_COUNTER_START_STOP = 21,
+    TRIGGER_COUNTER_START_AT_ZERO = 22,
+    TRIGGER_LAST_TYPE = 22
+};
+
+/* The types of connectors: 36CCA Y at a connector. trigger_connector_type gives that of a card's connector. */
+enum { TRIGGER_INPUT = 0, TRIGGER_OPEN_DRAIN = 1, TRIGGER_PUSH_PULL = 2 };
+
+/* The trigger source, which is the code of the clock that the card takes ticks of (PM E): 0 to 4. With the last one the ticks come in at BNC1. */
+enum { TRIGGER_LAST_SOURCE = 4, TRIGGER_SOURCE_BNC1 = 4 };
+
+/*
+ * Addresses, which slots and connectors read: nothing (always low), cells by their numbers from 1 on, BNC1 to BNC8, TTL0 to TTL7; to each of these its inverse,
+ * its rise and its fall by what is added. Places, which the pointer goes to (M E), are the addresses of cells and connectors.
+ */
+enum {
+    TRIGGER_LOW = 0,
+    TRIGGER_CELL1 = 1,
+    TRIGGER_BNC1 = 33,
+    TRIGGER_TTL0 = 41,
+    TRIGGER_CONNECTORS_END = 49,
+    TRIGGER_INVERSE = 64,
+    TRIGGER_RISE = 128,
+    TRIGGER_FALL = 192,
+    TRIGGER_HIGH = TRIGGER_LOW + TRIGGER_INVERSE,
+    TRIGGER_NEVER = TRIGGER_LOW + TRIGGER_RISE,
+    TRIGGER_EACH_TICK = TRIGGER_LOW + TRIGGER_FALL
+};
+
+/* Presets (36CCA X) have numbers from 0 to this one; not all are offered. On thirty-two cells 51 is offered too. */
+enum { TRIGGER_LAST_PRESET = 59 };
+
+/* The numbers of refusals, lowest first where several apply. */
+enum {
+    TRIGGER_REFUSED_ROOM = 1,           /* a buffer is too short */
+    TRIGGER_REFUSED_FORM = 2,           /* no line of any form */
+    TRIGGER_REFUSED_CARD = 3,           /* another card is meant */
+    TRIGGER_REFUSED_NUMBER = 4,         /* a number above 4294967295 */
+    TRIGGER_REFUSED_PLACE = 5,          /* no such place */
+    TRIGGER_REFUSED_AT_CONNECTOR = 6,   /* nothing that a connector has */
+    TRIGGER_REFUSED_TYPE = 7,           /* no such type or trigger source */
+    TRIGGER_REFUSED_PRESET = 8,         /* not offered */
+    TRIGGER_REFUSED_CONFIGURATION = 9,  /* too large, or the type has none */
+    TRIGGER_REFUSED_SLOT = 10,          /* the type does not use it */
+    TRIGGER_REFUSED_ADDRESS = 11,       /* above 255, or reserved */
+    TRIGGER_REFUSED_STATE = 12,         /* too large, or the type has none */
+    TRIGGER_REFUSED_BNC1 = 13,          /* an output where the ticks come in */
+    TRIGGER_REFUSED_RECORD = 14,        /* no record */
+    TRIGGER_REFUSED_SETTINGS = 15,      /* settings that no line can set */
+    TRIGGER_REFUSED_TEXT = 16,          /* the wiring is longer than the buffer */
+    TRIGGER_REFUSED_DURATION = 17,      /* the old record has no room for it */
+    TRIGGER_REFUSED_CELL = 18,          /* sixteen cells have no such cell */
+    TRIGGER_REFUSED_SUPPLY = 19,        /* the lamps of the rack would draw too much */
+    TRIGGER_REFUSED_RACK = 20           /* no rack, or no such card in it */
+};
 
 /*
  * A cell: its configuration, the addresses in its slots X Y Z F and its type; and what it keeps between ticks: a flip-flop's bit, a timer's count and
@@ -198,6 +291,57 @@ typedef struct {
 extern "C" {
 #endif
 
+/*
+ * Calls by pointers, on every processor. What each does is said at the call by value of the same name below. A result behind a pointer is written also where
+ * the call is refused.
+ */
+
+/* The version and the layout of the library, and how many bytes a card has there. */
+uint32_t trigger_version(void);
+uint32_t trigger_layout(void);
+size_t trigger_card_size(void);
+
+/* A card as it first powers up: of sixteen cells, of thirty-two. The memory may hold anything before. */
+void trigger_fresh_at(trigger_card *card);
+void trigger_fresh_large_at(trigger_card *card);
+
+/* A tick of the card, and its answer. */
+void trigger_full_tick_at(trigger_card *card, const trigger_input *input, trigger_answer *answer);
+void trigger_quick_tick_at(trigger_card *card, const trigger_input *input, trigger_answer *answer);
+
+/* Whether the clock may stop. */
+bool trigger_at_rest_at(const trigger_card *card, const trigger_input *input);
+
+/* These give the number of the refusal. `len` is the length of what was written: of the reply, of the wiring, of the converted record. */
+uint8_t trigger_line_at(trigger_card *card, const uint8_t *text, size_t text_len, uint8_t *reply, size_t reply_len, uint8_t *store, size_t store_len,
+                        size_t *len);
+uint8_t trigger_load_at(trigger_card *card, const uint8_t *bytes, size_t bytes_len);
+uint8_t trigger_print_at(const trigger_card *card, uint8_t *buffer, size_t buffer_len, size_t *len);
+uint8_t trigger_convert_at(const uint8_t *bytes, size_t bytes_len, uint8_t *buffer, size_t buffer_len, size_t *len);
+
+/* What depends on a connector, and the number of the refusal, which is in `surveyed` as well. */
+uint8_t trigger_survey_at(const trigger_card *card, uint64_t place, trigger_surveyed *surveyed);
+
+/* All tallies. */
+void trigger_read_tallies_at(const trigger_card *card, trigger_tallies *tallies);
+
+/*
+ * A rack is a row of 1 to TRIGGER_RACK cards of sixteen cells that share one backplane, numbered from 1. The calls on it change each card where it sits in the
+ * row. 20 where the row is no rack, where no card has the number, or where the fronts are not one for each card: then nothing is changed, and a line is
+ * answered `:N-20` where the reply buffer has TRIGGER_REPLY bytes. 19 where a line or a load would change the type of a front connector and the cards would then
+ * draw more than 16, each at least 4 and one for each push-pull front connector. A start takes a row of cards too, as trigger_fresh makes them.
+ * trigger_at_rest speaks of ticks outside a rack.
+ */
+uint8_t rack_start_at(trigger_card *row, size_t row_len);
+uint8_t rack_tick_at(trigger_card *row, size_t row_len, bool full, const trigger_rackinput *input, trigger_rackticked *ticked);
+uint8_t rack_line_at(trigger_card *row, size_t row_len, size_t number, const uint8_t *text, size_t text_len, uint8_t *reply, size_t reply_len,
+                     uint8_t *store, size_t store_len, size_t *len);
+uint8_t rack_load_at(trigger_card *row, size_t row_len, size_t number, const uint8_t *bytes, size_t bytes_len);
+
+/* Calls by value, on x86-64: a call takes the card and returns the card after it. */
+#if defined(__x86_64__) && !defined(_WIN32)
+#define TRIGGER_BY_VALUE 1
+
 /* A card of sixteen cells as it first powers up. */
 trigger_card trigger_fresh(void);
 
@@ -213,7 +357,10 @@ trigger_ticked trigger_full_tick(trigger_card card, trigger_input input);
  */
 trigger_ticked trigger_quick_tick(trigger_card card, trigger_input input);
 
-/* Whether a quick tick with this input would work out no cell and leave the card as it is. Then the clock may stop until something else comes in. */
+/*
+ * Whether a quick tick with this input would work out no cell and leave the card as it is but for the count of its ticks. Then the clock may stop until something
+ * else comes in.
+ */
 bool trigger_at_rest(trigger_card card, trigger_input input);
 
 /*
@@ -253,14 +400,7 @@ trigger_surveyed trigger_survey(trigger_card card, uint64_t place);
 /* All tallies: which cells cost most. */
 trigger_tallies trigger_read_tallies(trigger_card card);
 
-/*
- * A rack is a row of 1 to TRIGGER_RACK cards of sixteen cells that share one backplane, numbered from 1. The calls below change each card where it sits in the
- * row. 20 where the row is no rack, where no card has the number, or where the fronts are not one for each card: then nothing is changed, and a line is
- * answered `:N-20` where the reply buffer has TRIGGER_REPLY bytes. 19 where a line or a load would change the type of a front connector and the cards would then
- * draw more than 16, each at least 4 and one for each push-pull front connector. trigger_at_rest speaks of ticks outside a rack.
- */
-
-/* Every card of the row fresh, but with all connectors as inputs. */
+/* Racks. Every card of the row fresh, but with all connectors as inputs. */
 uint8_t rack_start(trigger_card *row, size_t row_len);
 
 /* A tick of all cards: all drive, then all sample, then all work out their cells. */
@@ -273,11 +413,44 @@ trigger_replied rack_line(trigger_card *row, size_t row_len, size_t number, cons
 /* A load to the card of a number, as trigger_load: its number. */
 uint8_t rack_load(trigger_card *row, size_t row_len, size_t number, const uint8_t *bytes, size_t bytes_len);
 
+#endif
+
 #ifdef __cplusplus
 }
 #endif
 
-/* The layout of the library, on a machine with pointers of 64 bits. */
+/* The type of a card's connector, by its number in the order of the sample, below TRIGGER_CONNECTORS. */
+static inline int trigger_connector_type(const trigger_card *card, unsigned connector)
+{
+    if (card->connectors.push_pull >> connector & 1)
+        return TRIGGER_PUSH_PULL;
+    return card->connectors.open_drain >> connector & 1 ? TRIGGER_OPEN_DRAIN : TRIGGER_INPUT;
+}
+
+/*
+ * The layout in one number, made of sizes and offsets as this compiler lays them out. A program asks once at its start, before its first card, whether the
+ * library that it was linked with has the version and the layout of this header:
+ *
+ *     if (!trigger_matches())
+ *         stop();
+ */
+#define TRIGGER_MIX(sum, n) (((sum)*UINT32_C(16777619)) ^ (uint32_t)(n))
+#define TRIGGER_LAYOUT_CARD \
+    TRIGGER_MIX(TRIGGER_MIX(TRIGGER_MIX(TRIGGER_MIX(UINT32_C(2166136261), sizeof(trigger_card)), offsetof(trigger_card, edited)), \
+                            offsetof(trigger_card, memory)), offsetof(trigger_card, tallies))
+#define TRIGGER_LAYOUT_PARTS \
+    TRIGGER_MIX(TRIGGER_MIX(TRIGGER_MIX(TRIGGER_MIX(TRIGGER_LAYOUT_CARD, sizeof(trigger_cell)), sizeof(trigger_connectors)), sizeof(trigger_memory)), \
+                sizeof(trigger_tallies))
+#define TRIGGER_LAYOUT \
+    TRIGGER_MIX(TRIGGER_MIX(TRIGGER_MIX(TRIGGER_MIX(TRIGGER_MIX(TRIGGER_LAYOUT_PARTS, sizeof(trigger_input)), sizeof(trigger_answer)), \
+                                        sizeof(trigger_surveyed)), sizeof(trigger_rackinput)), sizeof(trigger_rackticked))
+
+static inline bool trigger_matches(void)
+{
+    return trigger_version() == TRIGGER_VERSION && trigger_layout() == TRIGGER_LAYOUT && trigger_card_size() == sizeof(trigger_card);
+}
+
+/* The layout of the library, which is one for all processors but for the structs of calls by value that hold a length. */
 #ifdef __cplusplus
 #define TRIGGER_CHECK(test) static_assert(test, #test)
 #else
@@ -287,7 +460,7 @@ uint8_t rack_load(trigger_card *row, size_t row_len, size_t number, const uint8_
 #define TRIGGER_AT(type, field, at) TRIGGER_CHECK(offsetof(type, field) == (at))
 
 TRIGGER_SIZE(bool, 1);
-TRIGGER_SIZE(size_t, 8);
+TRIGGER_CHECK(sizeof(size_t) == 4 || sizeof(size_t) == 8);
 
 TRIGGER_SIZE(trigger_cell, 16);
 TRIGGER_AT(trigger_cell, config, 0);
@@ -341,22 +514,9 @@ TRIGGER_SIZE(trigger_ticked, 720);
 TRIGGER_AT(trigger_ticked, card, 0);
 TRIGGER_AT(trigger_ticked, answer, 704);
 
-TRIGGER_SIZE(trigger_answered, 720);
-TRIGGER_AT(trigger_answered, card, 0);
-TRIGGER_AT(trigger_answered, k, 704);
-TRIGGER_AT(trigger_answered, len, 712);
-
 TRIGGER_SIZE(trigger_loaded, 712);
 TRIGGER_AT(trigger_loaded, card, 0);
 TRIGGER_AT(trigger_loaded, k, 704);
-
-TRIGGER_SIZE(trigger_printed, 16);
-TRIGGER_AT(trigger_printed, k, 0);
-TRIGGER_AT(trigger_printed, len, 8);
-
-TRIGGER_SIZE(trigger_converted, 16);
-TRIGGER_AT(trigger_converted, k, 0);
-TRIGGER_AT(trigger_converted, len, 8);
 
 TRIGGER_SIZE(trigger_surveyed, 12);
 TRIGGER_AT(trigger_surveyed, k, 0);
@@ -378,9 +538,24 @@ TRIGGER_SIZE(trigger_rackticked, 68);
 TRIGGER_AT(trigger_rackticked, k, 0);
 TRIGGER_AT(trigger_rackticked, answers, 4);
 
+#ifdef TRIGGER_BY_VALUE
+TRIGGER_SIZE(trigger_answered, 720);
+TRIGGER_AT(trigger_answered, card, 0);
+TRIGGER_AT(trigger_answered, k, 704);
+TRIGGER_AT(trigger_answered, len, 712);
+
+TRIGGER_SIZE(trigger_printed, 16);
+TRIGGER_AT(trigger_printed, k, 0);
+TRIGGER_AT(trigger_printed, len, 8);
+
+TRIGGER_SIZE(trigger_converted, 16);
+TRIGGER_AT(trigger_converted, k, 0);
+TRIGGER_AT(trigger_converted, len, 8);
+
 TRIGGER_SIZE(trigger_replied, 16);
 TRIGGER_AT(trigger_replied, k, 0);
 TRIGGER_AT(trigger_replied, len, 8);
+#endif
 
 #undef TRIGGER_AT
 #undef TRIGGER_SIZE

@@ -1,5 +1,5 @@
 //! Two cards hand a pulse over the backplane: card 1 pulls TTL0 low while its one-shot is on, and card 2 starts one of its own when TTL0 falls.
-use trigger::{Card, Front, Rack, RackInput, RACK};
+use trigger::{Card, Front, Rack, RackCard, RackInput, RACK};
 
 const LINES: [(usize, &str); 12] = [
     (1, "36CCA Y=14"),
@@ -17,7 +17,7 @@ const LINES: [(usize, &str); 12] = [
 ];
 
 fn main() {
-    let mut cards = [Card::fresh(); 2];
+    let mut cards = [RackCard::from(Card::fresh()); 2];
     let mut rack = Rack(&mut cards);
     rack.start().expect("a rack");
     for (number, text) in LINES {

@@ -20,6 +20,7 @@
 mod raw;
 
 use core::fmt;
+use core::mem::MaybeUninit;
 use core::num::NonZeroU8;
 use core::str;
 
@@ -128,9 +129,23 @@ impl fmt::Display for Answer {
 }
 
 /// A card.
-#[repr(transparent)]
-#[derive(Clone, Copy, Debug, PartialEq, Eq)]
-pub struct Card(raw::Card);
+// Behind the card is room for the answer of its last tick: the library writes the two at once, and where it writes them here nothing is copied back.
+#[derive(Clone, Copy)]
+pub struct Card(raw::Ticked);
+
+impl PartialEq for Card {
+    fn eq(&self, other: &Card) -> bool {
+        self.0.card == other.0.card
+    }
+}
+
+impl Eq for Card {}
+
+impl fmt::Debug for Card {
+    fn fmt(&self, f: &mut fmt::Formatter) -> fmt::Result {
+        self.0.card.fmt(f)
+    }
+}
 
 impl Default for Card {
     fn default() -> Card {
@@ -138,42 +153,55 @@ impl Default for Card {
     }
 }
 
-// In each unsafe block below the slices are valid as references are, and those that are written overlap nothing, since they are borrowed mutably.
+// In each unsafe block below the slices are valid as references are, and those that are written overlap nothing, since they are borrowed mutably. Where a call
+// is given `to`, it writes all of what that points to; a card that is passed by value is copied before that.
 impl Card {
+    #[inline]
+    fn with(card: raw::Card) -> Card {
+        let answer = Answer {
+            ran: false,
+            driven: 0,
+            cells: 0,
+            woken: 0,
+            count: 0,
+        };
+        Card(raw::Ticked { card, answer })
+    }
+
     /// A card of sixteen cells as it first powers up.
     #[inline]
     pub fn fresh() -> Card {
-        Card(unsafe { raw::trigger_fresh() })
+        let mut to = MaybeUninit::uninit();
+        Card::with(unsafe { *raw::trigger_fresh(to.as_mut_ptr()) })
     }
 
     /// A card of thirty-two cells as it first powers up.
     #[inline]
     pub fn fresh_large() -> Card {
-        Card(unsafe { raw::trigger_fresh_large() })
+        let mut to = MaybeUninit::uninit();
+        Card::with(unsafe { *raw::trigger_fresh_large(to.as_mut_ptr()) })
     }
 
     /// A tick in which every cell is worked out.
     #[inline]
     pub fn full_tick(&mut self, input: Input) -> Answer {
-        let ticked = unsafe { raw::trigger_full_tick(self.0, input) };
-        self.0 = ticked.card;
-        ticked.answer
+        let to: *mut raw::Ticked = &mut self.0;
+        unsafe { (*raw::trigger_full_tick(to, (*to).card, input)).answer }
     }
 
     /// A tick in which only those cells are worked out that the waking rules name. The card after it, the driven word and the cell word are
     /// those of a full tick.
     #[inline]
     pub fn quick_tick(&mut self, input: Input) -> Answer {
-        let ticked = unsafe { raw::trigger_quick_tick(self.0, input) };
-        self.0 = ticked.card;
-        ticked.answer
+        let to: *mut raw::Ticked = &mut self.0;
+        unsafe { (*raw::trigger_quick_tick(to, (*to).card, input)).answer }
     }
 
     /// Whether a quick tick with this input would work out no cell and leave the card as it is but for the count of its ticks. Then the clock may stop until
     /// something else comes in.
     #[inline]
     pub fn at_rest(&self, input: Input) -> bool {
-        unsafe { raw::trigger_at_rest(self.0, input) }
+        unsafe { raw::trigger_at_rest(self.0.card, input) }
     }
 
     /// One line, without an ending. A refused line leaves card and store as they were. `36SS Z` writes the record to the front of the store, and is
@@ -182,9 +210,11 @@ impl Card {
     #[inline]
     pub fn line(&mut self, text: &[u8], store: &mut [u8]) -> Reply {
         let mut buffer = [0; REPLY];
+        let mut to = MaybeUninit::uninit();
         let answered = unsafe {
-            raw::trigger_line(
-                self.0,
+            &*raw::trigger_line(
+                to.as_mut_ptr(),
+                self.0.card,
                 text.as_ptr(),
                 text.len(),
                 buffer.as_mut_ptr(),
@@ -193,7 +223,7 @@ impl Card {
                 store.len(),
             )
         };
-        self.0 = answered.card;
+        self.0.card = answered.card;
         Reply {
             k: answered.k,
             len: answered.len,
@@ -205,8 +235,9 @@ impl Card {
     /// [`OLD_RECORD`] bytes, or of [`LARGE_RECORD`] for thirty-two cells, 15 where its settings are none that lines can set; the card is then as it was.
     #[inline]
     pub fn load(&mut self, record: &[u8]) -> Result<(), Refusal> {
-        let loaded = unsafe { raw::trigger_load(self.0, record.as_ptr(), record.len()) };
-        self.0 = loaded.card;
+        let mut to = MaybeUninit::uninit();
+        let loaded = unsafe { &*raw::trigger_load(to.as_mut_ptr(), self.0.card, record.as_ptr(), record.len()) };
+        self.0.card = loaded.card;
         accepted(loaded.k)
     }
 
@@ -214,7 +245,7 @@ impl Card {
     /// has no room for them; it then stays as it was. [`TEXT`] bytes are always enough.
     #[inline]
     pub fn print<'a>(&self, buffer: &'a mut [u8]) -> Result<&'a str, Refusal> {
-        let printed = unsafe { raw::trigger_print(self.0, buffer.as_mut_ptr(), buffer.len()) };
+        let printed = unsafe { raw::trigger_print(self.0.card, buffer.as_mut_ptr(), buffer.len()) };
         accepted(printed.k)?;
         Ok(str::from_utf8(&buffer[..printed.len]).expect("a wiring is ASCII"))
     }
@@ -223,7 +254,7 @@ impl Card {
     /// Nothing else can tell whether the line changed. 5 for another place.
     #[inline]
     pub fn survey(&self, place: u64) -> Result<Dependents, Refusal> {
-        let surveyed = unsafe { raw::trigger_survey(self.0, place) };
+        let surveyed = unsafe { raw::trigger_survey(self.0.card, place) };
         accepted(surveyed.k)?;
         Ok(Dependents {
             cells: surveyed.cells,
@@ -234,43 +265,43 @@ impl Card {
     /// Which cells cost most: in how many ticks the waking rules named each cell, and how many ticks ran, since the card powered up or was loaded.
     #[inline]
     pub fn tallies(&self) -> Tallies {
-        unsafe { raw::trigger_read_tallies(self.0) }
+        unsafe { raw::trigger_read_tallies(self.0.card) }
     }
 
     /// The cells, from cell 1 on: sixteen or thirty-two.
     pub fn cells(&self) -> &[Cell] {
-        let n = if self.0.size as usize == CELLS { CELLS } else { 16 };
-        &self.0.cells[..n]
+        let n = if self.0.card.size as usize == CELLS { CELLS } else { 16 };
+        &self.0.card.cells[..n]
     }
 
     /// The connectors: their types and sources.
     pub fn connectors(&self) -> &Connectors {
-        &self.0.connectors
+        &self.0.card.connectors
     }
 
     /// The place that lines are for: a cell's number, or a connector, 33 to 48.
     pub fn pointer(&self) -> u8 {
-        self.0.pointer
+        self.0.card.pointer
     }
 
     /// The code of the clock that the card ticks by.
     pub fn trigger(&self) -> u8 {
-        self.0.trigger
+        self.0.card.trigger
     }
 
     /// What the card drove at the connectors in the last tick that ran, in the order of the sample.
     pub fn driven(&self) -> u16 {
-        self.0.memory.driven
+        self.0.card.memory.driven
     }
 
     /// The outputs of the cells in the last tick that ran, bit 0 of cell 1.
     pub fn outputs(&self) -> u32 {
-        self.0.memory.outputs
+        self.0.card.memory.outputs
     }
 
     /// The levels of the connectors in the last tick that ran, in the order of the sample.
     pub fn levels(&self) -> u16 {
-        self.0.memory.levels
+        self.0.card.memory.levels
     }
 }
 
@@ -293,12 +324,32 @@ pub fn convert<'a>(record: &[u8], buffer: &'a mut [u8]) -> Result<&'a [u8], Refu
     Ok(&buffer[..converted.len])
 }
 
+/// A card of a rack: a [`Card`] without the room for an answer that it has behind it. The two are made of each other, to wire or read a card outside its row.
+// The library takes a row of cards that lie side by side.
+#[repr(transparent)]
+#[derive(Clone, Copy, Debug, PartialEq, Eq)]
+pub struct RackCard(raw::Card);
+
+impl From<Card> for RackCard {
+    #[inline]
+    fn from(card: Card) -> RackCard {
+        RackCard(card.0.card)
+    }
+}
+
+impl From<RackCard> for Card {
+    #[inline]
+    fn from(card: RackCard) -> Card {
+        Card::with(card.0)
+    }
+}
+
 /// A row of 1 to [`RACK`] cards of sixteen cells that share one backplane, numbered from 1, each changed where it sits. A call is refused with 20, and changes
 /// nothing, where the row is no such rack, no card has the number, or the fronts are not one for each card; a line and a load with 19 where the type of a front
 /// connector would change and the cards would then draw more than 16. [`Card::at_rest`] speaks of ticks outside a rack.
-pub struct Rack<'a>(pub &'a mut [Card]);
+pub struct Rack<'a>(pub &'a mut [RackCard]);
 
-// A card is what the library has for one, so the row is a row of these; it overlaps nothing, since it is borrowed mutably.
+// A card of a rack is what the library has for a card, so the row is a row of these; it overlaps nothing, since it is borrowed mutably.
 impl Rack<'_> {
     fn row(&mut self) -> (*mut raw::Card, usize) {
         (self.0.as_mut_ptr().cast(), self.0.len())

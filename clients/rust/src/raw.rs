@@ -111,6 +111,7 @@ pub struct Answer {
 
 // crates/ticks/src/tick.rt
 #[repr(C)]
+#[derive(Clone, Copy)]
 pub struct Ticked {
     pub card: Card,
     pub answer: Answer,
@@ -198,17 +199,28 @@ pub struct Replied {
     pub len: usize,
 }
 
+// The calls by value are those of x86-64's C. There a struct that is returned in memory is written to where a hidden first argument points; the calls below that
+// give a card name that argument `to`, so that a caller chooses where it is written: in its own place it is not copied twice more.
+#[cfg(not(all(target_arch = "x86_64", not(windows))))]
+compile_error!("the calls by value of the library are for x86-64 and its System V interface");
+
 // A slice of the library is a pointer and a length. Every call takes every value; what the caller sees to is that each slice is valid, and that none
 // that is written overlaps another.
 #[link(name = "trigger", kind = "static")]
 extern "C" {
-    pub fn trigger_fresh() -> Card;
-    pub fn trigger_fresh_large() -> Card;
-    pub fn trigger_full_tick(card: Card, input: Input) -> Ticked;
-    pub fn trigger_quick_tick(card: Card, input: Input) -> Ticked;
+    pub fn trigger_fresh(to: *mut Card) -> *mut Card;
+    pub fn trigger_fresh_large(to: *mut Card) -> *mut Card;
+    pub fn trigger_full_tick(to: *mut Ticked, card: Card, input: Input) -> *mut Ticked;
+    pub fn trigger_quick_tick(to: *mut Ticked, card: Card, input: Input) -> *mut Ticked;
     pub fn trigger_at_rest(card: Card, input: Input) -> bool;
-    pub fn trigger_load(card: Card, bytes: *const u8, bytes_len: usize) -> Loaded;
+    pub fn trigger_load(
+        to: *mut Loaded,
+        card: Card,
+        bytes: *const u8,
+        bytes_len: usize,
+    ) -> *mut Loaded;
     pub fn trigger_line(
+        to: *mut Answered,
         card: Card,
         text: *const u8,
         text_len: usize,
@@ -216,7 +228,7 @@ extern "C" {
         reply_len: usize,
         store: *mut u8,
         store_len: usize,
-    ) -> Answered;
+    ) -> *mut Answered;
     pub fn trigger_print(card: Card, buffer: *mut u8, buffer_len: usize) -> Printed;
     pub fn trigger_convert(
         bytes: *const u8,
@@ -269,12 +281,12 @@ layout!(Card: 704, cells 0, connectors 512, edited 536, memory 544, pointer 564,
 layout!(Input: 6, code 0, sample 2, attached 4);
 layout!(Answer: 16, ran 0, driven 2, cells 4, woken 8, count 12);
 layout!(Ticked: 720, card 0, answer 704);
-layout!(Answered: 720, card 0, k 704, len 712);
 layout!(Loaded: 712, card 0, k 704);
-layout!(Printed: 16, k 0, len 8);
-layout!(Converted: 16, k 0, len 8);
 layout!(Surveyed: 12, k 0, cells 4, connectors 8);
 layout!(Front: 2, sample 0, attached 1);
 layout!(RackInput: 12, code 0, sample 1, attached 2, count 3, fronts 4);
 layout!(RackTicked: 68, k 0, answers 4);
+layout!(Answered: 720, card 0, k 704, len 712);
+layout!(Printed: 16, k 0, len 8);
+layout!(Converted: 16, k 0, len 8);
 layout!(Replied: 16, k 0, len 8);

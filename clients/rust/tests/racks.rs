@@ -1,14 +1,14 @@
 //! The stored sessions of racks: what a row of cards answers must be what is stored.
-use trigger::{Answer, Card, Front, Rack, RackInput, RACK, RECORD};
+use trigger::{Answer, Card, Front, Rack, RackCard, RackInput, RACK, RECORD};
 
 /// The calls and the answers of the program plrack.
 const FOLDER: &str = concat!(env!("CARGO_MANIFEST_DIR"), "/../../crates/plrack");
 
 /// `rack N`, or `rack N 32` with a card of thirty-two cells in it: a row of fresh cards.
-fn row(words: &[&str]) -> Vec<Card> {
-    let mut cards = vec![Card::fresh(); words[0].parse().expect("a number of cards")];
+fn row(words: &[&str]) -> Vec<RackCard> {
+    let mut cards = vec![RackCard::from(Card::fresh()); words[0].parse().expect("a number of cards")];
     if words.get(1) == Some(&"32") {
-        *cards.last_mut().expect("a card") = Card::fresh_large();
+        *cards.last_mut().expect("a card") = Card::fresh_large().into();
     }
     cards
 }
@@ -46,7 +46,7 @@ fn ticked(result: Result<[Answer; RACK], trigger::Refusal>, cards: usize) -> Str
 }
 
 /// What a call answers, or nothing where its reply buffer is shorter than the wrapper's.
-fn answer(cards: &mut Vec<Card>, call: &str) -> Option<String> {
+fn answer(cards: &mut Vec<RackCard>, call: &str) -> Option<String> {
     let words: Vec<&str> = call.split(' ').collect();
     if words[0] == "rack" {
         *cards = row(&words[1..]);

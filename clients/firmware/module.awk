@@ -1,0 +1,64 @@
+# The sizes of what crosses the calls of the module of a library (-v library=NAME), read off its text: a line of C for each argument that is passed by a pointer, where
+# argument 0 of a call with a result is the result; and from card to card of a row, where it has one. Each call must read such an argument by one copy and nothing else, and write its result by one copy at its end. Then a call
+# changes nothing that it is lent, and the result may lie anywhere. It ends with 1, and a word on it, where the module is another.
+
+function fault(text) {
+    print "module: " name ": " text > "/dev/stderr"
+    failed = 1
+}
+
+$0 ~ "^define .*@" library "_inner_[a-z_]+\\(" {
+    match($0, /_inner_[a-z_]+/)
+    name = library substr($0, RSTART + 6, RLENGTH - 6)
+    calls++
+    inside = 1
+    next
+}
+
+/^define .*@"rack::row::put_at"\(/ {
+    row = 1
+}
+
+row && /mul nuw i64 %a1, [0-9]+$/ {
+    print "#define MODULE_" library "_row_step " $NF
+    row = 0
+}
+
+inside && /^}/ {
+    inside = 0
+    next
+}
+
+inside && /%a[0-9]/ {
+    if ($0 ~ /^  call void @llvm\.memmove\.p0\.p0\.i64\(ptr %r[0-9]+, ptr %a[0-9]+, i64 [0-9]+, i1 false\)$/ ||
+        $0 ~ /^  call void @llvm\.memmove\.p0\.p0\.i64\(ptr %a0, ptr %r[0-9]+, i64 [0-9]+, i1 false\)$/) {
+        match($0, /%a[0-9]+/)
+        argument = substr($0, RSTART + 2, RLENGTH - 2)
+        match($0, /i64 [0-9]+, i1/)
+        size = substr($0, RSTART + 4, RLENGTH - 8)
+        if ((name, argument) in seen)
+            fault("argument " argument " is copied twice")
+        seen[name, argument] = 1
+        print "#define MODULE_" name "_" argument " " size
+        written = ($0 ~ /ptr %a0, ptr %r/)
+        next
+    }
+    if ($0 ~ /ptr %a/)
+        fault("an argument is used otherwise than by a copy:" $0)
+}
+
+inside && written && !/%a0/ && !/^  ret / {
+    fault("something follows the result:" $0)
+}
+
+inside && /^  ret / {
+    written = 0
+}
+
+END {
+    if (!calls) {
+        name = "all"
+        fault("no call found")
+    }
+    exit failed
+}
