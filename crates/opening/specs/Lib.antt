@@ -1,0 +1,2 @@
+-- What the words of a program say.
+pub mod Words
