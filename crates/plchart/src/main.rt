@@ -59,8 +59,22 @@ fn put_chart(out: &mut [u8; TEXT_MOST]) -> usize
     at
 }
 
-fn main() {
+fn print_chart() {
     let mut out: [u8; TEXT_MOST] = [0; TEXT_MOST];
     let n = put_chart(&mut out);
     io::write_all(1, &out[0..n]);
+}
+
+fn main() {
+    if opening::goes_on(
+        b"plchart reads nothing, and prints the chart of the 256 addresses.
+
+usage: plchart
+
+Each row has an address, its base, and 0 or 1 for inverted, edge and permitted: `129 1 0 1 1` is the rise of
+cell 1.
+",
+    ) {
+        print_chart();
+    }
 }

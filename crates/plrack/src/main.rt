@@ -8,23 +8,34 @@
 //
 // A program cannot lend a row of cards that it holds itself, so the cards are held by value: what is done to each is done by the jobs of the calls on a
 // lent row (rack::pass::visit, rack::job), card by card. That these jobs are the calls is proved there.
+mod fields;
+
 ghost use Prim.Native.Nat.{_≤_};
 ghost use lib.ListN.{length};
 use card::card::Card;
 use card::limits::LARGE;
 use card::limits::SMALL;
+use fields::REPLY;
+use fields::at;
+use fields::behind;
+use fields::bytes_at;
+use fields::bytes_behind;
+use fields::digit;
+use fields::front_at;
+use fields::hex_at;
+use fields::number;
+use fields::starts;
 use input::BLOCK;
 use input::Reader;
+use input::least;
 use input::next_line;
 use libc::STDERR_FILENO;
-use libc::STDIN_FILENO;
 use libc::STDOUT_FILENO;
 use rack::job::Taken;
 use rack::job::line_in;
 use rack::job::load_in;
 use rack::job::place_of;
 use rack::job::taken_by;
-use rack::pass::Front;
 use rack::pass::Pass;
 use rack::pass::RackInput;
 use rack::pass::acting;
@@ -46,9 +57,6 @@ const KEPT: usize = 644;
 const LONGEST: usize = 640;
 
 const BUFFER: usize = KEPT + BLOCK;
-
-// The longest reply buffer.
-const REPLY: usize = 99;
 
 // The cards, how many of them are the row, and the pass that is on its way.
 struct Rig {
@@ -140,54 +148,6 @@ fn with_card(rig: Rig, i: usize, card: Card) -> Rig {
         n: rig.n,
         pass: pass,
     }
-}
-
-// ---- the words of a call
-
-// The byte at a place, or a blank behind the line.
-fn at(line: &[u8], i: usize) -> u8 {
-    if i < line.len() {
-        return line[i];
-    }
-    b' '
-}
-
-// A digit of a number in hex, 0 where it is none.
-fn digit(b: u8) -> u8 {
-    if b < b'0' {
-        return 0;
-    }
-    if b <= b'9' {
-        return b - b'0';
-    }
-    if b < b'a' {
-        return 0;
-    }
-    if b <= b'f' {
-        return b - b'a' + 10;
-    }
-    0
-}
-
-fn hex_at(line: &[u8], i: usize) -> u8
-    requires { ⌜ i ≤ 2000 ⌝ }
-{
-    (digit(at(line, i)) % 16) * 16 + digit(at(line, i + 1)) % 16
-}
-
-fn front_at(line: &[u8], i: usize) -> Front
-    requires { ⌜ i ≤ 1000 ⌝ }
-{
-    Front {
-        sample: hex_at(line, i),
-        attached: hex_at(line, i + 3),
-    }
-}
-
-fn starts(line: &[u8], word: &[u8; 5]) -> bool {
-    let first = (at(line, 0) == word[0]) & (at(line, 1) == word[1]);
-    let second = (at(line, 2) == word[2]) & (at(line, 3) == word[3]);
-    (first & second) & (at(line, 4) == word[4])
 }
 
 // ---- the calls
@@ -308,41 +268,6 @@ fn put_reply(k: u8, len: usize, reply: &[u8]) {
     put(b"\n");
 }
 
-fn least(a: usize, b: usize) -> usize
-    ensures { λ r. ⌜ (r ≤ a) × (r ≤ b) ⌝ }
-{
-    if a < b { a } else { b }
-}
-
-// A number that is larger than any of a card or a buffer where the digits stand for none.
-fn number(line: &[u8], from: usize) -> usize {
-    if line.len() < from {
-        return REPLY;
-    }
-    let n = text::number_at(line, from);
-    if !n.ok {
-        return REPLY;
-    }
-    if n.value < 99 {
-        return n.value as usize;
-    }
-    REPLY
-}
-
-// The place behind the blank that ends the word at a place.
-fn behind(line: &[u8], from: usize) -> usize {
-    if line.len() < from {
-        return line.len();
-    }
-    let n = text::number_at(line, from);
-    let next = n.next;
-    if next < line.len() {
-        next + 1
-    } else {
-        line.len()
-    }
-}
-
 // The card after the line; what it answers is printed.
 fn answered(t: Taken, text: &[u8], reply: &mut [u8]) -> Card {
     let mut store = [0u8; RECORD_LENGTH];
@@ -362,27 +287,6 @@ fn line_to(rig: Rig, line: &[u8]) -> Rig {
     let mut reply = [0u8; REPLY];
     let c = answered(t, &line[from..], &mut reply[0..room]);
     with_card(seen, place_of(card), c)
-}
-
-// The bytes that the digits behind a place stand for, as many as a record has.
-fn bytes_at(line: &[u8], from: usize) -> [u8; RECORD_LENGTH]
-    requires { ⌜ from ≤ 100 ⌝ }
-{
-    let mut bytes = [0u8; RECORD_LENGTH];
-    for i in 0..RECORD_LENGTH {
-        bytes[i] = hex_at(line, from + 2 * i);
-    }
-    bytes
-}
-
-// How many there are.
-fn bytes_behind(line: &[u8], from: usize) -> usize
-    ensures { λ r. ⌜ r ≤ 308 ⌝ }
-{
-    if line.len() <= from {
-        return 0;
-    }
-    least((line.len() - from) / 2, RECORD_LENGTH)
 }
 
 fn load(rig: Rig, line: &[u8]) -> Rig {
@@ -441,7 +345,8 @@ fn taken(rig: Rig, r: Reader, block: &[u8]) -> Rig
     call(rig, &block[start..end])
 }
 
-fn main() {
+// The calls of an input.
+fn run(input: i32) {
     let mut block = [0u8; BUFFER];
     let mut line = [0u8; KEPT];
     let fresh = start_card();
@@ -454,7 +359,29 @@ fn main() {
     };
     let mut r = input::start();
     while r.left > 0 && r.going {
-        r = next_line(r, STDIN_FILENO, &mut block, &mut line);
+        r = next_line(r, input, &mut block, &mut line);
         rig = taken(rig, r, &block);
+    }
+}
+
+fn main() {
+    let input = opening::open_input(
+        b"plrack reads calls on up to four cards that share a backplane, and prints an answer for each.
+
+usage: plrack [FILE]     with no FILE it reads standard input
+
+    rack 2                             a row of two fresh cards (`rack 2 32`: the last with 32 cells)
+    start                              a start: BNC1 to BNC8 of each become inputs
+    line 1 99 M E=33                   a line to card 1, with room for a reply of 99 bytes
+    load 1 RECORD                      a record in hex to card 1
+    tick 0 Q 01 ff 00 ff 00 ff         clock, Full or Quick; sample and attached of the backplane and of each front
+
+A call prints its number, 0 where it is accepted, and what it answers; a line of another form prints `?`.
+
+    plrack examples/two-cards.rack
+",
+    );
+    if input != opening::NOTHING {
+        run(input);
     }
 }

@@ -3,7 +3,6 @@
 ghost use Prim.Native.Nat.{_≤_, _<_};
 use card::card::Card;
 use card::limits::Number;
-use libc::STDIN_FILENO;
 use libc::STDOUT_FILENO;
 use ticks::view::sees;
 
@@ -136,12 +135,31 @@ fn put_columns(card: Card) {
     }
 }
 
-fn main() {
-    let run = runner::run_from(STDIN_FILENO, runner::QUIET);
-    let card = run.card;
+fn survey_of(card: Card) {
     if put_rows(card) {
         put_columns(card);
     } else {
         put(b"Nothing depends on any line.\n");
     }
+}
+
+fn main() {
+    let input = opening::open_input(
+        b"plsurvey reads lines of a card and ticks, and prints what depends on each line of the rig.
+
+usage: plsurvey [FILE]     with no FILE it reads standard input
+
+`TTL0: cells 1 2; BNC1` says that cells 1 and 2 and the connector BNC1 can depend on TTL0, and nothing else
+can. `BNC1 <- TTL0` says the same of an output: only TTL0 can move it. What was refused is told on the error
+output.
+
+    plsurvey examples/clock.lines
+",
+    );
+    if input == opening::NOTHING {
+        return;
+    }
+    let run = runner::run_from(input, runner::QUIET);
+    let card = run.card;
+    survey_of(card);
 }

@@ -1,10 +1,10 @@
--- `plrack::bytes_at` is safe and ends: the place of the next byte stays within the record.
+-- `plrack::fields::bytes_at` is safe and ends: the place of the next byte stays within the record.
 use Prim.Native.Nat.{_-_, _≤_}
 use mathlib.Core.Path.{_≡_}
 use lib.ListN.{length}
 use borrow.Author.Needs.{needs}
-use Rattle.plrack.proofs.bytes_at.Statement.{statement}
-use Rattle.plrack.proofs.bytes_at.Tie as tie
+use Rattle.plrack.proofs.fields.bytes_at.Statement.{statement}
+use Rattle.plrack.proofs.fields.bytes_at.Tie as tie
 
 abbrev Inv-loop : tie.InvT-loop
 Inv-loop line from bytes₀ i₀ bytes i = (i ≤ 308) × (length bytes ≡ 308)

@@ -1,16 +1,16 @@
--- `plrack::main` is safe and ends: the reader stays within its block, and each line leaves fewer lines and reads.
+-- `plrack::run` is safe and ends: the reader stays within its block, and each line leaves fewer lines and reads.
 use Prim.Native.Nat.{_≤_}
 use mathlib.Core.Path.{_≡_}
 use lib.ListN.{length}
 use borrow.Author.Needs.{needs}
-use Rattle.plrack.proofs.main.Statement.{statement}
-use Rattle.plrack.proofs.main.Tie as tie
+use Rattle.plrack.proofs.run.Statement.{statement}
+use Rattle.plrack.proofs.run.Tie as tie
 
 abbrev Inv-loop : tie.InvT-loop
-Inv-loop block₀ line₀ rig₀ r₀ block line rig r = (r .end ≤ r .n) × (r .n ≤ length block) × (length block ≡ 2692) × (length line ≡ 644)
+Inv-loop input block₀ line₀ rig₀ r₀ block line rig r = (r .end ≤ r .n) × (r .n ≤ length block) × (length block ≡ 2692) × (length line ≡ 644)
 
 abbrev μ-loop : tie.MeasureT-loop
-μ-loop block₀ line₀ rig₀ r₀ block line rig r = r .left
+μ-loop input block₀ line₀ rig₀ r₀ block line rig r = r .left
 
 start-card-requires : tie.Need-start-card-requires Inv-loop μ-loop
 start-card-requires c κs = search needs
@@ -51,8 +51,8 @@ returns c = search needs
 returns-2 : tie.Need-returns-2 Inv-loop μ-loop
 returns-2 c = search needs
 
-pub main-spec : {M : Type 1} → statement M
-main-spec =
+pub run-spec : {M : Type 1} → statement M
+run-spec =
     tie.close
     (tie.spec
     Inv-loop

@@ -1,4 +1,4 @@
--- `plchart::main` meets its contract: the text ends within its room.
+-- `plchart::print_chart` meets its contract: the text ends within its room.
 use Prim.Native.Nat.{ℕ}
 use mathlib.Core.Path.{_≡_, ap, _∙_}
 use native.Mathlib.Omega.{arith}
@@ -7,8 +7,8 @@ use lib.Seq.{length-sets}
 use Rattle.card.specs.Address.{cellCount}
 use Rattle.plchart.specs.Rows.{chartText, textMost}
 use borrow.Author.Needs.{needs}
-use Rattle.plchart.proofs.main.Statement.{statement}
-use Rattle.plchart.proofs.main.Tie as tie
+use Rattle.plchart.proofs.print_chart.Statement.{statement}
+use Rattle.plchart.proofs.print_chart.Tie as tie
 
 put-chart-requires : tie.Need-put-chart-requires
 put-chart-requires c κs = search needs
@@ -32,8 +32,8 @@ write-all-requires c κs = search needs
 returns : tie.Need-returns
 returns c = search needs
 
-pub main-spec : {M : Type 1} → statement M
-main-spec =
+pub print-chart-spec : {M : Type 1} → statement M
+print-chart-spec =
     tie.close
     (tie.spec
     put-chart-requires
