@@ -1,5 +1,5 @@
--- A card in a rack wakes whom the rules name, and its timers keep their word; and a row of one card without push-pull lines on the backplane ticks as that card alone: what it pulls low are
--- its open-drain lines that are driven low, and those are low already.
+-- A card in a rack wakes whom the rules name, and its timers keep their word; and a row of one card without push-pull lines on the backplane ticks as that
+-- card alone: what it pulls low are its open-drain lines that are driven low, and those are low already.
 use Prim.Native.Nat.{ℕ, _<_}
 use mathlib.Core.Path.{_≡_, refl, sym, ap, ap₂, _∙_}
 use mathlib.Core.Bool.{Bool, true, false, not, _&&_, _||_, cond}

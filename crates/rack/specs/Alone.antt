@@ -1,5 +1,5 @@
--- What a rack shares with a card by itself: a quick tick wakes the cells that the rules name, whatever lines are pulled low; a timer keeps its word; and a row of
--- one card without push-pull lines on the backplane ticks as that card alone. With such a line it may not: "push-pull there counts as open-drain".
+-- What a rack shares with a card by itself: a quick tick wakes the cells that the rules name, whatever lines are pulled low; a timer keeps its word; and a row
+-- of one card without push-pull lines on the backplane ticks as that card alone. With such a line it may not: "push-pull there counts as open-drain".
 use Prim.Native.Nat.{ℕ, _<_}
 use mathlib.Core.Path.{_≡_}
 use mathlib.Core.Bool.{Bool, true, false}

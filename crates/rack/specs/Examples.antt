@@ -103,6 +103,18 @@ supplySession =
     ∷ (lineTo 2 "36CCA X=19", refused 13 ":N-13\r\n")
     ∷ []
 
+-- on a row that draws too much already, three fresh cards with 24: what changes no front type is free, a preset on connectors that are push-pull already too;
+-- a change that leaves the row over 16 is refused, open-drain and `PM E=4` among them
+overSession : List (RackCall × RackReply)
+overSession =
+    (lineTo 1 "M E=33", accepted)
+    ∷ (lineTo 1 "36CCA Z=64", accepted)
+    ∷ (lineTo 1 "36CCA X=19", accepted)
+    ∷ (lineTo 1 "36CCA Y=1", refused 19 ":N-19\r\n")
+    ∷ (lineTo 1 "PM E=4", refused 19 ":N-19\r\n")
+    ∷ (lineTo 1 "PM E=3", accepted)
+    ∷ []
+
 -- ---- who pulls a line low
 
 -- card 1 has TTL0 open-drain from 0: both cards see it low. It idles and its connector becomes an input: it goes on pulling, until it runs again
@@ -160,6 +172,10 @@ told session = map (λ (e : RackCall × RackReply). e .1) session
 supply-session : answers cellCount (startRow cellCount 3) (asked supplySession) ≡ told supplySession
 unfolding supplySession presetCell presetSource setsFront preset bytesOf ones onesIn withBit wordOf bitAt listed valueBy isDigit digitsOf leads plain numberIn numberAt decimalFrom decimal rowOf slotsOf taken raised workAs workOut stirredAs stirred disagree wakes levelAt readsLevels reads slotsRead mixed view effectiveSample linesOf move setTrigger home currentCell currentConnector putCell putConnectors typed setType configuredState configured setConfig statedAs stated setState wired setSlots setConnectorType setSource configShown stateAs presetTable settingOf offered readNow readLast named turnAt outputsBelow turned tick permittedBase badPlace badCellType badConnectorType badClock badConfig unusedSlot badAddress noConfig badStateAs badState noState frontDriven validSlot validSlots validCell validConnector every valid bigEndian cellField connectorField fieldsFrom encode bigValue cellIn connectorIn normalCell recordOf sameBytes loadNumberAs loadedAs loadNumber loaded isWord isWhole toEnd slotOf gave give pairRead pairsOf writeOf ccaWrite ccaRead ccaForm slotForm ccbForm readOf readForm cardForm plainForm addressed parse alone refusal slotIndex changed changeFor responseTo decision decisionFor lineDecision lineOutcome replyOf kindAt sourceAt withKind withSource each fromEach wellFormed drivenWord levelsFrom pulledWord countOf pulls sharedLevels sharedTick pushes draw sameKinds sumOf over anyLarge startNumber startedRow lowLines ticksFrom tickNumber tickedRow rowAnswers rowOutcome linedRow rowLoadNumber loadedRow rowReply rowSaved afterCall answer answersOf lineTo accepted said refused tickOf ran ticked fronts
 supply-session = refl
+
+over-session : answers cellCount (replicate 3 (freshOf cellCount)) (asked overSession) ≡ told overSession
+unfolding overSession presetCell presetSource setsFront preset bytesOf ones onesIn withBit wordOf bitAt listed valueBy isDigit digitsOf leads plain numberIn numberAt decimalFrom decimal rowOf slotsOf taken raised workAs workOut stirredAs stirred disagree wakes levelAt readsLevels reads slotsRead mixed view effectiveSample linesOf move setTrigger home currentCell currentConnector putCell putConnectors typed setType configuredState configured setConfig statedAs stated setState wired setSlots setConnectorType setSource configShown stateAs presetTable settingOf offered readNow readLast named turnAt outputsBelow turned tick permittedBase badPlace badCellType badConnectorType badClock badConfig unusedSlot badAddress noConfig badStateAs badState noState frontDriven validSlot validSlots validCell validConnector every valid bigEndian cellField connectorField fieldsFrom encode bigValue cellIn connectorIn normalCell recordOf sameBytes loadNumberAs loadedAs loadNumber loaded isWord isWhole toEnd slotOf gave give pairRead pairsOf writeOf ccaWrite ccaRead ccaForm slotForm ccbForm readOf readForm cardForm plainForm addressed parse alone refusal slotIndex changed changeFor responseTo decision decisionFor lineDecision lineOutcome replyOf kindAt sourceAt withKind withSource each fromEach wellFormed drivenWord levelsFrom pulledWord countOf pulls sharedLevels sharedTick pushes draw sameKinds sumOf over anyLarge startNumber startedRow lowLines ticksFrom tickNumber tickedRow rowAnswers rowOutcome linedRow rowLoadNumber loadedRow rowReply rowSaved afterCall answer answersOf lineTo accepted said refused tickOf ran ticked fronts
+over-session = refl
 
 idle-session : answers cellCount (startRow cellCount 2) (asked idleSession) ≡ told idleSession
 unfolding idleSession bytesOf ones onesIn withBit wordOf bitAt listed valueBy isDigit digitsOf leads plain numberIn numberAt decimalFrom decimal rowOf slotsOf taken raised workAs workOut stirredAs stirred disagree wakes levelAt readsLevels reads slotsRead mixed view effectiveSample linesOf move setTrigger home currentCell currentConnector putCell putConnectors typed setType configuredState configured setConfig statedAs stated setState wired setSlots setConnectorType setSource configShown stateAs presetTable settingOf offered readNow readLast named turnAt outputsBelow turned tick permittedBase badPlace badCellType badConnectorType badClock badConfig unusedSlot badAddress noConfig badStateAs badState noState frontDriven validSlot validSlots validCell validConnector every valid bigEndian cellField connectorField fieldsFrom encode bigValue cellIn connectorIn normalCell recordOf sameBytes loadNumberAs loadedAs loadNumber loaded isWord isWhole toEnd slotOf gave give pairRead pairsOf writeOf ccaWrite ccaRead ccaForm slotForm ccbForm readOf readForm cardForm plainForm addressed parse alone refusal slotIndex changed changeFor responseTo decision decisionFor lineDecision lineOutcome replyOf kindAt sourceAt withKind withSource each fromEach wellFormed drivenWord levelsFrom pulledWord countOf pulls sharedLevels sharedTick pushes draw sameKinds sumOf over anyLarge startNumber startedRow lowLines ticksFrom tickNumber tickedRow rowAnswers rowOutcome linedRow rowLoadNumber loadedRow rowReply rowSaved afterCall answer answersOf lineTo accepted said refused tickOf ran ticked fronts
