@@ -1,4 +1,4 @@
-// The fields of a call: digits, numbers and bytes in hex at places of a line, whatever the line holds.
+// The fields of a call: digits, numbers and bytes in hex at places of a line that has the call's form.
 ghost use Prim.Native.Nat.{_≤_};
 use input::least;
 use rack::pass::Front;
@@ -7,12 +7,12 @@ use saved::record::RECORD_LENGTH;
 // The longest reply buffer.
 pub const REPLY: usize = 99;
 
-// The byte at a place, or a blank behind the line.
+// The byte at a place, or a NUL behind the line, which is in no form.
 pub fn at(line: &[u8], i: usize) -> u8 {
     if i < line.len() {
         return line[i];
     }
-    b' '
+    0
 }
 
 // A digit of a number in hex, 0 where it is none.

@@ -9,6 +9,7 @@
 // A program cannot lend a row of cards that it holds itself, so the cards are held by value: what is done to each is done by the jobs of the calls on a
 // lent row (rack::pass::visit, rack::job), card by card. That these jobs are the calls is proved there.
 mod fields;
+mod forms;
 
 ghost use Prim.Native.Nat.{_≤_};
 ghost use lib.ListN.{length};
@@ -24,7 +25,11 @@ use fields::digit;
 use fields::front_at;
 use fields::hex_at;
 use fields::number;
-use fields::starts;
+use forms::is_line;
+use forms::is_load;
+use forms::is_rack;
+use forms::is_start;
+use forms::is_tick;
 use input::BLOCK;
 use input::Reader;
 use input::least;
@@ -306,19 +311,19 @@ fn load(rig: Rig, line: &[u8]) -> Rig {
 
 fn call(rig: Rig, line: &[u8]) -> Rig {
     if line.len() <= LONGEST {
-        if starts(line, b"rack ") {
+        if is_rack(line) {
             return made(line);
         }
-        if starts(line, b"start") {
+        if is_start(line) {
             return start(rig);
         }
-        if starts(line, b"tick ") {
+        if is_tick(line) {
             return tick(rig, line);
         }
-        if starts(line, b"line ") {
+        if is_line(line) {
             return line_to(rig, line);
         }
-        if starts(line, b"load ") {
+        if is_load(line) {
             return load(rig, line);
         }
     }
