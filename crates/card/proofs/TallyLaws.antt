@@ -79,6 +79,23 @@ module _ (named : ℕ) (cells : List Ticks) where
         let above : (j : ℕ) → bitAt named (n + j) ≡ false = λ j. bit-above named n (n + j) small (omega arith) in
         mine ∙ sym (all-counted n n _ refl h above)
 
+-- all tallies after a tick: below the standstill those of the named cells went up, at it none
+pub all-tallied : (named : ℕ) (t : Tallies) → length (t .cells) ≡ cellRoom → (word i n : ℕ) (after : Tallies)
+    → word ≡ cond (ltb (t .total .0) standstill) named 0 → word < 2 ^ cellRoom → CountedTo word (t .cells) i 0 (after .cells)
+    → after .total ≡ cond (ltb (t .total .0) standstill) (ticks (t .total .0 + 1)) (t .total) → n ≤ cellRoom → named < 2 ^ n
+    → after ≡ talliedBy n (bitAt named) t
+unfolding talliedBy listed
+all-tallied named t room word i n after is fits so total h small = go (ltb (t .total .0) standstill) is total
+  where
+    go : (b : Bool) → word ≡ cond b named 0 → after .total ≡ cond b (ticks (t .total .0 + 1)) (t .total)
+        → after ≡ cond b (record { cells = listed (tallyNext named (t .cells)) n ++ drop n (t .cells); total = ticks (t .total .0 + 1) }) t
+    go true e whole =
+        let cells = end-counted named (t .cells) (rw e at fits) room i n (after .cells) (rw e at so) h small in
+        λ k. record { cells = cells k; total = whole k }
+    go false e whole =
+        let cells = end-counted 0 (t .cells) (rw e at fits) room i 0 (after .cells) (rw e at so) (omega arith) (omega arith) in
+        λ k. record { cells = cells k; total = whole k }
+
 -- the tallies go by what is named among the n cells
 pub tallied-same : (n : ℕ) (f g : ℕ → Bool) (t : Tallies) → ((i : ℕ) → i < n → f i ≡ g i) → talliedBy n f t ≡ talliedBy n g t
 unfolding talliedBy

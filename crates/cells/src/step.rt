@@ -21,7 +21,6 @@ use crate::reading::four;
 use crate::reading::three;
 use crate::reading::two;
 use crate::table::CounterKind;
-use crate::table::FlopKind;
 use crate::table::GateKind;
 use crate::table::Slots;
 use crate::wake::flop_wakes;
@@ -32,17 +31,17 @@ use crate::wake::moved3;
 use crate::wake::moved4;
 use crate::wake::started_wakes;
 use crate::wake::timer_wakes;
+use crate::work::DECIDES_AND;
+use crate::work::DECIDES_OR;
 use crate::work::Effect;
 use crate::work::counter;
 use crate::work::delay;
 use crate::work::flop;
 use crate::work::gate_out;
+use crate::work::jk;
 use crate::work::look;
 use crate::work::lookup;
 use crate::work::one_shot;
-
-// The type of OR4, which a high reading decides; a low one decides AND4, the type before it.
-const OR4: u8 = 11;
 
 // Whether the rules name a cell, and what becomes of it.
 pub struct Stepped {
@@ -157,21 +156,20 @@ fn lookup4_step(
     }
 }
 
-// A gate of four slots, which looks at them one by one.
+// A gate of four slots, which looks at them one by one. Whether the rules name it is handed over: so the function is short enough to be compiled into both
+// of its callers, with what decides as a constant.
 fn look_step(
     deciding: bool,
     full: bool,
-    edited: bool,
+    named: bool,
     x: u8,
     y: u8,
     z: u8,
     f: u8,
     q: &[u64; QUARTERS],
-    d: &[u64; QUARTERS],
 ) -> Stepped
-    ensures { λ r. ⌜ ((s : State) → StepsTo r full (edited || anySlot (slotsFrom (now (d .entry)) x y z f)) s (keeping s (looked deciding (slotsFrom (now (q .entry)) x y z f) .out))) ⌝ }
+    ensures { λ r. ⌜ ((s : State) → StepsTo r full named s (keeping s (looked deciding (slotsFrom (now (q .entry)) x y z f) .out))) ⌝ }
 {
-    let named = edited | moved4(d, x, y, z, f);
     if full | named {
         let l = look(deciding, x, y, z, f, q);
         let effect = Effect::Same(l.out);
@@ -188,21 +186,9 @@ fn look_step(
     }
 }
 
-// The flip-flop that a type is, of those with D. A function that is called from one place alone is compiled into it: in the loop over the cells a call costs
-// more than this test.
-fn flop_of(kind: u8) -> FlopKind
-    ensures { λ r. ⌜ r ≡ flopOf kind ⌝ }
-{
-    match kind {
-        1 => FlopKind::DFlop,
-        12 => FlopKind::SyncDFlop,
-        _ => FlopKind::ClearDFlop,
-    }
-}
-
 // A D flip-flop, and a JK.
 fn flop_step(
-    kind: FlopKind,
+    kind: u8,
     full: bool,
     edited: bool,
     bit: bool,
@@ -213,11 +199,11 @@ fn flop_step(
     q: &[u64; QUARTERS],
     d: &[u64; QUARTERS],
 ) -> Stepped
-    ensures { λ r. ⌜ ((count : Pulses) (pulse : Bool) → let s = state count bit pulse in StepsTo r full (edited || (readFrom (now (q .entry)) y || anySlot (slots (readFrom (now (d .entry)) x) false (readFrom (now (d .entry)) z) (readFrom (now (d .entry)) f)))) s (workAs (Flop kind) 0 s (slotsFrom (now (q .entry)) x y z f))) ⌝ }
+    ensures { λ r. ⌜ ((count : Pulses) (pulse : Bool) → let s = state count bit pulse in StepsTo r full (edited || (readFrom (now (q .entry)) y || anySlot (slots (readFrom (now (d .entry)) x) false (readFrom (now (d .entry)) z) (readFrom (now (d .entry)) f)))) s (workAs (Flop (flopOf kind)) 0 s (slotsFrom (now (q .entry)) x y z f))) ⌝ }
 {
     let named = edited | flop_wakes(x, y, z, f, q, d);
     if full | named {
-        let effect = flop(kind, bit, four(q, x, y, z, f));
+        let effect = Effect::Bit(flop(kind, bit, x, y, z, f, q));
         Stepped {
             named: named,
             effect: effect,
@@ -245,7 +231,7 @@ fn jk_step(
 {
     let named = edited | jk_wakes(x, y, z, q, d);
     if full | named {
-        let effect = flop(FlopKind::Jk, bit, three(q, x, y, z));
+        let effect = Effect::Bit(jk(bit, x, y, z, q));
         Stepped {
             named: named,
             effect: effect,
@@ -398,7 +384,7 @@ pub fn step(
 {
     match kind {
         0 => fixed_step(full, edited, config != 0),
-        1 | 12 | 18 => flop_step(flop_of(kind), full, edited, bit, x, y, z, f, q, d),
+        1 | 12 | 18 => flop_step(kind, full, edited, bit, x, y, z, f, q, d),
         2 => pair_step(GateKind::Lookup, full, edited, config, x, y, q, d),
         3 => lookup3_step(full, edited, config, x, y, z, q, d),
         4 => lookup4_step(full, edited, config, x, y, z, f, q, d),
@@ -427,7 +413,26 @@ pub fn step(
             z,
             d,
         ),
-        10 | 11 => look_step(kind == OR4, full, edited, x, y, z, f, q, d),
+        10 => look_step(
+            DECIDES_AND,
+            full,
+            edited | moved4(d, x, y, z, f),
+            x,
+            y,
+            z,
+            f,
+            q,
+        ),
+        11 => look_step(
+            DECIDES_OR,
+            full,
+            edited | moved4(d, x, y, z, f),
+            x,
+            y,
+            z,
+            f,
+            q,
+        ),
         13 => jk_step(full, edited, bit, x, y, z, q, d),
         14 => shot_step(
             false,

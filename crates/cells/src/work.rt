@@ -1,21 +1,20 @@
 // A cell worked out: one function for each family.
 ghost use mathlib.Core.Bool.{Bool};
 ghost use mathlib.Core.Path.{_≡_};
-ghost use Rattle.cells.specs.declared.table.Class.the-variants.{Flop, OneShot, Delay, Counter};
+ghost use Rattle.cells.specs.declared.table.Class.the-variants.{OneShot, Delay, Counter};
 ghost use Rattle.cells.specs.declared.cell.Pulses.{Pulses};
 ghost use Rattle.cells.specs.State.{state};
-ghost use Rattle.cells.specs.Reading.{slotsFrom};
+ghost use Rattle.cells.specs.Reading.{threeFrom, slotsFrom};
 ghost use Rattle.cells.specs.Work;
 ghost use Rattle.cells.specs.Work.{lookupOut, looked, dFlop, syncDFlop, clearDFlop, flopNext, shotBusy, delayBusy, nextCount, nextPulse, pulses};
 ghost use Rattle.cells.specs.Work.{countAfter, pulseAfter, startedBy, activeAfter, keptActive, countedUp, workAs, gateOut};
-ghost use Rattle.cells.specs.Effect.{workedBy};
+ghost use Rattle.cells.specs.Effect.{workedBy, flopOf};
 use crate::cell::Config;
 use crate::cell::Count;
 use crate::cell::Pulses;
 use crate::reading::QUARTERS;
 use crate::reading::read;
 use crate::table::CounterKind;
-use crate::table::FlopKind;
 use crate::table::GateKind;
 use crate::table::Slots;
 use crate::table::packed;
@@ -80,71 +79,72 @@ pub const DECIDES_AND: bool = false;
 
 pub const DECIDES_OR: bool = true;
 
-fn d_flop(r: Slots, bit: bool) -> bool
-    ensures { λ q. ⌜ q ≡ dFlop r bit ⌝ }
+// A flip-flop's next bit. It reads a slot only where those before it have not decided: what is held in four bools would be packed into a word and taken apart.
+
+fn d_flop(bit: bool, x: u8, y: u8, z: u8, f: u8, q: &[u64; QUARTERS]) -> bool
+    ensures { λ b. ⌜ b ≡ dFlop (slotsFrom (now (q .entry)) x y z f) bit ⌝ }
 {
-    if r.z {
+    if read(q, z) {
         false
-    } else if r.f {
+    } else if read(q, f) {
         true
-    } else if r.y {
-        r.x
+    } else if read(q, y) {
+        read(q, x)
     } else {
         bit
     }
 }
 
-fn sync_d_flop(r: Slots, bit: bool) -> bool
-    ensures { λ q. ⌜ q ≡ syncDFlop r bit ⌝ }
+fn sync_d_flop(bit: bool, x: u8, y: u8, z: u8, f: u8, q: &[u64; QUARTERS]) -> bool
+    ensures { λ b. ⌜ b ≡ syncDFlop (slotsFrom (now (q .entry)) x y z f) bit ⌝ }
 {
-    if r.y {
-        if r.z {
+    if read(q, y) {
+        if read(q, z) {
             false
-        } else if r.f {
+        } else if read(q, f) {
             true
         } else {
-            r.x
+            read(q, x)
         }
     } else {
         bit
     }
 }
 
-fn clear_d_flop(r: Slots, bit: bool) -> bool
-    ensures { λ q. ⌜ q ≡ clearDFlop r bit ⌝ }
+fn clear_d_flop(bit: bool, x: u8, y: u8, z: u8, f: u8, q: &[u64; QUARTERS]) -> bool
+    ensures { λ b. ⌜ b ≡ clearDFlop (slotsFrom (now (q .entry)) x y z f) bit ⌝ }
 {
-    if r.z {
+    if read(q, z) {
         false
-    } else if r.y {
-        if r.f { false } else { r.x }
+    } else if read(q, y) {
+        if read(q, f) { false } else { read(q, x) }
     } else {
         bit
     }
 }
 
-fn jk(r: Slots, bit: bool) -> bool
-    ensures { λ q. ⌜ q ≡ Work.jk r bit ⌝ }
+pub fn jk(bit: bool, x: u8, y: u8, z: u8, q: &[u64; QUARTERS]) -> bool
+    ensures { λ b. ⌜ b ≡ Work.jk (threeFrom (now (q .entry)) x y z) bit ⌝ }
 {
-    if r.z {
-        if r.x {
-            if r.y { !bit } else { true }
+    if read(q, z) {
+        if read(q, x) {
+            if read(q, y) { !bit } else { true }
         } else {
-            if r.y { false } else { bit }
+            if read(q, y) { false } else { bit }
         }
     } else {
         bit
     }
 }
 
-// A flip-flop's next bit.
-fn flop_next(flop: FlopKind, r: Slots, bit: bool) -> bool
-    ensures { λ q. ⌜ q ≡ flopNext flop r bit ⌝ }
+// One with D, by its type: 1, 12 or 18.
+pub fn flop(kind: u8, bit: bool, x: u8, y: u8, z: u8, f: u8, q: &[u64; QUARTERS]) -> bool
+    ensures { λ b. ⌜ b ≡ flopNext (flopOf kind) (slotsFrom (now (q .entry)) x y z f) bit ⌝ }
 {
-    match flop {
-        FlopKind::DFlop => d_flop(r, bit),
-        FlopKind::SyncDFlop => sync_d_flop(r, bit),
-        FlopKind::ClearDFlop => clear_d_flop(r, bit),
-        FlopKind::Jk => jk(r, bit),
+    match kind {
+        1 => d_flop(bit, x, y, z, f, q),
+        12 => sync_d_flop(bit, x, y, z, f, q),
+        _ => clear_d_flop(bit, x, y, z, f, q),
     }
 }
 
@@ -300,12 +300,6 @@ pub enum Effect {
 }
 
 // Each of the families asks only for the parts of the state that matter to it, and says what becomes of any state that has them.
-
-pub fn flop(flop: FlopKind, bit: bool, r: Slots) -> Effect
-    ensures { λ e. ⌜ ((count : Pulses) (pulse out : Bool) → let s = state count bit pulse in workedBy s out e ≡ workAs (Flop flop) 0 s r) ⌝ }
-{
-    Effect::Bit(flop_next(flop, r, bit))
-}
 
 pub fn one_shot(retrigger: bool, config: Config, count: Pulses, r: Slots) -> Effect
     ensures { λ e. ⌜ ((bit pulse out : Bool) → let s = state count bit pulse in workedBy s out e ≡ workAs (OneShot retrigger) config s r) ⌝ }

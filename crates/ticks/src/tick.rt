@@ -1,9 +1,9 @@
 // Ticks: full and quick.
 ghost use mathlib.Core.Bool.{Bool, true, false, not, _||_};
 ghost use mathlib.Core.Path.{_≡_};
-ghost use Prim.Native.Nat.{ℕ, _%_, _^_, _≤_, _<_};
+ghost use Prim.Native.Nat.{ℕ, _+_, _*_, _%_, _^_, _≤_, _<_};
 ghost use lib.Dec.{eqb};
-ghost use Rattle.words.specs.Bits.{bitAt, withBit};
+ghost use Rattle.words.specs.Bits.{bitAt, withBit, bitNumber};
 ghost use Rattle.cells.specs.State.{stateOf};
 ghost use Rattle.cells.specs.Effect.{StepsTo};
 ghost use Rattle.cells.specs.Work.{workOut};
@@ -140,6 +140,19 @@ fn flipped(w: CellWord, i: u32) -> CellWord
     w ^ (1 << i)
 }
 
+// A set of the cells below i with cell i, where the rules name it. The set is left alone where they do not, which is the way of most turns.
+fn noted(named: EditedSet, i: u32, is: bool) -> EditedSet
+    requires { ⌜ i < 64 ⌝ }
+    requires { ⌜ named < 2 ^ i ⌝ }
+    ensures { λ r. ⌜ r ≡ named + bitNumber is * 2 ^ i ⌝ }
+{
+    if is {
+        words::pushed(named, i, true)
+    } else {
+        named
+    }
+}
+
 // ---- a tick
 //
 // The two kinds stand side by side, since a card in a value that branches meet in is copied once more.
@@ -245,7 +258,7 @@ fn turn_each(full: bool, card: Card, m: Memory, l: Lines, n: u8) -> Ticked
                 out = o;
             }
         }
-        named = words::pushed(named, i, step.named);
+        named = noted(named, i, step.named);
         let mut moved = words::bit(shifted as u64, i);
         if out ^ last {
             outputs = flipped(outputs, i);

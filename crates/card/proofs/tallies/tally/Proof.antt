@@ -1,18 +1,15 @@
--- `card::tallies::tally` meets its contract: before each turn the cells below i are counted, and `left` is what is left of the word.
-use Prim.Native.Nat.{ℕ, _+_, _-_, _^_, _≤_, _<_, zero-le}
-use mathlib.Core.Path.{_≡_, refl, sym, ap, subst, _∙_}
+-- `card::tallies::tally` meets its contract: before each turn the cells below i are counted, and `left` is what is left of the word of those that may.
+use Prim.Native.Nat.{ℕ, _+_, _-_, _^_, _<_, zero-le}
+use mathlib.Core.Path.{_≡_, refl, sym, subst, _∙_}
 use mathlib.Core.List.{List, map}
 use native.Mathlib.Nat.{div-one}
-use native.Mathlib.Omega.{arith}
 use lib.ListN.{length, length-map}
 use borrow.Author.Needs.{needs}
-use borrow.Author.Tests.{lt-ltb, le-ltb}
 use Rattle.words.specs.Listed.{listed}
 use Rattle.cells.specs.declared.cell.Ticks.{Ticks}
 use Rattle.card.specs.declared.tallies.Tallies.{Tallies}
 use Rattle.card.specs.Address.{cellRoom}
-use Rattle.card.specs.Tally.{standstill, talliedBy}
-use Rattle.card.proofs.TallyLaws.{CountedTo, next-within, next-counted, end-counted}
+use Rattle.card.proofs.TallyLaws.{CountedTo, next-within, next-counted, all-tallied}
 use Rattle.card.proofs.tallies.tally.Statement.{statement}
 use Rattle.card.proofs.tallies.tally.Tie as tie
 
@@ -20,17 +17,17 @@ as-long : (X Y : Type 0) (g : X → Y) (l : List X) (n : ℕ) → length (map g 
 as-long X Y g l n e = sym (length-map l g) ∙ e
 
 abbrev Inv-loop : tie.InvT-loop
-Inv-loop named next₀ left₀ i₀ next left i = CountedTo named (next₀ .cells) i left (next .cells) × (next .total ≡ next₀ .total)
+Inv-loop named next₀ left₀ i₀ next left i = CountedTo left₀ (next₀ .cells) i left (next .cells) × (next .total ≡ next₀ .total)
 
 abbrev μ-loop : tie.MeasureT-loop
 μ-loop named next₀ left₀ i₀ next left i = cellRoom - i
 
 -- the word has a bit for each cell, and there are as many tallies
-fits : (at : tie.At-loop Inv-loop μ-loop) → at .before .before .before .before .before .args .named < 2 ^ cellRoom
-fits at = search needs
+fits : (at : tie.At-loop Inv-loop μ-loop) → at .before .before .counting .result .named < 2 ^ cellRoom
+fits at = at .before .before .counting .ensures .1 .1
 
-room : (at : tie.At-loop Inv-loop μ-loop) → length (at .before .before .before .before .before .args .t .cells) ≡ cellRoom
-room at = search (as-long, at .before .before .before .before .before .good)
+room : (at : tie.At-loop Inv-loop μ-loop) → length (at .before .before .before .args .t .cells) ≡ cellRoom
+room at = search (as-long, at .before .before .before .good)
 
 -- the next named cell is one of the card's
 here : (c : tie.After-lowest Inv-loop μ-loop) → c .before .before .loop .i + c .lowest .result < cellRoom
@@ -38,12 +35,8 @@ here c =
     let at = c .before .before in
     next-within _ _ (fits at) (room at) _ _ _ _ (at .loop .inv .0) (c .lowest .ensures .0)
 
-returns : tie.Need-returns Inv-loop μ-loop
-unfolding talliedBy
-returns c n h small = rw (le-ltb (c .before .before .before .args .t .total .0) standstill (c .if1 .taken))
-
-add-t12 : tie.Need-add-t12 Inv-loop μ-loop
-add-t12 c = search needs
+counting-requires : tie.Need-counting-requires Inv-loop μ-loop
+counting-requires c κs = search needs
 
 loop-holds : tie.Need-loop-holds Inv-loop μ-loop
 unfolding listed
@@ -98,17 +91,16 @@ loop-again c =
     let l = at .loop in
     (next-counted _ _ (fits at) (room at) _ _ _ _ _ (l .inv .0) (low .lowest .ensures .0) (c .counted .ensures), l .inv .1)
 
-returns-2 : tie.Need-returns-2 Inv-loop μ-loop
-unfolding talliedBy
-returns-2 c n h small =
+returns : tie.Need-returns Inv-loop μ-loop
+returns c n h small =
     let at = c .before in
     let l = at .loop in
-    let a = at .before .before .before .before .before .args in
+    let counts = at .before .before .counting in
+    let a = at .before .before .before .args in
+    let word = counts .result .named in
     let none : l .left ≡ 0 = search needs in
-    let so = subst (λ (w : ℕ). CountedTo (a .named) (a .t .cells) (l .i) w (l .next .cells)) none (l .inv .0) in
-    let cells = end-counted (a .named) (a .t .cells) (fits at) (room at) (l .i) n (l .next .cells) so h small in
-    let total = l .inv .1 in
-    rw (lt-ltb (a .t .total .0) standstill (omega (arith, at .before .before .if1 .left))) (λ k. record { cells = cells k; total = total k })
+    let so = subst (λ (w : ℕ). CountedTo word (a .t .cells) (l .i) w (l .next .cells)) none (l .inv .0) in
+    all-tallied (a .named) (a .t) (room at) word (l .i) n (l .next) (counts .ensures .1 .0) (fits at) so (l .inv .1 ∙ counts .ensures .0) h small
 
 pub tally-spec : {M : Type 1} → statement M
 tally-spec =
@@ -116,8 +108,7 @@ tally-spec =
     (tie.spec
     Inv-loop
     μ-loop
-    returns
-    add-t12
+    counting-requires
     loop-holds
     lowest-requires
     add-at
@@ -134,4 +125,4 @@ tally-spec =
     add-i-2
     loop-less
     loop-again
-    returns-2)
+    returns)

@@ -1,10 +1,9 @@
 -- `cells::step::flop_step` meets its contract: what is asked is what the definition asks, and the work is its callee's.
-use mathlib.Core.Path.{_≡_, ap, _∙_}
+use mathlib.Core.Path.{ap, _∙_}
 use mathlib.Core.Bool.{Bool, _||_}
-use Rattle.cells.specs.declared.table.Class.the-variants.{Flop}
 use Rattle.cells.specs.Reading.{readFrom}
 use Rattle.cells.specs.State.{state}
-use Rattle.cells.specs.Work.{workAs}
+use Rattle.cells.specs.Work.{holding, workAs}
 use Rattle.cells.proofs.Steps.{gated-on, step-worked, step-slept}
 use borrow.Author.Needs.{needs}
 use Rattle.cells.proofs.step.flop_step.Statement.{statement}
@@ -13,22 +12,19 @@ use Rattle.cells.proofs.step.flop_step.Tie as tie
 flop-wakes-requires : tie.Need-flop-wakes-requires
 flop-wakes-requires c κs = search needs
 
-four-requires : tie.Need-four-requires
-four-requires c κs = search needs
-
 flop-requires : tie.Need-flop-requires
 flop-requires c κs = search needs
 
 returns : tie.Need-returns
+unfolding workAs
 returns c count pulse =
-    let asked = c .before .before .before in
+    let asked = c .before .before in
     let a = asked .before .args in
     let s = state count (a .bit) pulse in
     let is = ap (λ (b : Bool). a .edited || b)
     (asked .flop-wakes .ensures
     ∙ gated-on (readFrom (a .q .now) (a .y)) (readFrom (a .d .now) (a .x)) (readFrom (a .d .now) (a .z)) (readFrom (a .d .now) (a .f))) in
-    step-worked _ _ _ s _ is _ (c .before .before .if1 .taken)
-    (λ out. c .flop .ensures count pulse out ∙ ap (workAs (Flop (a .kind)) 0 s) (c .before .four .ensures))
+    step-worked _ _ _ s _ is _ (c .before .if1 .taken) (λ out. ap (holding s) (c .flop .ensures))
 
 returns-2 : tie.Need-returns-2
 returns-2 c count pulse =
@@ -41,4 +37,4 @@ returns-2 c count pulse =
 
 pub flop-step-spec : {M : Type 1} → statement M
 flop-step-spec =
-    tie.close (tie.spec flop-wakes-requires four-requires flop-requires returns returns-2)
+    tie.close (tie.spec flop-wakes-requires flop-requires returns returns-2)

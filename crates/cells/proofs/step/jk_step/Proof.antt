@@ -1,12 +1,10 @@
 -- `cells::step::jk_step` meets its contract: what is asked is what the definition asks, and the work is its callee's.
-use mathlib.Core.Path.{_≡_, ap, _∙_}
+use mathlib.Core.Path.{ap, _∙_}
 use mathlib.Core.Bool.{Bool, _||_}
-use Rattle.cells.specs.declared.table.Class.the-variants.{Flop}
-use Rattle.cells.specs.declared.table.FlopKind.the-variants.{Jk}
 use Rattle.cells.specs.Reading.{readFrom}
 use Rattle.cells.specs.State.{state}
 use Rattle.cells.specs.Wake.{stirredAs}
-use Rattle.cells.specs.Work.{workAs}
+use Rattle.cells.specs.Work.{holding, workAs}
 use Rattle.cells.proofs.Steps.{pair-on, step-worked, step-slept}
 use borrow.Author.Needs.{needs}
 use Rattle.cells.proofs.step.jk_step.Statement.{statement}
@@ -15,22 +13,18 @@ use Rattle.cells.proofs.step.jk_step.Tie as tie
 jk-wakes-requires : tie.Need-jk-wakes-requires
 jk-wakes-requires c κs = search needs
 
-three-requires : tie.Need-three-requires
-three-requires c κs = search needs
-
-flop-requires : tie.Need-flop-requires
-flop-requires c κs = search needs
+jk-requires : tie.Need-jk-requires
+jk-requires c κs = search needs
 
 returns : tie.Need-returns
-unfolding stirredAs
+unfolding stirredAs workAs
 returns c count pulse =
-    let asked = c .before .before .before in
+    let asked = c .before .before in
     let a = asked .before .args in
     let s = state count (a .bit) pulse in
     let is = ap (λ (b : Bool). a .edited || b)
     (asked .jk-wakes .ensures ∙ pair-on (readFrom (a .q .now) (a .z)) (readFrom (a .d .now) (a .x)) (readFrom (a .d .now) (a .y))) in
-    step-worked _ _ _ s _ is _ (c .before .before .if1 .taken)
-    (λ out. c .flop .ensures count pulse out ∙ ap (workAs (Flop Jk) 0 s) (c .before .three .ensures))
+    step-worked _ _ _ s _ is _ (c .before .if1 .taken) (λ out. ap (holding s) (c .jk .ensures))
 
 returns-2 : tie.Need-returns-2
 unfolding stirredAs
@@ -43,4 +37,4 @@ returns-2 c count pulse =
 
 pub jk-step-spec : {M : Type 1} → statement M
 jk-step-spec =
-    tie.close (tie.spec jk-wakes-requires three-requires flop-requires returns returns-2)
+    tie.close (tie.spec jk-wakes-requires jk-requires returns returns-2)

@@ -1,10 +1,7 @@
 -- `cells::step::step` meets its contract: in each arm the type is known, and antt computes the row; the rest are past the table.
-use Prim.Native.Nat.{ℕ, _≤_, _<_}
-use native.Mathlib.Nat.{eq-or-lt-of-le}
-use native.Mathlib.Omega.{arith}
-use lib.Dec.{eqb}
+use Prim.Native.Nat.{ℕ}
 use mathlib.Core.Logic.{_⊎_, inl, inr, ⊎-elim}
-use mathlib.Core.Path.{_≡_, refl, sym, ap, subst, _∙_}
+use mathlib.Core.Path.{_≡_, refl, sym, ap, subst}
 use mathlib.Core.Bool.{Bool, true, false, _||_}
 use Rattle.cells.specs.declared.table.Row.{Row}
 use Rattle.cells.specs.declared.table.Slots.{Slots}
@@ -20,19 +17,16 @@ use Rattle.cells.specs.State.{state}
 use Rattle.cells.specs.Reading.{slotsFrom}
 use Rattle.cells.specs.Wake
 use Rattle.cells.specs.Wake.{stirredAs, moved}
-use Rattle.cells.specs.Work.{keeping, looked, workAs, workOut}
+use Rattle.cells.specs.Work.{keeping, workAs, workOut}
 use Rattle.cells.specs.Effect.{StepsTo, flopOf}
 use Rattle.cells.proofs.Gates.{looked-and, looked-or}
-use Rattle.cells.proofs.Rows.{Missed, missed, past-types}
+use Rattle.cells.proofs.Rows.{Missed, past-types}
 use borrow.Author.Needs.{needs}
 use Rattle.cells.proofs.step.step.Statement.{statement}
 use Rattle.cells.proofs.step.step.Tie as tie
 
 fixed-step-requires : tie.Need-fixed-step-requires
 fixed-step-requires c κs = search needs
-
-flop-of-requires : tie.Need-flop-of-requires
-flop-of-requires c κs = search needs
 
 flop-step-requires : tie.Need-flop-step-requires
 flop-step-requires c κs = search needs
@@ -66,6 +60,18 @@ three-requires-2 c κs = search needs
 
 delay-step-requires : tie.Need-delay-step-requires
 delay-step-requires c κs = search needs
+
+moved4-requires : tie.Need-moved4-requires
+moved4-requires c κs = search needs
+
+look-step-requires : tie.Need-look-step-requires
+look-step-requires c κs = search needs
+
+moved4-requires-2 : tie.Need-moved4-requires-2
+moved4-requires-2 c κs = search needs
+
+look-step-requires-2 : tie.Need-look-step-requires-2
+look-step-requires-2 c κs = search needs
 
 jk-step-requires : tie.Need-jk-step-requires
 jk-step-requires c κs = search needs
@@ -118,9 +124,6 @@ four-requires-6 c κs = search needs
 started-step-requires-2 : tie.Need-started-step-requires-2
 started-step-requires-2 c κs = search needs
 
-look-step-requires : tie.Need-look-step-requires
-look-step-requires c κs = search needs
-
 fixed-step-requires-2 : tie.Need-fixed-step-requires-2
 fixed-step-requires-2 c κs = search needs
 
@@ -156,25 +159,87 @@ as-read edited levels k config {full} {s} {r} {n} {t} e h =
 as-worked : {full named : Bool} {s : State} {w v : Worked} {t : Stepped} → w ≡ v → StepsTo t full named s w → StepsTo t full named s v
 as-worked {full} {named} {s} {w} {v} {t} e h = subst (λ (u : Worked). StepsTo t full named s u) e h
 
+as-named : {full b n : Bool} {s : State} {w : Worked} {t : Stepped} → b ≡ n → StepsTo t full b s w → StepsTo t full n s w
+as-named {full} {b} {n} {s} {w} {t} e h = subst (λ (v : Bool). StepsTo t full v s w) e h
+
 -- the flip-flop by another name
 as-flop : {full named : Bool} {s : State} (r : Slots) {t : Stepped} {j k : FlopKind} → j ≡ k
     → StepsTo t full named s (workAs (Flop j) 0 s r) → StepsTo t full named s (workAs (Flop k) 0 s r)
 as-flop {full} {named} {s} r {t} {j} {k} e h = subst (λ (f : FlopKind). StepsTo t full named s (workAs (Flop f) 0 s r)) e h
 
--- what the arms that go by a number tell of the others: the two that are left below 12 are the gates of four slots
-abbrev Others : ℕ → Type 0
-Others n =
-    ((((((((((((((((((Unit {0} × (n ≡ 0 → ⊥)) × ((n ≡ 1) ⊎ ((n ≡ 12) ⊎ (n ≡ 18)) → ⊥)) × (n ≡ 2 → ⊥)) × (n ≡ 3 → ⊥)) × (n ≡ 4 → ⊥)) × (n ≡ 5 → ⊥)) × (n ≡ 6 → ⊥)) × (n ≡ 7 → ⊥)) × (n ≡ 8 → ⊥)) × (n ≡ 9 → ⊥)) × (n ≡ 13 → ⊥)) × (n ≡ 14 → ⊥)) × (n ≡ 15 → ⊥)) × (n ≡ 16 → ⊥)) × (n ≡ 17 → ⊥)) × (n ≡ 19 → ⊥)) × (n ≡ 20 → ⊥)) × (n ≡ 21 → ⊥)) × (n ≡ 22 → ⊥)
-
-to-nine : (n : ℕ) → Others n → Missed n 10
-to-nine n m = ((((((((((tt, m .0 .0 .0 .0 .0 .0 .0 .0 .0 .0 .0 .0 .0 .0 .0 .0 .0 .0 .1), λ e. m .0 .0 .0 .0 .0 .0 .0 .0 .0 .0 .0 .0 .0 .0 .0 .0 .0 .1 (inl e)), m .0 .0 .0 .0 .0 .0 .0 .0 .0 .0 .0 .0 .0 .0 .0 .0 .1), m .0 .0 .0 .0 .0 .0 .0 .0 .0 .0 .0 .0 .0 .0 .0 .1), m .0 .0 .0 .0 .0 .0 .0 .0 .0 .0 .0 .0 .0 .0 .1), m .0 .0 .0 .0 .0 .0 .0 .0 .0 .0 .0 .0 .0 .1), m .0 .0 .0 .0 .0 .0 .0 .0 .0 .0 .0 .0 .1), m .0 .0 .0 .0 .0 .0 .0 .0 .0 .0 .0 .1), m .0 .0 .0 .0 .0 .0 .0 .0 .0 .0 .1), m .0 .0 .0 .0 .0 .0 .0 .0 .0 .1)
-
-ten-or-eleven : (n : ℕ) → 10 ≤ n → n < 12 → (n ≡ 10) ⊎ (n ≡ 11)
-ten-or-eleven n low high = ⊎-elim (λ e. inl (sym e)) (λ l. inr (omega (arith, l, high))) (eq-or-lt-of-le low)
-
-all-missed : (n : ℕ) → Others n → 12 ≤ n → Missed n typeCount
-all-missed n m h =
-    (((((((((((((((((((((((tt, m .0 .0 .0 .0 .0 .0 .0 .0 .0 .0 .0 .0 .0 .0 .0 .0 .0 .0 .1), λ e. m .0 .0 .0 .0 .0 .0 .0 .0 .0 .0 .0 .0 .0 .0 .0 .0 .0 .1 (inl e)), m .0 .0 .0 .0 .0 .0 .0 .0 .0 .0 .0 .0 .0 .0 .0 .0 .1), m .0 .0 .0 .0 .0 .0 .0 .0 .0 .0 .0 .0 .0 .0 .0 .1), m .0 .0 .0 .0 .0 .0 .0 .0 .0 .0 .0 .0 .0 .0 .1), m .0 .0 .0 .0 .0 .0 .0 .0 .0 .0 .0 .0 .0 .1), m .0 .0 .0 .0 .0 .0 .0 .0 .0 .0 .0 .0 .1), m .0 .0 .0 .0 .0 .0 .0 .0 .0 .0 .0 .1), m .0 .0 .0 .0 .0 .0 .0 .0 .0 .0 .1), m .0 .0 .0 .0 .0 .0 .0 .0 .0 .1), λ e. omega (arith, h, e)), λ e. omega (arith, h, e)), λ e. m .0 .0 .0 .0 .0 .0 .0 .0 .0 .0 .0 .0 .0 .0 .0 .0 .0 .1 (inr (inl e))), m .0 .0 .0 .0 .0 .0 .0 .0 .1), m .0 .0 .0 .0 .0 .0 .0 .1), m .0 .0 .0 .0 .0 .0 .1), m .0 .0 .0 .0 .0 .1), m .0 .0 .0 .0 .1), λ e. m .0 .0 .0 .0 .0 .0 .0 .0 .0 .0 .0 .0 .0 .0 .0 .0 .0 .1 (inr (inr e))), m .0 .0 .0 .1), m .0 .0 .1), m .0 .1), m .1)
+-- what the arms tell of the others: all types are passed
+all-missed : (n : ℕ)
+    → ((((((((((((((((((((Unit {0} × (n ≡ 0 → ⊥)) × ((n ≡ 1) ⊎ ((n ≡ 12) ⊎ (n ≡ 18)) → ⊥)) × (n ≡ 2 → ⊥)) × (n ≡ 3 → ⊥)) × (n ≡ 4 → ⊥)) × (n ≡ 5 → ⊥))
+    × (n ≡ 6 → ⊥)) × (n ≡ 7 → ⊥)) × (n ≡ 8 → ⊥)) × (n ≡ 9 → ⊥)) × (n ≡ 10 → ⊥)) × (n ≡ 11 → ⊥)) × (n ≡ 13 → ⊥)) × (n ≡ 14 → ⊥)) × (n ≡ 15 → ⊥))
+    × (n ≡ 16 → ⊥)) × (n ≡ 17 → ⊥)) × (n ≡ 19 → ⊥)) × (n ≡ 20 → ⊥)) × (n ≡ 21 → ⊥)) × (n ≡ 22 → ⊥)
+    → Missed n typeCount
+all-missed n m = (
+  (
+    (
+      (
+        (
+          (
+            (
+              (
+                (
+                  (
+                    (
+                      (
+                        (
+                          (
+                            (
+                              (
+                                (
+                                  (
+                                    (
+                                      (
+                                        (
+                                          (
+                                            (tt, m .0 .0 .0 .0 .0 .0 .0 .0 .0 .0 .0 .0 .0 .0 .0 .0 .0 .0 .0 .0 .1),
+                                            λ e. m .0 .0 .0 .0 .0 .0 .0 .0 .0 .0 .0 .0 .0 .0 .0 .0 .0 .0 .0 .1 (inl e),
+                                          ),
+                                          m .0 .0 .0 .0 .0 .0 .0 .0 .0 .0 .0 .0 .0 .0 .0 .0 .0 .0 .1,
+                                        ),
+                                        m .0 .0 .0 .0 .0 .0 .0 .0 .0 .0 .0 .0 .0 .0 .0 .0 .0 .1,
+                                      ),
+                                      m .0 .0 .0 .0 .0 .0 .0 .0 .0 .0 .0 .0 .0 .0 .0 .0 .1,
+                                    ),
+                                    m .0 .0 .0 .0 .0 .0 .0 .0 .0 .0 .0 .0 .0 .0 .0 .1,
+                                  ),
+                                  m .0 .0 .0 .0 .0 .0 .0 .0 .0 .0 .0 .0 .0 .0 .1,
+                                ),
+                                m .0 .0 .0 .0 .0 .0 .0 .0 .0 .0 .0 .0 .0 .1,
+                              ),
+                              m .0 .0 .0 .0 .0 .0 .0 .0 .0 .0 .0 .0 .1,
+                            ),
+                            m .0 .0 .0 .0 .0 .0 .0 .0 .0 .0 .0 .1,
+                          ),
+                          m .0 .0 .0 .0 .0 .0 .0 .0 .0 .0 .1,
+                        ),
+                        m .0 .0 .0 .0 .0 .0 .0 .0 .0 .1,
+                      ),
+                      λ e. m .0 .0 .0 .0 .0 .0 .0 .0 .0 .0 .0 .0 .0 .0 .0 .0 .0 .0 .0 .1 (inr (inl e)),
+                    ),
+                    m .0 .0 .0 .0 .0 .0 .0 .0 .1,
+                  ),
+                  m .0 .0 .0 .0 .0 .0 .0 .1,
+                ),
+                m .0 .0 .0 .0 .0 .0 .1,
+              ),
+              m .0 .0 .0 .0 .0 .1,
+            ),
+            m .0 .0 .0 .0 .1,
+          ),
+          λ e. m .0 .0 .0 .0 .0 .0 .0 .0 .0 .0 .0 .0 .0 .0 .0 .0 .0 .0 .0 .1 (inr (inr e)),
+        ),
+        m .0 .0 .0 .1,
+      ),
+      m .0 .0 .1,
+    ),
+    m .0 .1,
+  ),
+  m .1,
+)
 
 returns : tie.Need-returns
 unfolding rowOf Wake.stirred stirredAs moved workOut workAs
@@ -186,14 +251,13 @@ returns c =
 returns-2 : tie.Need-returns-2
 unfolding rowOf Wake.stirred stirredAs moved workOut workAs
 returns-2 c =
-    let a = c .before .before .before .args in
+    let a = c .before .before .args in
     let m = slotsFrom (a .d .now) (a .x) (a .y) (a .z) (a .f) in
     let r = slotsFrom (a .q .now) (a .x) (a .y) (a .z) (a .f) in
-    let is = c .before .flop-of .ensures in
     let h = c .flop-step .ensures (a .count) (a .pulse) in
-    ⊎-elim (λ e. at _ 1 _ _ _ m _ (a .edited) _ e (as-flop r (is ∙ ap flopOf e) h))
-    (⊎-elim (λ e. at _ 12 _ _ _ m _ (a .edited) _ e (as-flop r (is ∙ ap flopOf e) h)) (λ e. at _ 18 _ _ _ m _ (a .edited) _ e (as-flop r (is ∙ ap flopOf e) h)))
-    (c .before .before .match .keys2)
+    ⊎-elim (λ e. at _ 1 _ _ _ m _ (a .edited) _ e (as-flop r (ap flopOf e) h))
+    (⊎-elim (λ e. at _ 12 _ _ _ m _ (a .edited) _ e (as-flop r (ap flopOf e) h)) (λ e. at _ 18 _ _ _ m _ (a .edited) _ e (as-flop r (ap flopOf e) h)))
+    (c .before .match .keys2)
 
 returns-3 : tie.Need-returns-3
 unfolding rowOf Wake.stirred stirredAs moved workOut workAs
@@ -256,98 +320,105 @@ returns-10 c =
 returns-11 : tie.Need-returns-11
 unfolding rowOf Wake.stirred stirredAs moved workOut workAs
 returns-11 c =
-    let a = c .before .before .args in
+    let a = c .before .before .before .args in
     let m = slotsFrom (a .d .now) (a .x) (a .y) (a .z) (a .f) in
-    at _ 13 _ _ _ m _ (a .edited) _ (c .before .match .keys11) (c .jk-step .ensures (a .count) (a .pulse))
+    let s = state (a .count) (a .bit) (a .pulse) in
+    let r = slotsFrom (a .q .now) (a .x) (a .y) (a .z) (a .f) in
+    at _ 10 _ _ _ m _ (a .edited) _ (c .before .before .match .keys11)
+    (as-named (ap (λ (b : Bool). a .edited || b) (c .before .moved4 .ensures)) (as-worked (ap (keeping s) (looked-and (a .config) r)) (c .look-step .ensures s)))
 
 returns-12 : tie.Need-returns-12
 unfolding rowOf Wake.stirred stirredAs moved workOut workAs
 returns-12 c =
     let a = c .before .before .before .args in
     let m = slotsFrom (a .d .now) (a .x) (a .y) (a .z) (a .f) in
-    at _ 14 _ _ _ m _ (a .edited) _ (c .before .before .match .keys12)
-    (as-read (a .edited) (slots false false (m .z) false) (OneShot false) (a .config) (c .before .three3 .ensures) (c .shot-step2 .ensures (a .bit)))
+    let s = state (a .count) (a .bit) (a .pulse) in
+    let r = slotsFrom (a .q .now) (a .x) (a .y) (a .z) (a .f) in
+    at _ 11 _ _ _ m _ (a .edited) _ (c .before .before .match .keys12)
+    (as-named (ap (λ (b : Bool). a .edited || b) (c .before .moved42 .ensures)) (as-worked (ap (keeping s) (looked-or (a .config) r)) (c .look-step2 .ensures s)))
 
 returns-13 : tie.Need-returns-13
 unfolding rowOf Wake.stirred stirredAs moved workOut workAs
 returns-13 c =
-    let a = c .before .before .before .args in
+    let a = c .before .before .args in
     let m = slotsFrom (a .d .now) (a .x) (a .y) (a .z) (a .f) in
-    at _ 15 _ _ _ m _ (a .edited) _ (c .before .before .match .keys13)
-    (as-read (a .edited) (slots false false (m .z) false) (Delay false) (a .config) (c .before .three4 .ensures) (c .delay-step2 .ensures (a .bit)))
+    at _ 13 _ _ _ m _ (a .edited) _ (c .before .match .keys13) (c .jk-step .ensures (a .count) (a .pulse))
 
 returns-14 : tie.Need-returns-14
 unfolding rowOf Wake.stirred stirredAs moved workOut workAs
 returns-14 c =
     let a = c .before .before .before .args in
     let m = slotsFrom (a .d .now) (a .x) (a .y) (a .z) (a .f) in
-    at _ 16 _ _ _ m _ (a .edited) _ (c .before .before .match .keys14)
-    (as-read (a .edited) (slots false false (m .z) false) (OneShot false) (a .config) (c .before .four .ensures) (c .shot-step3 .ensures (a .bit)))
+    at _ 14 _ _ _ m _ (a .edited) _ (c .before .before .match .keys14)
+    (as-read (a .edited) (slots false false (m .z) false) (OneShot false) (a .config) (c .before .three3 .ensures) (c .shot-step2 .ensures (a .bit)))
 
 returns-15 : tie.Need-returns-15
 unfolding rowOf Wake.stirred stirredAs moved workOut workAs
 returns-15 c =
     let a = c .before .before .before .args in
     let m = slotsFrom (a .d .now) (a .x) (a .y) (a .z) (a .f) in
-    at _ 17 _ _ _ m _ (a .edited) _ (c .before .before .match .keys15)
-    (as-read (a .edited) (slots false false (m .z) false) (Delay false) (a .config) (c .before .four2 .ensures) (c .delay-step3 .ensures (a .bit)))
+    at _ 15 _ _ _ m _ (a .edited) _ (c .before .before .match .keys15)
+    (as-read (a .edited) (slots false false (m .z) false) (Delay false) (a .config) (c .before .three4 .ensures) (c .delay-step2 .ensures (a .bit)))
 
 returns-16 : tie.Need-returns-16
 unfolding rowOf Wake.stirred stirredAs moved workOut workAs
 returns-16 c =
     let a = c .before .before .before .args in
     let m = slotsFrom (a .d .now) (a .x) (a .y) (a .z) (a .f) in
-    at _ 19 _ _ _ m _ (a .edited) _ (c .before .before .match .keys16)
-    (as-read (a .edited) (slots (m .x) false (m .z) (m .f)) (Counter WhileBoth) (a .config) (c .before .four3 .ensures)
-    (c .gated-step .ensures (a .pulse)))
+    at _ 16 _ _ _ m _ (a .edited) _ (c .before .before .match .keys16)
+    (as-read (a .edited) (slots false false (m .z) false) (OneShot false) (a .config) (c .before .four .ensures) (c .shot-step3 .ensures (a .bit)))
 
 returns-17 : tie.Need-returns-17
 unfolding rowOf Wake.stirred stirredAs moved workOut workAs
 returns-17 c =
     let a = c .before .before .before .args in
     let m = slotsFrom (a .d .now) (a .x) (a .y) (a .z) (a .f) in
-    at _ 20 _ _ _ m _ (a .edited) _ (c .before .before .match .keys17)
-    (as-read (a .edited) (slots (m .x) false (m .z) (m .f)) (Counter WhileEither) (a .config) (c .before .four4 .ensures)
-    (c .gated-step2 .ensures (a .pulse)))
+    at _ 17 _ _ _ m _ (a .edited) _ (c .before .before .match .keys17)
+    (as-read (a .edited) (slots false false (m .z) false) (Delay false) (a .config) (c .before .four2 .ensures) (c .delay-step3 .ensures (a .bit)))
 
 returns-18 : tie.Need-returns-18
 unfolding rowOf Wake.stirred stirredAs moved workOut workAs
 returns-18 c =
     let a = c .before .before .before .args in
     let m = slotsFrom (a .d .now) (a .x) (a .y) (a .z) (a .f) in
-    at _ 21 _ _ _ m _ (a .edited) _ (c .before .before .match .keys18)
-    (as-read (a .edited) (slots false false (m .z) false) (Counter FromStart) (a .config) (c .before .four5 .ensures)
-    (c .started-step .ensures (a .pulse)))
+    at _ 19 _ _ _ m _ (a .edited) _ (c .before .before .match .keys18)
+    (as-read (a .edited) (slots (m .x) false (m .z) (m .f)) (Counter WhileBoth) (a .config) (c .before .four3 .ensures)
+    (c .gated-step .ensures (a .pulse)))
 
 returns-19 : tie.Need-returns-19
 unfolding rowOf Wake.stirred stirredAs moved workOut workAs
 returns-19 c =
     let a = c .before .before .before .args in
     let m = slotsFrom (a .d .now) (a .x) (a .y) (a .z) (a .f) in
-    at _ 22 _ _ _ m _ (a .edited) _ (c .before .before .match .keys19)
-    (as-read (a .edited) (slots false false (m .z) false) (Counter FromStartAtZero) (a .config) (c .before .four6 .ensures)
-    (c .started-step2 .ensures (a .pulse)))
+    at _ 20 _ _ _ m _ (a .edited) _ (c .before .before .match .keys19)
+    (as-read (a .edited) (slots (m .x) false (m .z) (m .f)) (Counter WhileEither) (a .config) (c .before .four4 .ensures)
+    (c .gated-step2 .ensures (a .pulse)))
 
 returns-20 : tie.Need-returns-20
 unfolding rowOf Wake.stirred stirredAs moved workOut workAs
 returns-20 c =
     let a = c .before .before .before .args in
     let m = slotsFrom (a .d .now) (a .x) (a .y) (a .z) (a .f) in
-    let s = state (a .count) (a .bit) (a .pulse) in
-    let r = slotsFrom (a .q .now) (a .x) (a .y) (a .z) (a .f) in
-    let shown : ℕ → Worked = λ j. keeping s (looked (eqb j 11) r .out) in
-    let h = c .look-step .ensures s in
-    ⊎-elim (λ e. at _ 10 _ _ _ m _ (a .edited) _ e (as-worked (ap shown e ∙ ap (keeping s) (looked-and (a .config) r)) h))
-    (λ e. at _ 11 _ _ _ m _ (a .edited) _ e (as-worked (ap shown e ∙ ap (keeping s) (looked-or (a .config) r)) h))
-    (ten-or-eleven (a .kind) (missed (a .kind) 10 (to-nine (a .kind) (c .before .before .match .rest))) (c .before .if1 .taken))
+    at _ 21 _ _ _ m _ (a .edited) _ (c .before .before .match .keys20)
+    (as-read (a .edited) (slots false false (m .z) false) (Counter FromStart) (a .config) (c .before .four5 .ensures)
+    (c .started-step .ensures (a .pulse)))
 
 returns-21 : tie.Need-returns-21
+unfolding rowOf Wake.stirred stirredAs moved workOut workAs
 returns-21 c =
     let a = c .before .before .before .args in
+    let m = slotsFrom (a .d .now) (a .x) (a .y) (a .z) (a .f) in
+    at _ 22 _ _ _ m _ (a .edited) _ (c .before .before .match .keys21)
+    (as-read (a .edited) (slots false false (m .z) false) (Counter FromStartAtZero) (a .config) (c .before .four6 .ensures)
+    (c .started-step2 .ensures (a .pulse)))
+
+returns-22 : tie.Need-returns-22
+returns-22 c =
+    let a = c .before .before .args in
     let s = state (a .count) (a .bit) (a .pulse) in
     let r = slotsFrom (a .q .now) (a .x) (a .y) (a .z) (a .f) in
     let m = slotsFrom (a .d .now) (a .x) (a .y) (a .z) (a .f) in
-    let none = all-missed (a .kind) (c .before .before .match .rest) (c .before .if1 .left) in
+    let none = all-missed (a .kind) (c .before .match .rest) in
     at-past (a .kind) (a .config) s r m (a .full) (a .edited) (c .fixed-step2 .result) (past-types (a .kind) none) (c .fixed-step2 .ensures s)
 
 pub step-spec : {M : Type 1} → statement M
@@ -355,7 +426,6 @@ step-spec =
     tie.close
     (tie.spec
     fixed-step-requires
-    flop-of-requires
     flop-step-requires
     pair-step-requires
     lookup3-step-requires
@@ -367,6 +437,10 @@ step-spec =
     shot-step-requires
     three-requires-2
     delay-step-requires
+    moved4-requires
+    look-step-requires
+    moved4-requires-2
+    look-step-requires-2
     jk-step-requires
     three-requires-3
     shot-step-requires-2
@@ -384,7 +458,6 @@ step-spec =
     started-step-requires
     four-requires-6
     started-step-requires-2
-    look-step-requires
     fixed-step-requires-2
     returns
     returns-2
@@ -406,4 +479,5 @@ step-spec =
     returns-18
     returns-19
     returns-20
-    returns-21)
+    returns-21
+    returns-22)

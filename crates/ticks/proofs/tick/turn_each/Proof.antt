@@ -179,8 +179,8 @@ mul-cell-8 c = search needs
 element-set-from-cell-4 : tie.Need-element-set-from-cell-4 Inv-loop μ-loop
 element-set-from-cell-4 c = search needs
 
-pushed-requires : tie.Need-pushed-requires Inv-loop μ-loop
-pushed-requires c κs =
+noted-requires : tie.Need-noted-requires Inv-loop μ-loop
+noted-requires c κs =
     let at = c .before .before .before .before .before .before .before .before in
     (search needs, built-fits _ (at .loop .i) _ (at .loop .inv .3))
 
@@ -446,7 +446,7 @@ loop-again c =
     let l = at .loop in
     let words = next-words c in
     let more : l .i + 1 ≤ count at = omega (arith, asked .before .loop-test .taken) in
-    let names = built-next _ (l .i) (l .named) _ _ (l .inv .3) (taken step .names) (push .pushed .ensures) in
+    let names = built-next _ (l .i) (l .named) _ _ (l .inv .3) (taken step .names) (push .noted .ensures) in
     (more, met m .0, turned-on j .0, names, words .0, words .1)
 
 woken-by-requires : tie.Need-woken-by-requires Inv-loop μ-loop
@@ -532,7 +532,7 @@ turn-each-spec =
     element-copy-out-cell-4
     mul-cell-8
     element-set-from-cell-4
-    pushed-requires
+    noted-requires
     cast-bit-2
     bit-requires-3
     flipped-requires
