@@ -1,0 +1,5 @@
+-- What a reader must believe.
+pub mod Asked
+pub mod Rows
+pub mod Certificate
+pub mod Never
