@@ -8,7 +8,7 @@ import os from 'node:os';
 import path from 'node:path';
 import { pathToFileURL } from 'node:url';
 import { TOP } from './make.mjs';
-import { modulesIn, comparePage, compareModules, compareBytes, compareRandom, compareStored, compareReading } from './compare.mjs';
+import { modulesIn, comparePage, compareModules, compareBytes, compareRandom, compareRecords, compareStored, compareReading } from './compare.mjs';
 import { openBrowser } from './browser.mjs';
 import { openFirefox } from './firefox.mjs';
 import { expect, tally } from './expect.mjs';
@@ -19,7 +19,7 @@ const valueOf = (option) => (words.includes(option) ? words[words.indexOf(option
 const shots = valueOf('--shots');
 const file = path.resolve(words[0] && !words[0].startsWith('--') ? words[0] : path.join(TOP, 'docs', 'card.html'));
 
-async function drive(open, prefix) {
+async function drive(open, prefix, has) {
   const { page, version, close } = await open();
   const shot = (name) => shots && page.shot(path.join(shots, `${prefix}${name}.png`));
   const url = pathToFileURL(file).href;
@@ -35,6 +35,13 @@ async function drive(open, prefix) {
     await shot('predicted');
     await walk.doesExercise(page, url);
     await shot('exercise');
+    if (has('plsave')) await walk.keepsRecord(page);
+    await shot('record');
+    if (has('plcheck')) await walk.findsWiring(page);
+    await shot('wiring');
+    if (has('plrack')) await walk.callsRack(page);
+    if (has('plcheck')) await walk.takesHint(page);
+    await shot('hint');
     await walk.triesLookup(page);
     await shot('lookup');
     await walk.labelsByTick(page);
@@ -67,10 +74,11 @@ try {
   compareModules(bytes);
   compareBytes(modules);
   compareRandom(modules);
+  if (modules.plsave) compareRecords(modules);
   compareStored(modules);
   compareReading(modules);
-  if (!words.includes('--no-browser')) await drive(openBrowser, '');
-  if (words.includes('--firefox')) await drive(openFirefox, 'firefox-');
+  if (!words.includes('--no-browser')) await drive(openBrowser, '', (name) => name in modules);
+  if (words.includes('--firefox')) await drive(openFirefox, 'firefox-', (name) => name in modules);
 } catch (error) {
   expect(`the check ran to its end (${error.stack})`, false, true);
 } finally {

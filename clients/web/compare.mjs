@@ -49,9 +49,9 @@ function storedInputs() {
   return inputs;
 }
 
-// One input through both builds of every program.
-function compareInput(modules, where, input) {
-  for (const name of NAMES) {
+// One input through both builds of every program, or of those that are named.
+function compareInput(modules, where, input, names = NAMES) {
+  for (const name of names) {
     const here = runBytes(modules[name], input);
     const there = spawnSync(path.join(TOP, 'target', 'bin', name), { input, maxBuffer: 1 << 30 });
     expect(`${name} < ${where} writes the same`, sameBytes(here.output, there.stdout), true);
@@ -70,6 +70,20 @@ export function compareRandom(modules) {
   const inputs = Array.from({ length: RANDOM_INPUTS }, (_, seed) => Buffer.from(asInput(randomWiring(seed + 1, RANDOM_LINES))));
   const lines = inputs.reduce((sum, input, seed) => sum + compareInput(modules, `random wiring ${seed + 1}`, input), 0);
   console.log(`random  ${inputs.length} wirings with ticks, ${lines} lines, ${NAMES.length} programs, in both builds`);
+}
+
+// Records through both builds of the programs that take one: those that plsave makes of stored inputs, their old forms, and those that the gate stores as rows
+// of hex, good and bad. What plsave made comes back from plload and plsave as it was.
+export function compareRecords(modules) {
+  const { plsave, plload, plconvert } = modules;
+  const made = storedInputs().map((file) => runBytes(plsave, fs.readFileSync(file)).output);
+  const old = made.map((record) => runBytes(plconvert, record).output).filter((record) => record.length);
+  const rows = fs.readFileSync(path.join(TOP, 'crates', 'gate_loads', 'stdin'), 'latin1').split('\n').filter(Boolean).map((row) => Buffer.from(row, 'hex'));
+  const records = [...made, ...old, ...rows];
+  records.forEach((record, i) => compareInput(modules, `record ${i + 1}`, record, ['plload', 'plconvert']));
+  const changed = made.filter((record) => !sameBytes(runBytes(plsave, runBytes(plload, record).output).output, record));
+  expect('plload gives the lines of which plsave makes the same record', changed.length, 0);
+  console.log(`records ${made.length} of stored inputs, ${old.length} in the old form, ${rows.length} of the gate, in both builds`);
 }
 
 // Outputs that the gate stores: of each program by itself, and of plrun in crates/gate_replay.

@@ -8,6 +8,7 @@ const WIDE = 40;
 const HEAD = 30;
 const HIGH = 5;
 const LOW = 19;
+const END = 5; // behind the last column, where the mark of other lines may stand
 
 // ---- which rows
 
@@ -43,7 +44,8 @@ const cellRow = (c) => ({
 
 // ---- the drawing
 
-export const columnWidthFor = (count, room) => Math.max(NARROW, Math.min(WIDE, Math.floor((room - 2) / Math.max(count, 1))));
+export const columnWidthFor = (count, room) => Math.max(NARROW, Math.min(WIDE, Math.floor((room - END - 1) / Math.max(count, 1))));
+export const widthOf = (count, column) => count * column + END;
 export const columnAt = (x, count, column) => Math.max(0, Math.min(count - 1, Math.floor(x / column)));
 export const rowAt = (y) => Math.floor(y / ROW);
 export const ROW_HEIGHT = ROW;
@@ -61,7 +63,7 @@ export function drawWaves(session, rows, column, from, to) {
     rows.map((row, i) => `<path class="wave ${row.group}" d="${wavePath(row, columns, i * ROW, column)}"/>`).join(''),
   ];
   const heads = columnBands(columns, HEAD, column) + columnHeads(columns, column) + editMarks(session, column, from, to);
-  return { width: columns.length * column + 1, height, heads, body: body.join('') };
+  return { width: widthOf(columns.length, column), height, heads, body: body.join('') };
 }
 
 const rect = (cls, x, y, w, h, more = '') => `<rect class="${cls}" x="${x}" y="${y}" width="${w}" height="${h}" ${more}/>`;
@@ -74,7 +76,7 @@ function columnBands(columns, height, column) {
   }).join('');
 }
 
-// Woken cells are tinted by plrun's woken set. In a full tick every cell is in it; those that plexplain names with another reason stand out.
+// Woken cells are tinted by plrun's woken set. In a full tick every cell is in it; those that the rules name stand out.
 function rowGround(row, i, columns, column) {
   const y = i * ROW;
   const line = `<path class="rule" d="M0 ${y + ROW - 0.5}H${columns.length * column}"/>`;
@@ -83,16 +85,15 @@ function rowGround(row, i, columns, column) {
   let counts = '';
   columns.forEach((e, c) => {
     if (e.tick.idle || e.covered || !row.woken(e.tick)) return;
-    const words = e.tick.cellWords.find((w) => w.cell === row.cell);
-    paths[words && !words.onlyFull ? 'woken' : 'woken-full'] += `M${c * column} ${y + 1}h${column}v${ROW - 2}h${-column}z`;
-    counts += countText(words, c * column + column / 2, y + ROW / 2 + 3, column);
+    paths[e.tick.named.includes(row.name) ? 'woken' : 'woken-full'] += `M${c * column} ${y + 1}h${column}v${ROW - 2}h${-column}z`;
+    counts += countText(e.tick.reasons[row.cell], c * column + column / 2, y + ROW / 2 + 3, column);
   });
   return Object.entries(paths).map(([cls, d]) => (d ? `<path class="${cls}" d="${d}"/>` : '')).join('') + counts + line;
 }
 
 // The count that plexplain gives for a timer or a counter; three dots where it does not fit.
-function countText(words, x, y, column) {
-  const count = words?.text.match(/, count (\d+)\.$/)?.[1];
+function countText(reason, x, y, column) {
+  const count = reason?.match(/, count (\d+)\.$/)?.[1];
   return count ? `<text class="count" x="${x}" y="${y}">${count.length * 6 < column ? count : '…'}</text>` : '';
 }
 

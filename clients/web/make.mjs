@@ -12,7 +12,7 @@ export const TOP = path.join(here, '..', '..');
 const read = (name) => fs.readFileSync(path.join(here, name), 'utf8');
 export const PROGRAMS = JSON.parse(read('programs.json'));
 const ENGINE = ['programs.js', 'session.js', 'runs.js'];
-const PAGE = ['diagram.js', 'predict.js', 'link.js', 'dom.js', 'state.js', 'panel.js', 'show.js', 'menus.js', 'sheet.js', 'page.js'];
+const PAGE = ['diagram.js', 'predict.js', 'link.js', 'dom.js', 'state.js', 'record.js', 'exercise.js', 'rack.js', 'panel.js', 'show.js', 'menus.js', 'sheet.js', 'page.js'];
 
 // The modules are written so that their top-level names differ; joined in order they need no imports.
 function joined(names) {

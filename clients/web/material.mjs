@@ -84,6 +84,24 @@ function exampleWirings(top) {
   return rows.map(([name, title]) => ({ name, title, lines: read(top, 'examples', `${name}.lines`), html: markdown(read(top, 'examples', `${name}.md`)) }));
 }
 
+// An exercise of the examples: ticks with the answers that must come, for which a wiring is to be found. `lines` are its lines without these answers.
+function exercises(top) {
+  const folder = path.join(top, 'examples', 'exercises');
+  const names = (fs.existsSync(folder) ? fs.readdirSync(folder) : []).filter((f) => f.endsWith('.ticks')).map((f) => f.replace('.ticks', ''));
+  return names.map((name) => {
+    const [text, task] = [read(folder, `${name}.md`), read(folder, `${name}.ticks`)];
+    const intro = text.slice(text.indexOf('\n'), text.indexOf('Write the wiring into a file'));
+    return { name, title: text.match(/^# Exercise: (.*)/)[1], task, lines: enteredIn(task), html: markdown(intro) };
+  });
+}
+
+// What a transcript enters: the lines behind `> `, and those that are no answer below one of these.
+function enteredIn(transcript) {
+  const rows = transcript.split('\n').map((row) => row.replace(/(^|\s+)#.*$/, '')).filter(Boolean);
+  const entered = rows.filter((row, i) => row.startsWith('> ') || !rows[i - 1]?.startsWith('> '));
+  return entered.map((row) => `${row.replace(/^> /, '')}\n`).join('');
+}
+
 // What a person looks up while wiring: the first tables of these sections, with a heading each.
 const TABLES = [
   ['Lines', 'Lines'], ['A first wiring', 'The answer of a tick'], ['Cells', 'Cells'], ['Addresses', 'Addresses'], ['Connectors', 'Connectors'],
@@ -105,10 +123,22 @@ function spread(part) {
   return Array.from({ length: to - from + 1 }, (_, i) => from + i);
 }
 
+// What the bytes of a record mean, and the refusals by their numbers.
+function recordOf(manual) {
+  const rows = section(manual, 'When the card says no').split('\n').filter((l) => /^\| \d/.test(l)).map(cellsOf);
+  return { means: firstTable(section(manual, 'Saving and loading')), refusals: Object.fromEntries(rows.map(([k, means, todo]) => [k, `${means}. ${todo[0].toUpperCase()}${todo.slice(1)}.`])) };
+}
+
+// The example of a rack, and the calls on one.
+function rackOf(top, manual) {
+  const title = 'Up to four cards on one backplane';
+  return { calls: read(top, 'examples', 'two-cards.rack'), html: markdown(read(top, 'examples', 'two-cards.md')), table: firstTable(section(manual, title)) };
+}
+
 export function materialOf(top) {
   const manual = read(top, 'docs', 'MANUAL.md');
   return {
-    first: [firstWiring(manual)], errors: classroomErrors(manual), examples: exampleWirings(top),
-    presets: presetTable(manual), steps: tickSteps(manual), tables: wiringTables(manual),
+    first: [firstWiring(manual)], errors: classroomErrors(manual), examples: exampleWirings(top), exercises: exercises(top),
+    presets: presetTable(manual), steps: tickSteps(manual), tables: wiringTables(manual), record: recordOf(manual), rack: rackOf(top, manual),
   };
 }

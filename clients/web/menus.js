@@ -1,11 +1,14 @@
-// The menus: examples, presets, exercises, and lines as files and links.
+// The menus: examples, presets, and lines as files and links.
 
+import { decoded } from './programs.js';
 import { splitLines, asInput, runSession } from './session.js';
 import { escapeText } from './diagram.js';
-import { hashOf, readHash } from './link.js';
+import { readHash } from './link.js';
+import { describeRecord, refusalWords } from './record.js';
+import { buildRack } from './rack.js';
 import { when } from './runs.js';
-import { state, view, programs, openText, addPreset, outputFor, writeAddress } from './state.js';
-import { byId, capital, count, download, notice } from './dom.js';
+import { state, view, programs, has, openText, addPreset, outputFor, writeAddress } from './state.js';
+import { byId, capital, copied, count, download, notice } from './dom.js';
 
 let material = null;
 
@@ -24,17 +27,20 @@ export function buildMenus(itsMaterial) {
   material = itsMaterial;
   byId('examples').innerHTML = `<h2>From the manual</h2><ul>${exampleItem('first', 0, material.first[0], '')}</ul>
     <h2>Classroom errors</h2><ul>${material.errors.map((w, i) => exampleItem('errors', i, w, '')).join('')}</ul>
+    ${material.exercises.length ? `<h2>Exercises: find the wiring</h2><ul>${material.exercises.map((w, i) => exampleItem('exercises', i, w, '')).join('')}</ul>` : ''}
     <h2>Wirings that run</h2><ul>${material.examples.map((w, i) => exampleItem('examples', i, w, w.name)).join('')}</ul>`;
   byId('presets').innerHTML = `<h2>Presets</h2><p id="preset-place"></p><table><tbody>${material.presets.map(presetRow).join('')}</tbody></table>`;
   byId('tables').innerHTML = material.tables;
-  for (const id of ['examples', 'presets', 'tables', 'exercise', 'keys']) byId(id).insertAdjacentHTML('afterbegin', closeButton(id));
+  for (const id of ['examples', 'presets', 'tables', 'rack', 'exercise', 'keys']) byId(id).insertAdjacentHTML('afterbegin', closeButton(id));
   byId('build').textContent = material.build;
+  describeRecord(material.record);
+  buildRack(material.rack);
 }
 
 export function openExample(group, index) {
   const wiring = material[group][index];
   byId('examples').hidePopover();
-  openText(wiring.lines, { about: wiring });
+  openText(wiring.lines, { about: wiring, task: wiring.task });
 }
 
 // What a preset sets, in plexplain's words, when the pointer rests on its number.
@@ -47,29 +53,39 @@ function namePresets() {
 
 // ---- files
 
+const TAB = 9;
+
+// A record begins with a byte that no text begins with.
 async function openFile(file) {
-  const { lines, carriageReturns, lastLineOpen } = splitLines(await file.text());
+  const bytes = new Uint8Array(await file.arrayBuffer());
+  if (bytes[0] < TAB && has('plload')) openRecord(file.name, bytes);
+  else openLines(file.name, decoded(bytes));
+}
+
+function openLines(name, text) {
+  const { lines, carriageReturns, lastLineOpen } = splitLines(text);
   const notes = [];
-  if (carriageReturns) notes.push(`${file.name} has CR LF at ${count(carriageReturns, 'line end')}. plrun refuses such lines; the page took the CRs out.`);
-  if (lastLineOpen) notes.push(`The last line of ${file.name} has no LF. plrun drops such a line; the page put the LF in.`);
+  if (carriageReturns) notes.push(`${name} has CR LF at ${count(carriageReturns, 'line end')}. plrun refuses such lines; the page took the CRs out.`);
+  if (lastLineOpen) notes.push(`The last line of ${name} has no LF. plrun drops such a line; the page put the LF in.`);
+  notice('');
   openText(asInput(lines), { notes });
+}
+
+function openRecord(name, bytes) {
+  const { output, errors } = programs().plload(bytes);
+  notice(output.length ? '' : `${name} is no text, and as a record plload refuses it. ${refusalWords(errors)}`);
+  if (output.length) openText(decoded(output), { notes: [`These lines are the wiring of ${name}, a record of ${bytes.length} bytes, as plload gives it.`] });
 }
 
 const saveLines = () => download(`${state.about?.name ?? 'wiring'}.lines`, asInput(view.session.lines));
 
-export const saveOutput = (name, file) => when(outputFor(name), ({ output }) => download(file, output));
+// What a program writes, under its name in the table of programs.
+export function saveOutput(name) {
+  const program = material.programs.find((p) => p.name === name);
+  when(outputFor(program), ({ output }) => download(program.file, output));
+}
 
 // ---- links
-
-async function copied(address, what) {
-  try {
-    await navigator.clipboard.writeText(address);
-    notice(`${what} copied, ${address.length} characters.`);
-    return true;
-  } catch {
-    return false;
-  }
-}
 
 async function copyLink() {
   await writeAddress();
@@ -80,8 +96,9 @@ export async function openAddress() {
   try {
     const link = await readHash(location.hash);
     if (!link) return false;
-    openText(link.text, { select: link.looksAt ?? Infinity, coveredFrom: link.coveredFrom });
+    openText(link.text, { select: link.looksAt ?? Infinity, coveredFrom: link.coveredFrom, task: link.task });
     if (state.cover) notice('Exercise: predict, then uncover.');
+    if (state.task) notice('Exercise: find the wiring.');
     return true;
   } catch {
     notice('The link is damaged: the wiring behind # could not be read.');
@@ -89,44 +106,13 @@ export async function openAddress() {
   }
 }
 
-// An exercise is a link to these lines with the ticks from one number on covered.
-const exerciseFrom = () => {
-  const ran = view.session.ticks.filter((e) => e.kind === 'tick');
-  const number = Math.max(1, Math.min(ran.length, Math.round(Number(byId('exercise-from').value)) || 1));
-  return ran[number - 1]?.index ?? null;
-};
-
-async function copyExercise() {
-  const coveredFrom = exerciseFrom();
-  if (coveredFrom === null) return;
-  const address = location.href.replace(/#.*/, '') + await hashOf({ text: asInput(view.session.lines), coveredFrom });
-  byId('exercise-link').value = address;
-  byId('exercise-link').hidden = false;
-  if (!(await copied(address, 'Exercise link'))) byId('exercise-link').select();
-}
-
-function tryExercise() {
-  const coveredFrom = exerciseFrom();
-  if (coveredFrom === null) return;
-  byId('exercise').hidePopover();
-  openText(asInput(view.session.lines), { coveredFrom });
-}
-
-function showExercise() {
-  const ran = view.session.ticks.filter((e) => e.kind === 'tick');
-  const looked = ran.slice(0, -1).find((e) => e.index === state.selected);
-  byId('exercise-from').value = looked?.tick.number ?? 1;
-  byId('exercise-from').max = ran.length;
-  byId('exercise-none').hidden = ran.length > 0;
-  byId('exercise-file').hidden = location.protocol !== 'file:';
-  byId('exercise-link').hidden = true;
-  for (const id of ['exercise-copy', 'exercise-try']) byId(id).disabled = ran.length === 0;
-}
-
 // ---- events
 
 function listenToFiles() {
-  byId('new').onclick = () => openText('');
+  byId('new').onclick = () => {
+    notice('');
+    openText('');
+  };
   byId('open').onclick = () => byId('file').click();
   byId('file').onchange = async () => {
     const [file] = byId('file').files;
@@ -162,7 +148,4 @@ export function listenToMenus() {
     byId('preset-place').textContent = state.selected < 0 ? 'A number adds its line.'
       : `A number adds its line below line ${state.selected + 1}, and leaves the lines behind it as they are.`;
   });
-  byId('exercise').addEventListener('beforetoggle', showExercise);
-  byId('exercise-copy').onclick = copyExercise;
-  byId('exercise-try').onclick = tryExercise;
 }

@@ -8,6 +8,8 @@ import { mark, uncover, uncoverAll, setPredicting } from './state.js';
 import { show, showConnectors, buildConnectors, placeColumn, linesScrolled, diagramScrolled, diagram } from './show.js';
 import { buildTabs, openTab, tabIds } from './panel.js';
 import { buildMenus, listenToMenus, openExample, openAddress, saveOutput } from './menus.js';
+import { listenToExercises } from './exercise.js';
+import { listenToRack } from './rack.js';
 import { fillSheet } from './sheet.js';
 import { byId, failed, notice } from './dom.js';
 
@@ -92,7 +94,7 @@ function listenToDiagram() {
 // Why the cell of a row woke in a tick.
 function reasonAt(entry, row) {
   if (!row?.cell || !entry || entry.covered || entry.tick.idle) return '';
-  return entry.tick.cellWords.find((w) => w.cell === row.cell)?.text ?? '';
+  return entry.tick.reasons[row.cell] ?? '';
 }
 
 function columnClicked(entry, row, withShift) {
@@ -137,7 +139,8 @@ function listenToTabs() {
     if ('uncover' in button.dataset) uncover();
     if ('uncoverAll' in button.dataset) uncoverAll();
     if ('next' in button.dataset) predictNext();
-    if (button.dataset.save) saveOutput(button.dataset.save, button.dataset.file);
+    if ('openRecord' in button.dataset) byId('file').click();
+    if (button.dataset.save) saveOutput(button.dataset.save);
   });
 }
 
@@ -200,7 +203,7 @@ async function start() {
   buildConnectors();
   buildTabs(material.programs, material.steps);
   startState(runs, show, failed);
-  [listenToLines, listenToBench, listenToDiagram, listenToTabs, listenToMenus, listenToKeys].forEach((listen) => listen());
+  [listenToLines, listenToBench, listenToDiagram, listenToTabs, listenToMenus, listenToExercises, listenToRack, listenToKeys].forEach((listen) => listen());
   window.addEventListener('beforeprint', fillSheet);
   window.addEventListener('resize', () => show({ moved: true }));
   window.addEventListener('hashchange', openAddress);

@@ -1,11 +1,13 @@
 // The tabs: what plexplain says of the line that is looked at, the card at that line, what each program makes of all lines, and predictions.
 
 import { decoded } from './programs.js';
-import { truthTable, bitOf } from './session.js';
+import { truthTable, bitOf, onlyFull } from './session.js';
 import { escapeText } from './diagram.js';
 import { foundWords, totals } from './predict.js';
+import { recordHtml } from './record.js';
+import { taskHtml } from './exercise.js';
 import { when } from './runs.js';
-import { state, view, programs, cardAt, outputFor } from './state.js';
+import { state, view, programs, cardAt, outputsFor } from './state.js';
 import { byId, capital, count, failed } from './dom.js';
 
 const panel = { steps: [], tabs: [], asked: 0 };
@@ -16,15 +18,16 @@ const panel = { steps: [], tabs: [], asked: 0 };
 export function buildTabs(table, steps) {
   const ofPrograms = [...new Set(table.map((p) => p.tab).filter(Boolean))].map((title) => {
     const its = table.filter((p) => p.tab === title);
-    return { id: its[0].name, title, html: () => programsHtml(its), covers: () => its.some((p) => p.tellsTicks) };
+    return { id: its[0].name, title, html: () => (its[0].record ? recordHtml(its) : programsHtml(its)), covers: () => its.some((p) => p.tellsTicks) };
   });
   panel.steps = steps;
   panel.tabs = [
     { id: 'line', title: 'This line', html: lineHtml },
     { id: 'card', title: 'Card', html: cardHtml, covers: () => state.selected >= state.cover.from },
     ...ofPrograms,
+    { id: 'task', title: 'Exercise', html: taskHtml, needs: () => state.task },
     { id: 'score', title: 'Predictions', html: scoreHtml, needs: () => state.score.length },
-    { id: 'about', title: 'About the example', html: aboutHtml, needs: () => state.about },
+    { id: 'about', title: 'About', html: aboutHtml, needs: () => state.about && !state.task },
   ];
   byId('tabs').innerHTML = panel.tabs.map((t) => `<button role="tab" id="tab-${t.id}" aria-controls="panel">${t.title}</button>`).join('');
 }
@@ -69,7 +72,7 @@ export function openTab(id) {
 // ---- the line that is looked at
 
 // Who a sentence is about stands out: "cell 2 (one-shot)", "BNC1", "Driven high".
-const withSubject = (text) => escapeText(text).replace(/^(cell \d+|BNC\d|TTL\d|Driven high|High cells)/, '<b>$1</b>');
+const withSubject = (text) => escapeText(text).replace(/^(cell \d+|BNC\d|TTL\d|Driven high|High cells|The rules name)/, '<b>$1</b>');
 const said = (texts) => texts.map((t) => `<p class="said">${withSubject(t)}</p>`).join('');
 
 function lineHtml() {
@@ -98,18 +101,16 @@ const pointerHtml = (entry) => (entry.kind === 'idle' ? '' : `<p class="quiet">P
 // The manual's three steps, and under each what plexplain says of it. So it is seen that not everything changes together.
 function stepsHtml(t) {
   const [drive, levels, cells] = panel.steps.map(escapeText);
-  const quietOnes = t.cellWords.filter((w) => w.onlyFull);
-  const loudOnes = t.cellWords.filter((w) => !w.onlyFull);
-  const texts = (list) => said(list.map((w) => w.text));
-  const fold = `<details><summary>${count(quietOnes.length, 'cell')} only because the tick is full</summary>${texts(quietOnes)}</details>`;
   const step = (rule, words) => `<li><p class="step">${rule}</p><div>${words}</div></li>`;
-  const steps = [
-    step(drive, said(t.drivenWords)),
-    step(levels, said(t.lineWords)),
-    step(cells, texts(loudOnes) + (quietOnes.length ? fold : '') + said(t.highWords)),
-  ];
-  return `<ol class="steps">${steps.join('')}</ol>${said(t.other)}`;
+  const quietOnes = t.cellWords.filter(onlyFull);
+  const fold = quietOnes.length ? `<details><summary>${count(quietOnes.length, 'cell')} only because the tick is full</summary>${said(quietOnes)}</details>` : '';
+  const loudOnes = said(t.cellWords.filter((text) => !onlyFull(text)));
+  const steps = [step(drive, said(t.drivenWords)), step(levels, said(t.lineWords)), step(cells, loudOnes + fold + said(t.highWords))];
+  return `<ol class="steps">${steps.join('')}</ol>${said(t.other)}${hintsHtml(t.hints)}`;
 }
+
+// A wiring that is legal and useless: plexplain says so in the first tick with it.
+const hintsHtml = (hints) => hints.map((h) => `<p class="said hinted">${escapeText(h)}</p>`).join('');
 
 // ---- predictions
 
@@ -160,7 +161,7 @@ function cardHtml() {
   });
 }
 
-const cellHtml = (c) => `<tr><th scope="row">${c.name}</th><td>${escapeText(c.typeName)}</td><td>${escapeText(c.words.join(' '))}${lookupHtml(c)}</td></tr>`;
+const cellHtml = (c) => `<tr><th scope="row">${c.name}</th><td>${escapeText(c.typeName)}</td><td>${escapeText(c.words.map(capital).join(' '))}${lookupHtml(c)}</td></tr>`;
 
 const wireHtml = (c) => `<tr><th scope="row">${c.name}</th><td>${escapeText(c.kind)}</td><td>${
   c.isInput ? '' : `from ${c.address}, ${escapeText(c.source)}`}</td></tr>`;
@@ -182,12 +183,10 @@ const SHOWN = 200000; // characters of a program's output; the file has all
 
 function programsHtml(table) {
   const shown = table.filter((p) => !p.onlySaved);
-  const outputs = shown.map((p) => outputFor(p.name));
-  const all = outputs.some((o) => o instanceof Promise) ? Promise.all(outputs) : outputs;
-  return when(all, (found) => `<p class="tools">${table.map(saveHtml).join(' ')}</p>${shown.map((p, i) => outputHtml(p, found[i])).join('')}`);
+  return when(outputsFor(shown), (found) => `<p class="tools">${table.map(saveHtml).join(' ')}</p>${shown.map((p, i) => outputHtml(p, found[i])).join('')}`);
 }
 
-const saveHtml = (p) => `<span><button data-save="${p.name}" data-file="${p.file}">Save as ${p.file}</button>
+const saveHtml = (p) => `<span><button data-save="${p.name}">Save as ${p.file}</button>
   <span class="quiet">what ${p.name} ${p.does} for these lines</span></span>`;
 
 function outputHtml(p, { output, errors }) {

@@ -50,8 +50,9 @@ export async function compileModules(base64ByName) {
   return Object.fromEntries(await Promise.all(compiled));
 }
 
-// { plrun: module, ... } -> { plrun: text => { output, errors }, ... }
+// { plrun: module, ... } -> { plrun: input => { output, errors }, ... }, where the input is a text, or bytes
 export function programsOf(modules) {
   const encoder = new TextEncoder();
-  return Object.fromEntries(Object.entries(modules).map(([name, module]) => [name, (text) => runBytes(module, encoder.encode(text))]));
+  const bytesOf = (input) => (typeof input === 'string' ? encoder.encode(input) : input);
+  return Object.fromEntries(Object.entries(modules).map(([name, module]) => [name, (input) => runBytes(module, bytesOf(input))]));
 }

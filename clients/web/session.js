@@ -9,6 +9,7 @@ export const CONNECTORS = ['BNC1', 'BNC2', 'BNC3', 'BNC4', 'BNC5', 'BNC6', 'BNC7
   'TTL0', 'TTL1', 'TTL2', 'TTL3', 'TTL4', 'TTL5', 'TTL6', 'TTL7'];
 const CELLS = Array.from({ length: 16 }, (_, i) => i + 1);
 const FIRST_CONNECTOR = 33;
+const CLOCKS = [0, 1, 2, 3, 4];
 
 // ---- text and lines
 
@@ -29,8 +30,8 @@ export const tickLine = ({ clock, levels, attached }, kind) => `T ${clock} ${hex
 
 export const bitOf = (word, index) => (word >> index & 1) === 1;
 
-// What a program writes for lines, as it is.
-export const outputOf = (programs, lines, name) => programs[name](asInput(lines));
+// What a program writes for lines, as it is; or for what another program, `of`, writes for them.
+export const outputOf = (programs, lines, name, of = null) => programs[name](of ? outputOf(programs, lines, of).output : asInput(lines));
 
 const textOf = (programs, lines, name) => decoded(outputOf(programs, lines, name).output);
 
@@ -54,7 +55,7 @@ function probesAfter(answer) {
   return ran ? ['36RDADC X?', '36RDADC Y?', 'W E'] : ['W E'];
 }
 
-// plexplain writes for each line: the line, its answer, and words, each behind four blanks or more.
+// plexplain writes for each line: its number and the line, its answer, and words, each behind four blanks or more.
 function blockReader(output) {
   const out = output.split('\n');
   let at = 0;
@@ -106,19 +107,27 @@ function readTick(reader, line, answer, words) {
 }
 
 // plexplain's lines about a tick, by what they speak of. Whatever has another form is kept in `other`, and shown too.
+const TICK_WORDS = {
+  drivenWords: /^Driven high:/, lineWords: /^(BNC|TTL)\d goes /, cellWords: /^(cell \d+ \(|Constants that were edited|No cell wakes|The rules name:|The tick is full:)/,
+  highWords: /^High cells:/, hints: /^Hint: /, other: /^/,
+};
+
 function sortTickWords(words) {
-  const sorted = { drivenWords: [], lineWords: [], cellWords: [], highWords: [], other: [] };
-  for (const text of words) {
-    const cell = text.match(/^cell (\d+) \(/);
-    if (cell) sorted.cellWords.push({ cell: Number(cell[1]), text, onlyFull: / the tick is full\./.test(text) });
-    else if (text.startsWith('No cell wakes')) sorted.cellWords.push({ cell: 0, text, onlyFull: false });
-    else if (text.startsWith('Driven high:')) sorted.drivenWords.push(text);
-    else if (text.startsWith('High cells:')) sorted.highWords.push(text);
-    else if (/^(BNC|TTL)\d goes /.test(text)) sorted.lineWords.push(text);
-    else sorted.other.push(text);
-  }
-  return sorted;
+  const sorted = Object.fromEntries(Object.keys(TICK_WORDS).map((part) => [part, []]));
+  for (const text of words) sorted[Object.keys(TICK_WORDS).find((part) => TICK_WORDS[part].test(text))].push(text);
+  return { ...sorted, reasons: reasonsOf(sorted.cellWords), named: namedBy(sorted.cellWords) };
 }
+
+// Why a cell woke, by its number.
+const reasonsOf = (words) => Object.fromEntries(words.flatMap((text) => {
+  const cell = text.match(/^cell (\d+) \(/)?.[1];
+  return cell ? [[cell, text]] : [];
+}));
+
+// The cells that the waking rules name. In a full tick others are worked out too, and it says so of each.
+export const onlyFull = (text) => / the tick is full\./.test(text);
+
+const namedBy = (words) => words.filter((text) => !onlyFull(text)).flatMap((text) => namesIn(text).slice(0, 1));
 
 function numberTicks(entries) {
   let number = 0;
@@ -139,7 +148,15 @@ function disagreementsOf(entries, answers, reader) {
 export function runWithCard(programs, lines) {
   const whole = runSession(programs, [...lines, ...CARD_PROBES]);
   const entries = whole.entries.slice(0, lines.length);
-  return { session: { ...whole, lines, entries }, card: readCard(whole.entries.slice(lines.length)) };
+  return { session: { ...whole, lines, entries }, card: readCard(whole.entries.slice(lines.length)), hints: hintsOn(programs, lines) };
+}
+
+// plexplain gives hints in the first tick behind a wiring. So the wiring that plprint prints is set on a card of its own, and gets a tick of every clock: one
+// of them runs.
+function hintsOn(programs, lines) {
+  const wiring = splitLines(textOf(programs, lines, 'plprint')).lines;
+  const ticks = CLOCKS.map((clock) => tickLine({ clock, levels: 0, attached: 0xffff }, 'Q'));
+  return runSession(programs, [...wiring, ...ticks]).ticks.flatMap((e) => e.tick.hints ?? []);
 }
 
 export const cardAfter = (programs, lines) => runWithCard(programs, lines).card;

@@ -1,9 +1,10 @@
 // Showing what the state holds: lines with their answers, connectors, the diagram. It reads the state and never changes it.
 
 import { CONNECTORS, splitLines, bitOf } from './session.js';
-import { drawWaves, drawGuess, drawMisses, columnWidthFor, escapeText, ROW_HEIGHT, HEAD_HEIGHT } from './diagram.js';
+import { drawWaves, drawGuess, drawMisses, columnWidthFor, widthOf, escapeText, ROW_HEIGHT, HEAD_HEIGHT } from './diagram.js';
 import { state, view, canUndo } from './state.js';
 import { showTabs, showPanel } from './panel.js';
+import { checkedCount } from './exercise.js';
 import { byId, capital, count } from './dom.js';
 
 const REFUSALS_WAIT = 700;
@@ -24,7 +25,8 @@ export function show({ typing = false, moved = false, running = false, caret = f
   showTabs();
   showPanel(marked);
   clearTimeout(show.later);
-  // Half a line is refused too. Its answer is red at once, but the box below waits until the typing pauses, so that it does not flicker.
+  // Half a line is refused too, and half a wiring has hints. The answer is red at once, but the boxes below wait until the typing pauses, so that they do not
+  // flicker.
   if (typing) show.later = setTimeout(showRefusals, REFUSALS_WAIT);
   else if (!moved) showRefusals();
   if (caret) putCaret();
@@ -50,7 +52,7 @@ function showLines() {
   byId('text').readOnly = Boolean(state.cover?.exercise);
   byId('tally').innerHTML = tally();
   byId('hint').classList.toggle('bad', session.disagreements.length > 0);
-  byId('hint').textContent = [...state.notes, lastLineHint(), disagreementHint()].filter(Boolean).join(' ');
+  byId('hint').textContent = [checkedCount(), ...state.notes, lastLineHint(), disagreementHint()].filter(Boolean).join(' ');
   drawAnswers();
 }
 
@@ -85,8 +87,8 @@ const shortened = (words) => words.replace(/^\d+: /, '').replace(/^(cell \d+) \(
 
 function answerRow(e) {
   if (e.covered) return `<div class="answer" data-line="${e.index}"><b>?</b> <span>covered</span></div>`;
-  const gist = e.kind === 'tick' ? `tick ${e.tick.number}` : shortened(e.words[0] ?? '');
-  return `<div class="answer ${e.kind}" data-line="${e.index}"><b>${escapeText(e.answer)}</b> <span>${escapeText(gist)}</span></div>`;
+  const gist = e.kind === 'tick' ? `tick ${e.tick.number}${e.tick.hints.length ? `, ${count(e.tick.hints.length, 'hint')}` : ''}` : shortened(e.words[0] ?? '');
+  return `<div class="answer ${e.kind}" data-line="${e.index}" title="${escapeText(e.words.join('\n'))}"><b>${escapeText(e.answer)}</b> <span>${escapeText(gist)}</span></div>`;
 }
 
 function tally() {
@@ -113,6 +115,7 @@ function showRefusals() {
     <code>${escapeText(cutLine(e.line)) || '(empty)'}</code> <b>${escapeText(e.answer)}</b><div class="said">${escapeText(e.words.join('\n'))}</div></li>`);
   const more = refused.length - rows.length;
   byId('refusals').innerHTML = rows.length ? `<ul>${rows.join('')}</ul>${more > 0 ? `<p>and ${more} more, red in the lines above</p>` : ''}` : '';
+  byId('wiring-hints').innerHTML = view.hints.map((hint) => `<p class="said">${escapeText(hint)}</p>`).join('');
 }
 
 // ---- connectors
@@ -134,6 +137,7 @@ export function buildConnectors() {
 
 export function showConnectors() {
   const exercise = Boolean(state.cover?.exercise);
+  document.documentElement.classList.toggle('exercise', exercise);
   byId('clock').value = state.clock;
   byId('predict').checked = state.predicting;
   byId('undo').disabled = !canUndo();
@@ -171,8 +175,8 @@ export const diagram = { column: columnWidthFor(0, 0), from: 0, to: 0 }; // the 
 export function showDiagram() {
   const { session, rows } = view;
   diagram.column = columnWidthFor(session.ticks.length, roomForColumns());
-  byId('plot').style.width = `${session.ticks.length * diagram.column + 1}px`;
-  byId('labels').innerHTML = `<div class="corner" style="height:${HEAD_HEIGHT}px"></div>${rows.map(labelHtml).join('')}`;
+  byId('plot').style.width = `${widthOf(session.ticks.length, diagram.column)}px`;
+  byId('labels').innerHTML = `<div class="corner" style="height:${HEAD_HEIGHT}px">tick</div>${rows.map(labelHtml).join('')}`;
   byId('waves').classList.toggle('empty', session.ticks.length === 0);
   drawColumns();
 }

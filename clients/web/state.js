@@ -16,6 +16,7 @@ const LAST = Infinity;
 export const state = {
   // what undo takes back: the lines, the switches, the example that was opened, and what had to be repaired in a file
   text: '', levels: 0, attached: ALL_ATTACHED, clock: '0', about: null, notes: [],
+  task: null, // ticks with their answers, for which a wiring is to be found
   selected: -1, // the line that is looked at
   tab: 'line', allRows: false,
   predicting: false, // new ticks are covered, until what they do has been predicted
@@ -24,7 +25,7 @@ export const state = {
 };
 
 // What the programs said of the lines; `running` while a worker is still at newer lines. `at` is the card at the line that is looked at.
-export const view = { session: null, card: null, at: null, rows: [], running: false };
+export const view = { session: null, card: null, hints: [], at: null, rows: [], running: false };
 
 const past = [];
 const undone = [];
@@ -43,10 +44,11 @@ export function startState(itsRuns, show, fail) {
 }
 
 export const programs = () => runs.programs;
+export const has = (name) => name in runs.programs;
 export const canUndo = () => past.length > 0;
 export const forgetPast = () => { past.length = 0; };
 
-const UNDOABLE = ['text', 'levels', 'attached', 'clock', 'about', 'notes'];
+const UNDOABLE = ['text', 'levels', 'attached', 'clock', 'about', 'notes', 'task'];
 const snapshot = () => ({ ...Object.fromEntries(UNDOABLE.map((k) => [k, state[k]])), selected: state.selected });
 
 // A run of keystrokes is one step of undo.
@@ -57,13 +59,13 @@ function remember(typing) {
 }
 
 // Everything that changes lines or switches goes through here. A switch that is set does not uncover a tick.
-export function change(patch, { typing = false, select = state.selected, cover = null, score = [] } = {}) {
+export function change(patch, { typing = false, caret = false, select = state.selected, cover = null, score = [] } = {}) {
   remember(typing);
   undone.length = 0;
   Object.assign(state, patch);
   if (!('text' in patch)) return changed({});
   Object.assign(state, { cover, score });
-  return rerun(select, { typing });
+  return rerun(select, { typing, caret });
 }
 
 export const undo = () => goBack(past, undone);
@@ -109,8 +111,8 @@ function rerun(select, how) {
   });
 }
 
-function takeRun({ session, card }, select) {
-  Object.assign(view, { session, card });
+function takeRun({ session, card, hints }, select) {
+  Object.assign(view, { session, card, hints });
   cards.clear();
   state.selected = Math.min(select, session.lines.length - 1);
   placeCover();
@@ -131,7 +133,12 @@ export function cardAt(index) {
   return cards.get(index);
 }
 
-export const outputFor = (name) => runs.ask('output', view.session.lines, name);
+export const outputFor = ({ name, of }) => runs.ask('output', view.session.lines, name, of);
+
+export function outputsFor(table) {
+  const outputs = table.map(outputFor);
+  return outputs.some((o) => o instanceof Promise) ? Promise.all(outputs) : outputs;
+}
 
 // Labels go by the card at the line that is looked at, or at the last line that is not covered.
 function lookAt() {
@@ -176,13 +183,14 @@ export function addPreset(number) {
 }
 
 // The switches are set as in the last tick line, so that the next tick goes on from there.
-export function openText(text, { about = null, notes = [], select: at = LAST, coveredFrom = null } = {}) {
+export function openText(text, { about = null, notes = [], task = null, select: at = LAST, coveredFrom = null } = {}) {
   const tickLines = splitLines(text).lines.filter((line) => line.startsWith('T '));
   const last = runSession(runs.programs, tickLines.slice(-1)).ticks.at(-1)?.tick;
   const switches = last ? { levels: last.sample, attached: last.attached, clock: last.clock } : { levels: 0, attached: ALL_ATTACHED, clock: '0' };
   const cover = coveredFrom === null ? null : coverFrom(coveredFrom, true);
-  state.tab = about ? 'about' : 'line';
-  change({ text, about, notes, ...switches }, { select: cover ? coveredFrom : at, cover });
+  state.tab = task ? 'task' : about ? 'about' : 'line';
+  // A wiring that is to be found is written above the ticks.
+  change({ text, about, notes, task, ...switches }, { select: cover ? coveredFrom : task ? -1 : at, cover, caret: Boolean(task) });
 }
 
 // ---- covered ticks
@@ -244,6 +252,6 @@ function keepInAddress() {
 
 export async function writeAddress() {
   const looksAt = !state.cover && state.selected < view.session.lines.length - 1 ? state.selected : null;
-  const hash = await hashOf({ text: state.text, looksAt, coveredFrom: state.cover?.exercise ? state.cover.first : null });
+  const hash = await hashOf({ text: state.text, looksAt, coveredFrom: state.cover?.exercise ? state.cover.first : null, task: state.task });
   window.history.replaceState(null, '', hash);
 }

@@ -179,9 +179,99 @@ export async function opensEverything(page) {
   expect('presets', await answers(page), numbers.map(() => ':A'));
 }
 
-const openFile = (page, name, text) => page.evaluate(`(() => { const data = new DataTransfer();
-  data.items.add(new File([${JSON.stringify(text)}], ${JSON.stringify(name)}));
+// A file of a text, or of bytes.
+const openFile = (page, name, content) => page.evaluate(`(() => { const data = new DataTransfer();
+  const content = ${JSON.stringify(content)};
+  data.items.add(new File([typeof content === 'string' ? content : new Uint8Array(content)], ${JSON.stringify(name)}));
   const file = document.getElementById('file'); file.files = data.files; file.dispatchEvent(new Event('change')); })()`);
+
+// What the page saves is kept instead of downloaded: a promise of its bytes.
+const keepSaved = (page) => page.evaluate(`(() => { URL.createObjectURL = (blob) => {
+  window.saved = blob.arrayBuffer().then((b) => [...new Uint8Array(b)]); return 'about:blank#'; };
+  HTMLAnchorElement.prototype.click = () => {}; })()`);
+const savedBytes = (page) => page.evaluate('window.saved');
+const savedText = async (page) => Buffer.from(await savedBytes(page)).toString();
+
+// The first wiring as a record, in both forms, and back.
+export async function keepsRecord(page) {
+  await page.click('#examples [data-group=first]');
+  await page.press('#tab-plsave');
+  const rows = (await page.texts('#panel pre.hex'))[0].split('\n');
+  expect('a row for each field', rows.length, 33);
+  expect('the row of cell 1', rows[1].trim(), '4 02 00 0a 01 0e 00 00 00 02 a9 c0 00 00');
+  await keepSaved(page);
+  const saved = {};
+  for (const name of ['plsave', 'plconvert']) {
+    await page.click(`[data-save=${name}]`);
+    saved[name] = await savedBytes(page);
+  }
+  expect('saved bytes', Object.values(saved).map((b) => b.length), [308, 276]);
+  for (const [name, bytes] of Object.entries(saved)) {
+    await page.click('#new');
+    await openFile(page, `${name}.record`, bytes);
+    await page.until(`document.getElementById("hint").innerText.includes("${name}.record")`);
+    await page.click('#tab-plsave');
+    await page.click('[data-save=plsave]');
+    expect(`the record of ${name} again`, await savedBytes(page), saved.plsave);
+  }
+  const before = await page.evaluate('document.getElementById("text").value');
+  await openFile(page, 'torn.record', saved.plsave.slice(1));
+  await page.until('document.getElementById("notice").innerText.includes("torn.record")');
+  expect('a torn record is refused', (await page.text('#notice')).includes(':N-14: this is no record'), true);
+  expect('and leaves the lines', await page.evaluate('document.getElementById("text").value'), before);
+  await openFile(page, 'long.lines', 'M E=1\n36CCA Y=14\n36CCA Z=100000\n');
+  await page.until('document.getElementById("text").value.includes("100000")');
+  await page.click('#tab-plsave');
+  expect('what an older card cannot have', (await page.text('#panel .bad')).includes('plconvert: :N-17: a record that is to have 276 bytes'), true);
+}
+
+// A student gets ticks with their answers, and finds the wiring.
+export async function findsWiring(page) {
+  await page.click('#examples [data-group=exercises][data-index="1"]');
+  expect('nothing is wired', (await page.text('#hint')).startsWith('Exercise: '), true);
+  await page.press('#text');
+  await page.evaluate('document.getElementById("text").setSelectionRange(0, 0)');
+  await page.type('M E=1\n36CCA Y=14\n36CCA Z=3\n36CCB X=41 Y=192\nM E=33\n36CCA Z=1\n');
+  await page.click('#tab-task');
+  expect('the planted fault is found in its tick', (await page.text('#panel pre')).split('\n')[0], 'Line 15, tick 4: T 0 0100 ffff Q');
+  await page.evaluate('(() => { const t = document.getElementById("text"); t.setSelectionRange(25, 26); t.focus(); })()');
+  await page.type('2');
+  expect('the wiring is found', await page.text('#hint'), 'Exercise: 10 answers agree, 0 differ.');
+  await leaveLines(page);
+  await page.press('#open-exercise');
+  await page.press('#task-any');
+  await page.press('#task-copy');
+  await page.until('document.getElementById("exercise-link").value.includes("&t=")');
+  await page.open(await page.evaluate('document.getElementById("exercise-link").value'));
+  expect('its own link asks for levels only', (await page.text('#hint')).startsWith('Exercise: '), true);
+  await page.press('#text');
+  await page.evaluate('document.getElementById("text").setSelectionRange(0, 0)');
+  await page.type('M E=2\n36CCA Y=14\n36CCA Z=2\n36CCB X=41 Y=192\nM E=33\n36CCA Z=2\n');
+  expect('and takes another cell', await page.text('#hint'), 'Exercise: 20 answers agree, 0 differ.');
+  await leaveLines(page);
+}
+
+// Two cards that hand a pulse over, and a call that is none.
+export async function callsRack(page) {
+  await page.press('#open-rack');
+  const answers = async () => (await page.evaluate('document.getElementById("rack-answers").textContent')).split('\n');
+  expect('the answers of two cards', (await answers())[17], '0;T 0000 0001 0001 1;T 0000 0001 0001 1');
+  await page.evaluate(`(() => { const t = document.getElementById('calls'); t.value = 'rack 2\\nstart\\nline 3 16 W E\\n'; t.dispatchEvent(new Event('input')); })()`);
+  expect('no third card', (await answers())[2], '20 7 :N-20');
+  await page.click('#rack .close');
+}
+
+// A wiring that is legal and useless.
+export async function takesHint(page) {
+  await page.click('#new');
+  await focusLines(page);
+  await page.type('M E=1\n36CCA Y=14\n36CCB X=41 Y=192\n');
+  await page.until('document.querySelectorAll("#wiring-hints p").length === 1');
+  expect('a duration of 0', await page.text('#wiring-hints'), 'Hint: cell 1 (one-shot) has duration 0, so no trigger makes it high.');
+  await page.type('36CCA Z=2\n');
+  await page.until('document.querySelectorAll("#wiring-hints p").length === 0');
+  await leaveLines(page);
+}
 
 export async function opensCarriageReturns(page) {
   await openFile(page, 'word.lines', 'M E=2\r\nW E');
@@ -189,13 +279,12 @@ export async function opensCarriageReturns(page) {
   expect('CR LF is taken', await answers(page), [':A', ':A 2']);
   expect('and said', await page.text('#hint'), 'word.lines has CR LF at 1 line end. plrun refuses such lines; the page took the CRs out. '
     + 'The last line of word.lines has no LF. plrun drops such a line; the page put the LF in.');
-  await page.evaluate(`(() => { URL.createObjectURL = (blob) => { window.saved = blob.text(); return 'about:blank#'; };
-    HTMLAnchorElement.prototype.click = () => {}; })()`);
+  await keepSaved(page);
   await page.click('#save');
-  expect('saved file', await page.evaluate('window.saved'), 'M E=2\nW E\n');
+  expect('saved file', await savedText(page), 'M E=2\nW E\n');
   await page.click('#tab-plprint');
   await page.click('[data-save=plprint]');
-  expect('saved output', (await page.evaluate('window.saved')).startsWith('M E=1\n36CCA Y=0\n'), true);
+  expect('saved output', (await savedText(page)).startsWith('M E=1\n36CCA Y=0\n'), true);
 }
 
 // Long runs are made in a worker: the page says so meanwhile, and ends with the answers of the stored session. The last line of this one has no LF.
