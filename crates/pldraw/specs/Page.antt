@@ -1,6 +1,6 @@
 -- The limits of the picture.
 use Prim.Native.Nat.{ℕ, _+_, _≤_}
-use Rattle.pldraw.specs.declared.page.Strip.{Strip}
+use Rattle.pldraw.specs.declared.places.Strip.{Strip}
 
 -- the ticks that are kept, and those that stand side by side
 abbrev pub keptTicks : ℕ
@@ -9,13 +9,13 @@ keptTicks = 300
 abbrev pub columns : ℕ
 columns = 60
 
--- the rows that there can be: sixteen connectors and sixteen cells
+-- the rows that there can be: connectors as inputs, cells, connectors as outputs, sixteen each
 abbrev pub mostRows : ℕ
-mostRows = 32
+mostRows = 48
 
 -- no strip is higher
 abbrev pub highestStrip : ℕ
-highestStrip = 800
+highestStrip = 1200
 
 -- a strip of kept ticks that has room side by side
 abbrev pub Fits : Strip → Type 0

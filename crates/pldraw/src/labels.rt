@@ -1,7 +1,11 @@
-// The names of the rows.
+// The names of the rows, by the wiring: "TTL2 in", "cell 1 one-shot", "BNC1 <- cell 2".
 ghost use Prim.Native.Nat.{_<_};
 ghost use Rattle.pldraw.specs.Page.{mostRows};
 use card::card::Card;
+use card::connectors::connector_at;
+use card::limits::CONNECTORS_END;
+use card::limits::FIRST_CONNECTOR;
+use card::limits::OPEN_DRAIN;
 use names::LONGEST_NAME;
 use scope::sink::Room;
 use scope::sink::Sink;
@@ -24,15 +28,76 @@ fn put_cell_name(out: &mut Room, w: Sink, card: Card, i: u32) -> Sink
     put_kind(out, a, cell.kind)
 }
 
-// The name of row r: connectors first, then cells.
+// Connector k, BNC1 first.
+fn put_connector(out: &mut Room, w: Sink, k: u32) -> Sink
+    requires { ⌜ k < 16 ⌝ }
+{
+    if k < 8 {
+        return put_with(out, w, b"BNC", k as u64 + 1, b"");
+    }
+    put_with(out, w, b"TTL", k as u64 - 8, b"")
+}
+
+// What stands at a base: a cell or a connector.
+fn put_base(out: &mut Room, w: Sink, base: u8) -> Sink {
+    if base < FIRST_CONNECTOR {
+        return put_with(out, w, b"cell ", base as u64, b"");
+    }
+    if base < CONNECTORS_END {
+        return put_connector(out, w, base as u32 - 33);
+    }
+    put(out, w, b"reserved")
+}
+
+// How an address reads it.
+fn put_reading(out: &mut Room, w: Sink, quarter: u8) -> Sink {
+    match quarter {
+        0 => w,
+        1 => put(out, w, b"inverse of "),
+        2 => put(out, w, b"rise of "),
+        _ => put(out, w, b"fall of "),
+    }
+}
+
+// An address, by what it reads.
+fn put_address(out: &mut Room, w: Sink, address: u8) -> Sink {
+    let base = address % 64;
+    let quarter = address / 64;
+    if base != 0 {
+        let a = put_reading(out, w, quarter);
+        return put_base(out, a, base);
+    }
+    if quarter % 2 == 1 {
+        return put(out, w, b"always high");
+    }
+    put(out, w, b"always low")
+}
+
+// Connector k as an output, with its source.
+fn put_output(out: &mut Room, w: Sink, card: Card, k: u32) -> Sink
+    requires { ⌜ k < 16 ⌝ }
+{
+    let row = card.connectors;
+    let c = connector_at(row, k);
+    let a = put_connector(out, w, k);
+    let b = put(out, a, b" &lt;- ");
+    let d = put_address(out, b, c.source);
+    if c.kind == OPEN_DRAIN {
+        return put(out, d, b", open-drain");
+    }
+    d
+}
+
+// The name of row r: inputs, cells, outputs.
 pub fn put_name(out: &mut Room, w: Sink, card: Card, r: u32) -> Sink
     requires { ⌜ r < mostRows ⌝ }
 {
-    if r < 8 {
-        return put_with(out, w, b"BNC", r as u64 + 1, b"");
-    }
     if r < 16 {
-        return put_with(out, w, b"TTL", r as u64 - 8, b"");
+        let a = put_connector(out, w, r);
+        return put(out, a, b" in");
     }
-    put_cell_name(out, w, card, r - 16)
+    if r < 32 {
+        return put_cell_name(out, w, card, r - 16);
+    }
+    put_output(out, w, card, r - 32)
 }

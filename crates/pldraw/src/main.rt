@@ -1,69 +1,187 @@
 // Draws a run as a timing diagram in SVG: it reads what plrun reads, and shows each tick that ran as a column.
 //
 // A row is a connector's level or a cell's output; who has one is said in `rows`. A cell's row is tinted in the ticks that woke it. Sixty ticks stand
-// side by side, and the next sixty below them. The picture keeps 300 ticks and says how many came after them. No contract can say what is written.
+// side by side, and the next sixty below them. The picture keeps 300 ticks, from the one that is asked for, and says how many there are. Rows are named by the
+// wiring of the last tick that is drawn. No contract can say what is written.
+mod boxes;
 mod frame;
+mod kept;
 mod labels;
 mod page;
+mod places;
 mod rows;
+mod strip;
 
-use page::KEPT;
+ghost use Prim.Native.Nat.{_≤_};
+ghost use Rattle.pldraw.specs.Page.{keptTicks};
+use card::card::Card;
+use frame::Shape;
+use kept::KEPT;
+use kept::Ticks;
+use kept::WORDS;
+use kept::keep;
+use kept::why_of;
 use scope::BUFFER;
 use scope::Feed;
 use scope::LINE;
 use scope::STORE;
 use scope::sink::ROOM;
 use scope::sink::empty;
+use std::num::wrapping_add_u64;
 
-// The ticks behind those that are kept, counted, and the card at the input's end.
-pub struct Rest {
+// Ticks that were passed over: how many, and what the last of them showed.
+pub struct Passed {
     pub feed: Feed,
     pub count: u64,
+    pub word: u64,
 }
 
-fn count_rest(
+// At most so many ticks are passed over.
+fn pass(
     feed: Feed,
+    most: u64,
+    input: i32,
     block: &mut [u8; BUFFER],
     line: &mut [u8; LINE],
     store: &mut [u8; STORE],
-) -> Rest {
+) -> Passed {
     let mut f = feed;
     let mut count: u64 = 0;
-    while count < u64::MAX {
-        f = scope::next(f, block, line, store);
+    let mut word: u64 = 0;
+    while count < most {
+        f = scope::next(f, input, block, line, store);
         let shown = f.shown;
         if !shown.ran {
             break;
         }
+        word = scope::packed(shown.words);
         count += 1;
     }
-    Rest {
+    Passed {
         feed: f,
         count: count,
+        word: word,
     }
 }
 
-fn main() {
-    let mut block = [0u8; BUFFER];
-    let mut line = [0u8; LINE];
-    let mut store = [0u8; STORE];
-    let mut words = [0u64; KEPT];
-    let mut feed = scope::start();
+// The ticks that were kept: the card at the last of them, how many, and who has a row.
+pub struct Gathered {
+    pub feed: Feed,
+    pub card: Card,
+    pub n: usize,
+    pub set: u64,
+}
+
+fn gather(
+    start: Feed,
+    ticks: &mut Ticks,
+    input: i32,
+    block: &mut [u8; BUFFER],
+    line: &mut [u8; LINE],
+    store: &mut [u8; STORE],
+) -> Gathered
+    ensures { λ r. ⌜ r .n ≤ keptTicks ⌝ }
+{
+    let mut feed = start;
+    let mut card = start.card;
     let mut set: u64 = 0;
     let mut n: usize = 0;
     while n < KEPT {
-        feed = scope::next(feed, &mut block, &mut line, &mut store);
+        feed = scope::next(feed, input, block, line, store);
         let shown = feed.shown;
         if !shown.ran {
             break;
         }
         let word = scope::packed(shown.words);
-        words[n] = word;
-        set = set | (rows::wired(feed.card) | (word ^ words[0]));
+        let why = why_of(feed.before, shown.input, shown.full);
         n += 1;
+        keep(ticks, n, word, why);
+        card = feed.card;
+        set = set | (rows::wired(card) | (word ^ ticks[4]));
     }
-    let rest = count_rest(feed, &mut block, &mut line, &mut store);
+    Gathered {
+        feed: feed,
+        card: card,
+        n: n,
+        set: set,
+    }
+}
+
+// How many ticks come before tick `from`.
+fn before_of(from: u64) -> u64 {
+    if from == 0 {
+        return 0;
+    }
+    from - 1
+}
+
+// What the picture shows. No run has so many ticks that a sum wraps.
+fn shape_of(before: u64, drawn: Gathered, behind: u64) -> Shape
+    requires { ⌜ drawn .n ≤ keptTicks ⌝ }
+    ensures { λ p. ⌜ p .n ≤ keptTicks ⌝ }
+{
+    let through = wrapping_add_u64(before, drawn.n as u64);
+    Shape {
+        n: drawn.n,
+        before: before,
+        total: wrapping_add_u64(through, behind),
+        rows: rows::in_order(drawn.set, drawn.card),
+    }
+}
+
+// The run of an input, from tick `from` on.
+fn draw(input: i32, from: u64) {
+    let mut block = [0u8; BUFFER];
+    let mut line = [0u8; LINE];
+    let mut store = [0u8; STORE];
+    let mut ticks = [0u64; WORDS];
+    let first = scope::start();
+    let start = pass(
+        first,
+        before_of(from),
+        input,
+        &mut block,
+        &mut line,
+        &mut store,
+    );
+    ticks[0] = start.word;
+    let drawn = gather(
+        start.feed,
+        &mut ticks,
+        input,
+        &mut block,
+        &mut line,
+        &mut store,
+    );
+    let rest = pass(
+        drawn.feed,
+        u64::MAX,
+        input,
+        &mut block,
+        &mut line,
+        &mut store,
+    );
     let last = rest.feed;
+    let told = last.told;
+    let shape = shape_of(start.count, drawn, rest.count);
     let mut out = [0u8; ROOM];
-    page::put_page(&mut out, empty(), last.card, &words, n, set, rest.count);
+    page::put_page(&mut out, empty(), drawn.card, &ticks, shape, told);
+    scope::notes::say(&mut out, told);
+}
+
+fn main() {
+    let o = opening::open_from(
+        b"pldraw reads lines of a card and ticks, and draws a timing diagram of the ticks that ran, as an SVG picture.
+
+usage: pldraw [--from N] [FILE]     with no FILE it reads standard input
+
+A picture has 300 ticks, from tick N on, counted from 1. A tinted box is a cell that woke; where one points at it, a browser says why. Lines that were
+refused are told in the picture and on the error output.
+
+    pldraw first.lines > first.svg
+",
+    );
+    if o.input != opening::NOTHING {
+        draw(o.input, o.from);
+    }
 }

@@ -3,6 +3,8 @@
 //
 // A cell is wired where it is anything but a constant 0. A connector is wired where it is an output with a source other than 0, or where a wired cell
 // or such an output reads it. A fresh card's front connectors are outputs from 0, so they have no row of their own.
+//
+// Inputs are drawn first, then cells, then outputs: `in_order` gives the set of rows in that order, sixteen bits for each.
 ghost use Prim.Native.Nat.{_<_};
 use card::card::Card;
 use card::card::Connector;
@@ -72,4 +74,14 @@ pub fn wired(card: Card) -> u64 {
     let row = card.connectors;
     let connectors = each_of(row);
     by_cells(cells) | by_connectors(connectors)
+}
+
+// The rows of a set, by what the connectors of a card are.
+pub fn in_order(set: u64, card: Card) -> u64 {
+    let row = card.connectors;
+    let outputs = (row.push_pull as u64) | (row.open_drain as u64);
+    let connectors = set % 65536;
+    let driven = connectors & outputs;
+    let cells = (set >> 32) % 65536;
+    ((connectors ^ driven) | (cells << 16)) | (driven << 32)
 }

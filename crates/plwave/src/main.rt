@@ -2,23 +2,26 @@
 // time.
 //
 // The first tick's values stand whole, and after it those that changed. A tick without a change writes nothing; the time behind the last tick is
-// written at the end, so that a viewer shows it as long as the others. What a tick writes is a definition, `changes`; no contract can say what is
-// written. All goes to standard output by the buffer.
+// written at the end, so that a viewer shows it as long as the others. Before it stand comments on lines that were refused, or not entered; viewers do
+// not show them, so the error output has them too. What a tick writes is a definition, `changes`; no contract can say what is written. All goes to
+// standard output by the buffer.
 ghost use mathlib.Core.Path.{_≡_};
 ghost use Prim.Native.Nat.{_≤_, _<_, _+_};
 ghost use lib.ListN.{length};
 ghost use lib.Seq.{sets};
 ghost use Rattle.plwave.specs.Dump.{codeOf, digitOf, changeOf, changes, wires, longest};
+use scope::notes::Form;
+use scope::notes::Told;
+use scope::notes::has_refused;
+use scope::notes::has_rest;
+use scope::notes::put_refused;
+use scope::notes::put_rest;
 use scope::sink::Room;
 use scope::sink::Sink;
 use scope::sink::flush;
 use scope::sink::put;
+use scope::sink::put_byte;
 use scope::sink::put_number;
-
-fn put_byte(out: &mut Room, s: Sink, b: u8) -> Sink {
-    let text = [b];
-    put(out, s, &text)
-}
 
 // The identifier of the wire that shows bit i of a tick's packed words: one printable byte.
 fn code_of(i: u32) -> u8
@@ -82,11 +85,11 @@ fn put_group(
     end_scope(out, b)
 }
 
-// The scope of the driven word, front and backplane.
+// The scope of the driven word, front and backplane. The names say so too, since some viewers show no scopes.
 fn put_driven(out: &mut Room, s: Sink) -> Sink {
     let a = put_scope(out, s, b"driven");
-    let b = put_wires(out, a, 16, 8, b"BNC", 1);
-    let c = put_wires(out, b, 24, 8, b"TTL", 0);
+    let b = put_wires(out, a, 16, 8, b"drive_BNC", 1);
+    let c = put_wires(out, b, 24, 8, b"drive_TTL", 0);
     end_scope(out, c)
 }
 
@@ -180,14 +183,38 @@ fn put_tick(out: &mut Room, s: Sink, t: u64, word: u64, last: u64) -> Sink {
     put_bits(out, a, word, word ^ last)
 }
 
-// The time behind the last tick, and all that waits.
-fn finish(out: &mut Room, s: Sink, t: u64) -> Sink {
-    let a = put_time(out, s, t);
-    flush(out, a)
+// ---- the end
+
+// The lines that were refused, as a comment.
+fn put_refusals(out: &mut Room, s: Sink, told: Told) -> Sink {
+    if !has_refused(told) {
+        return s;
+    }
+    let a = put(out, s, b"$comment ");
+    let b = put_refused(out, a, told, Form::Wave);
+    put(out, b, b" $end\n")
 }
 
-// Time has 64 bits, and the ticks after so many are left out. A write that fails ends the program.
-fn main() {
+// A last line that was not entered.
+fn put_unended(out: &mut Room, s: Sink, told: Told) -> Sink {
+    if !has_rest(told) {
+        return s;
+    }
+    let a = put(out, s, b"$comment ");
+    let b = put_rest(out, a, told, Form::Wave);
+    put(out, b, b" $end\n")
+}
+
+// What no wave shows, the time behind the last tick, and all that waits.
+fn finish(out: &mut Room, s: Sink, told: Told, t: u64) -> Sink {
+    let a = put_refusals(out, s, told);
+    let b = put_unended(out, a, told);
+    let c = put_time(out, b, t);
+    flush(out, c)
+}
+
+// The wave file of an input. Time has 64 bits, and the ticks after so many are left out. A write that fails ends the program.
+fn write_wave(input: i32) {
     let mut block = [0u8; scope::BUFFER];
     let mut line = [0u8; scope::LINE];
     let mut store = [0u8; scope::STORE];
@@ -200,7 +227,7 @@ fn main() {
         if !s.ok {
             break;
         }
-        feed = scope::next(feed, &mut block, &mut line, &mut store);
+        feed = scope::next(feed, input, &mut block, &mut line, &mut store);
         let shown = feed.shown;
         if !shown.ran {
             break;
@@ -210,5 +237,24 @@ fn main() {
         last = word;
         t += 1;
     }
-    finish(&mut out, s, t);
+    let told = feed.told;
+    finish(&mut out, s, told, t);
+    scope::notes::say(&mut out, told);
+}
+
+fn main() {
+    let input = opening::open_input(
+        b"plwave reads lines of a card and ticks, and writes a wave file (Value Change Dump) of the ticks that ran.
+
+usage: plwave [FILE]     with no FILE it reads standard input
+
+Each tick that ran is one unit of time; tick 1 is at time 0. Lines that were refused are told in a comment at the end and on the error output.
+
+    plwave first.lines > first.vcd
+    gtkwave first.vcd examples/card.gtkw
+",
+    );
+    if input != opening::NOTHING {
+        write_wave(input);
+    }
 }

@@ -1,11 +1,14 @@
--- What one line of input shows, beside what it leaves (`entered` of the console).
+-- What one line of input shows, and whether it is refused, beside what it leaves (`entered` of the console).
 use Prim.Native.Nat.{ℕ, _+_, _*_, _%_, _^_}
 use mathlib.Core.Bool.{Bool, true, false, cond}
 use mathlib.Core.List.{List}
+use lib.Dec.{eqb}
+use lib.ListN.{getD}
 use Rattle.card.specs.declared.card.Card.{Card}
 use Rattle.ticks.specs.declared.tick.Answer.{Answer}
 use Rattle.ticks.specs.declared.tick.Ticked.{Ticked}
-use Rattle.console.specs.Console.{tickLine, ticked}
+use Rattle.console.specs.declared.TickLine.{TickLine}
+use Rattle.console.specs.Console.{tickLine, ticked, entered}
 use Rattle.input.specs.Lines.{kept, blockLength}
 use Rattle.scope.specs.declared.Shown.{Shown}
 use Rattle.scope.specs.declared.Words.{Words}
@@ -20,14 +23,30 @@ packed w = w .levels + w .driven * 2 ^ 16 + w .cells * 2 ^ 32 + w .woken * 2 ^ 4
 
 -- a line that is no tick, and one that is idle, show nothing
 abbrev pub nothing : Shown
-nothing = record { ran = false; words = record { levels = 0; driven = 0; cells = 0; woken = 0 } }
+nothing =
+    record {
+      ran = false;
+      full = false;
+      input = record { code = 0; sample = 0; attached = 0 };
+      words = record { levels = 0; driven = 0; cells = 0; woken = 0 };
+    }
 
-unfoldable pub shownBy : Ticked → Shown
-shownBy t = cond (t .answer .ran) (record { ran = true; words = wordsOf (t .card .memory .levels) (t .answer) }) nothing
+unfoldable pub shownBy : TickLine → Ticked → Shown
+shownBy l t =
+    cond (t .answer .ran)
+    (record { ran = true; full = l .full; input = l .input; words = wordsOf (t .card .memory .levels) (t .answer) })
+    nothing
 
 -- what a line shows to a card of n cells
 unfoldable pub shownAt : ℕ → Card → List ℕ → Shown
-shownAt n c t = cond (tickLine t .ok) (shownBy (ticked n c t)) nothing
+shownAt n c t = cond (tickLine t .ok) (shownBy (tickLine t) (ticked n c t)) nothing
+
+-- a refusal is printed as `:N-k`, an answer as `:A`, and a tick begins with `T` and a blank: the second byte, `N`, tells
+unfoldable pub isRefusal : List ℕ → Bool
+isRefusal printed = eqb (getD printed 1 0) 78
+
+abbrev pub refusedAt : ℕ → Card → List ℕ → List ℕ → Bool
+refusedAt n c t store = isRefusal (entered n c t store .printed)
 
 -- the bytes of the block that a program lends: a line that has not ended, and a block of input
 abbrev pub bufferLength : ℕ

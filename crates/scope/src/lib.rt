@@ -2,7 +2,8 @@
 //
 // `step` is one line of input: it leaves the card and the store that a line of plrun leaves, and gives what a tick showed in place of what it prints.
 // `next` goes on to the next tick that ran. It takes constant memory, whatever the input: what `input::next_line` asks for, and the store. No contract
-// can say which bytes are read. `sink` is the way back: what such a program writes.
+// can say which bytes are read. `sink` is the way back: what such a program writes; and `notes` what it says of lines that no picture shows.
+pub mod notes;
 pub mod sink;
 
 ghost use mathlib.Core.Bool.{true};
@@ -13,15 +14,21 @@ ghost use Rattle.card.specs.Address.{cellsFor};
 ghost use Rattle.card.specs.Fresh.{fresh};
 ghost use Rattle.console.specs.Console.{entered};
 ghost use Rattle.scope.specs.Steps;
-ghost use Rattle.scope.specs.Steps.{wordsOf, shownBy, shownAt, bufferLength};
+ghost use Rattle.scope.specs.Steps.{wordsOf, shownBy, shownAt, refusedAt, bufferLength};
+use crate::notes::Text;
+use crate::notes::Told;
+use crate::notes::answer_of;
+use crate::notes::is_refusal;
+use crate::notes::no_text;
 use card::card::Card;
 use console::LONGEST_PRINT;
+use console::TickLine;
 use input::Reader;
 use input::next_line;
-use libc::STDIN_FILENO;
 use saved::record::RECORD_LENGTH;
 use ticks::tick::Answer;
 use ticks::tick::Ticked;
+use ticks::view::Input;
 
 // What a program lends for the whole of an input: the block, the line that has not ended, and "The program's store starts as 308 zeros".
 pub const BUFFER: usize = input::BUFFER;
@@ -38,24 +45,31 @@ pub struct Words {
     pub woken: u16,
 }
 
-// What a line showed: nothing, unless it was a tick that ran.
+// What a line showed: nothing, unless it was a tick that ran. Then which kind of tick it was, what came in with it, and its words.
 pub struct Shown {
     pub ran: bool,
+    pub full: bool,
+    pub input: Input,
     pub words: Words,
 }
 
-// The card after a line, and what the line showed.
+// The card after a line, what the line showed, and whether it was refused, with the answer then.
 pub struct Stepped {
     pub card: Card,
     pub shown: Shown,
+    pub refused: bool,
+    pub answer: Text,
 }
 
 // Between two lines.
 pub struct Feed {
+    // the card that the last line met, and the one that it left
+    pub before: Card,
     pub card: Card,
     // what the last line showed
     pub shown: Shown,
     pub reader: Reader,
+    pub told: Told,
 }
 
 // ---- a line
@@ -70,8 +84,15 @@ fn nothing() -> Shown
         cells: 0,
         woken: 0,
     };
+    let input = Input {
+        code: 0,
+        sample: 0,
+        attached: 0,
+    };
     Shown {
         ran: false,
+        full: false,
+        input: input,
         words: words,
     }
 }
@@ -98,9 +119,9 @@ pub fn packed(w: Words) -> u64
     w.levels as u64 + driven + cells + woken
 }
 
-// What a tick showed.
-fn shown_by(t: Ticked) -> Shown
-    ensures { λ r. ⌜ r ≡ shownBy t ⌝ }
+// What the tick of a line showed.
+fn shown_by(line: TickLine, t: Ticked) -> Shown
+    ensures { λ r. ⌜ r ≡ shownBy line t ⌝ }
 {
     let a = t.answer;
     if !a.ran {
@@ -109,36 +130,57 @@ fn shown_by(t: Ticked) -> Shown
     let card = t.card;
     let m = card.memory;
     let words = words_of(m.levels, a);
+    let input = line.input;
     Shown {
         ran: true,
+        full: line.full,
+        input: input,
         words: words,
     }
 }
 
-// One line of input, without its LF: a tick, a load of the store, or a card line. What it would print is left out.
+// A line that is no tick, to a card. What it prints is left out, unless it is a refusal.
+fn step_line(card: Card, text: &[u8], store: &mut [u8]) -> Stepped
+    ensures { λ r. ⌜ r .card ≡ entered (cellsFor (card .size)) card (now (text .entry)) (now (store .entry)) .card ⌝ }
+    ensures { λ r. ⌜ now (store .exit) ≡ entered (cellsFor (card .size)) card (now (text .entry)) (now (store .entry)) .store ⌝ }
+    ensures { λ r. ⌜ r .refused ≡ refusedAt (cellsFor (card .size)) card (now (text .entry)) (now (store .entry)) ⌝ }
+    ensures { λ r. ⌜ r .shown ≡ Steps.nothing ⌝ }
+{
+    let mut out = [0u8; LONGEST_PRINT];
+    let entered = console::enter(card, text, store, &mut out);
+    let next = entered.card;
+    let len = entered.len;
+    let shown = nothing();
+    let answer = answer_of(&out[0..len]);
+    Stepped {
+        card: next,
+        shown: shown,
+        refused: is_refusal(&out[0..len]),
+        answer: answer,
+    }
+}
+
+// One line of input, without its LF: a tick, a load of the store, or a card line.
 pub fn step(card: Card, text: &[u8], store: &mut [u8]) -> Stepped
     ensures { λ r. ⌜ r .card ≡ entered (cellsFor (card .size)) card (now (text .entry)) (now (store .entry)) .card ⌝ }
     ensures { λ r. ⌜ now (store .exit) ≡ entered (cellsFor (card .size)) card (now (text .entry)) (now (store .entry)) .store ⌝ }
+    ensures { λ r. ⌜ r .refused ≡ refusedAt (cellsFor (card .size)) card (now (text .entry)) (now (store .entry)) ⌝ }
     ensures { λ r. ⌜ r .shown ≡ shownAt (cellsFor (card .size)) card (now (text .entry)) ⌝ }
 {
     let t = console::tick_line(text);
     if t.ok {
         let done = console::do_tick(card, t);
         let next = done.card;
-        let shown = shown_by(done);
+        let shown = shown_by(t, done);
+        let answer = no_text();
         return Stepped {
             card: next,
             shown: shown,
+            refused: false,
+            answer: answer,
         };
     }
-    let mut out = [0u8; LONGEST_PRINT];
-    let entered = console::enter(card, text, store, &mut out);
-    let next = entered.card;
-    let shown = nothing();
-    Stepped {
-        card: next,
-        shown: shown,
-    }
+    step_line(card, text, store)
 }
 
 // ---- the input
@@ -153,33 +195,66 @@ pub fn start() -> Feed
     let card = card::card::fresh();
     let shown = nothing();
     let reader = input::start();
+    let told = notes::none();
     Feed {
+        before: card,
         card: card,
         shown: shown,
         reader: reader,
+        told: told,
+    }
+}
+
+// Where no further line comes: what stands behind the last LF is told.
+fn past(feed: Feed, r: Reader, text: &[u8]) -> Feed
+    ensures { λ f. ⌜ (f .reader .end ≡ r .end) × (f .reader .n ≡ r .n) × (f .reader .left ≡ r .left) ⌝ }
+{
+    let mut f = feed;
+    f.shown = nothing();
+    f.reader = r;
+    let told = notes::at_end(feed.told, text);
+    f.told = told;
+    f
+}
+
+// A line.
+fn taken(feed: Feed, r: Reader, text: &[u8], store: &mut [u8]) -> Feed
+    ensures { λ f. ⌜ (f .reader .end ≡ r .end) × (f .reader .n ≡ r .n) × (f .reader .left ≡ r .left) ⌝ }
+{
+    let card = feed.card;
+    let stepped = step(card, text, store);
+    let next = stepped.card;
+    let shown = stepped.shown;
+    let answer = stepped.answer;
+    let told = notes::after(feed.told, text, stepped.refused, answer);
+    Feed {
+        before: card,
+        card: next,
+        shown: shown,
+        reader: r,
+        told: told,
     }
 }
 
 // The line that a reader has given, if it has given one.
-fn step_given(card: Card, r: Reader, block: &[u8], store: &mut [u8]) -> Stepped
+fn step_given(feed: Feed, r: Reader, block: &[u8], store: &mut [u8]) -> Feed
     requires { ⌜ r .start ≤ r .end ⌝ }
     requires { ⌜ r .end ≤ length (now block) ⌝ }
+    ensures { λ f. ⌜ (f .reader .end ≡ r .end) × (f .reader .n ≡ r .n) × (f .reader .left ≡ r .left) ⌝ }
 {
-    if !r.going {
-        let shown = nothing();
-        return Stepped {
-            card: card,
-            shown: shown,
-        };
-    }
     let start = r.start;
     let end = r.end;
-    step(card, &block[start..end], store)
+    let text = &block[start..end];
+    if !r.going {
+        return past(feed, r, text);
+    }
+    taken(feed, r, text, store)
 }
 
-// The next line of standard input.
+// The next line of an input.
 fn turn(
     feed: Feed,
+    input: i32,
     block: &mut [u8; BUFFER],
     line: &mut [u8; LINE],
     store: &mut [u8; STORE],
@@ -191,16 +266,8 @@ fn turn(
     ensures { λ f. ⌜ f .reader .n ≤ bufferLength ⌝ }
     ensures { λ f. ⌜ f .reader .left < feed .reader .left ⌝ }
 {
-    let card = feed.card;
-    let reader = next_line(feed.reader, STDIN_FILENO, block, line);
-    let stepped = step_given(card, reader, block, store);
-    let next = stepped.card;
-    let shown = stepped.shown;
-    Feed {
-        card: next,
-        shown: shown,
-        reader: reader,
-    }
+    let reader = next_line(feed.reader, input, block, line);
+    step_given(feed, reader, block, store)
 }
 
 // Where the input has ended, or the feed is none that these functions gave.
@@ -214,9 +281,10 @@ fn ended(feed: Feed) -> Feed
 }
 
 // The input up to the next tick that ran, or to its end, where nothing is shown. The feed is what `start` or this function gave, with the same
-// buffers.
+// input and buffers.
 pub fn next(
     feed: Feed,
+    input: i32,
     block: &mut [u8; BUFFER],
     line: &mut [u8; LINE],
     store: &mut [u8; STORE],
@@ -230,7 +298,7 @@ pub fn next(
         return ended(f);
     }
     while r.left > 0 && r.going {
-        f = turn(f, block, line, store);
+        f = turn(f, input, block, line, store);
         let shown = f.shown;
         if shown.ran {
             return f;

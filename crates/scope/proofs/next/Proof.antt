@@ -7,10 +7,10 @@ use Rattle.scope.proofs.next.Statement.{statement}
 use Rattle.scope.proofs.next.Tie as tie
 
 abbrev Inv-loop : tie.InvT-loop
-Inv-loop block₀ line₀ store₀ f₀ r₀ block line store f r = (f .reader .end ≤ f .reader .n) × (f .reader .n ≤ bufferLength) × (r .left ≡ f .reader .left)
+Inv-loop input block₀ line₀ store₀ f₀ r₀ block line store f r = (f .reader .end ≤ f .reader .n) × (f .reader .n ≤ bufferLength) × (r .left ≡ f .reader .left)
 
 abbrev μ-loop : tie.MeasureT-loop
-μ-loop block₀ line₀ store₀ f₀ r₀ block line store f r = r .left
+μ-loop input block₀ line₀ store₀ f₀ r₀ block line store f r = r .left
 
 ended-requires : tie.Need-ended-requires Inv-loop μ-loop
 ended-requires c κs = search needs

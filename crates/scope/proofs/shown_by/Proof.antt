@@ -20,9 +20,9 @@ words-of-requires c κs = search needs
 returns-2 : tie.Need-returns-2
 unfolding shownBy
 returns-2 c =
-    let e = c .before .before .before in
+    let e = c .before .before .before .before in
     let t = e .before .before .before .args .t in
-    rw (not-false (t .answer .ran) (e .if1 .left), c .words-of .ensures)
+    rw (not-false (t .answer .ran) (e .if1 .left), c .before .words-of .ensures)
 
 pub shown-by-spec : {M : Type 1} → statement M
 shown-by-spec = tie.close (tie.spec nothing-requires returns words-of-requires returns-2)

@@ -8,16 +8,13 @@ use Rattle.pldraw.proofs.page.count_rows.Statement.{statement}
 use Rattle.pldraw.proofs.page.count_rows.Tie as tie
 
 abbrev Inv-loop : tie.InvT-loop
-Inv-loop set n₀ r₀ n r = (n ≤ r) × (r ≤ mostRows)
+Inv-loop rows n₀ r₀ n r = (n ≤ r) × (r ≤ mostRows)
 
 abbrev μ-loop : tie.MeasureT-loop
-μ-loop set n₀ r₀ n r = mostRows - r
+μ-loop rows n₀ r₀ n r = mostRows - r
 
 loop-holds : tie.Need-loop-holds Inv-loop μ-loop
 loop-holds c = search needs
-
-bit-of-requires : tie.Need-bit-of-requires Inv-loop μ-loop
-bit-of-requires c κs = search needs
 
 bit-requires : tie.Need-bit-requires Inv-loop μ-loop
 bit-requires c κs = search needs
@@ -40,14 +37,4 @@ returns c = search needs
 pub count-rows-spec : {M : Type 1} → statement M
 count-rows-spec =
     tie.close
-    (tie.spec
-    Inv-loop
-    μ-loop
-    loop-holds
-    bit-of-requires
-    bit-requires
-    add-n
-    add-r
-    loop-less
-    loop-again
-    returns)
+    (tie.spec Inv-loop μ-loop loop-holds bit-requires add-n add-r loop-less loop-again returns)

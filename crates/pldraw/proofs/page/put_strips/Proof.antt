@@ -5,10 +5,10 @@ use Rattle.pldraw.proofs.page.put_strips.Statement.{statement}
 use Rattle.pldraw.proofs.page.put_strips.Tie as tie
 
 abbrev Inv-loop : tie.InvT-loop
-Inv-loop out₀ card words n set low w₀ start₀ y₀ out w start y = (start ≤ n + 60) × (y ≤ 34 + 816 * start)
+Inv-loop out₀ card ticks p low head n rows w₀ start₀ y₀ out w start y = (start ≤ n + 60) × (y ≤ 1200 + 1216 * start)
 
 abbrev μ-loop : tie.MeasureT-loop
-μ-loop out₀ card words n set low w₀ start₀ y₀ out w start y = n - start
+μ-loop out₀ card ticks p low head n rows w₀ start₀ y₀ out w start y = n - start
 
 loop-holds : tie.Need-loop-holds Inv-loop μ-loop
 loop-holds c = search needs

@@ -1,15 +1,15 @@
--- `pldraw::page::put_grid` is safe and ends: the column stays within the strip.
+-- `pldraw::strip::put_grid` is safe and ends: the column stays within the strip.
 use Prim.Native.Nat.{_≤_, _+_, _-_}
 use mathlib.Core.Path.{_≡_}
 use borrow.Author.Needs.{needs}
-use Rattle.pldraw.proofs.page.put_grid.Statement.{statement}
-use Rattle.pldraw.proofs.page.put_grid.Tie as tie
+use Rattle.pldraw.proofs.strip.put_grid.Statement.{statement}
+use Rattle.pldraw.proofs.strip.put_grid.Tie as tie
 
 abbrev Inv-loop : tie.InvT-loop
-Inv-loop out₀ colour n wide step low end w₀ k₀ tail out w k = (end ≡ n + 1) × (k ≤ end)
+Inv-loop out₀ colour n wide step offset low end w₀ k₀ t12 out w k = (end ≡ n + 1) × (k ≤ end)
 
 abbrev μ-loop : tie.MeasureT-loop
-μ-loop out₀ colour n wide step low end w₀ k₀ tail out w k = end - k
+μ-loop out₀ colour n wide step offset low end w₀ k₀ t12 out w k = end - k
 
 add-end : tie.Need-add-end Inv-loop μ-loop
 add-end c = search needs
@@ -19,6 +19,9 @@ put-path-requires c κs = search needs
 
 loop-holds : tie.Need-loop-holds Inv-loop μ-loop
 loop-holds c = search needs
+
+add-if1 : tie.Need-add-if1 Inv-loop μ-loop
+add-if1 c = search needs
 
 rem-if1 : tie.Need-rem-if1 Inv-loop μ-loop
 rem-if1 c = search needs
@@ -53,6 +56,7 @@ put-grid-spec =
     add-end
     put-path-requires
     loop-holds
+    add-if1
     rem-if1
     put-upright-requires
     add-k

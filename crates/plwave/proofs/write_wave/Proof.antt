@@ -1,17 +1,17 @@
--- `plwave::main` is safe and ends: the time stays within 64 bits.
+-- `plwave::write_wave` is safe and ends: the time stays within 64 bits.
 use Prim.Native.Nat.{ℕ, _≤_, _-_}
 use borrow.Author.Needs.{needs}
-use Rattle.plwave.proofs.main.Statement.{statement}
-use Rattle.plwave.proofs.main.Tie as tie
+use Rattle.plwave.proofs.write_wave.Statement.{statement}
+use Rattle.plwave.proofs.write_wave.Tie as tie
 
 abbrev most : ℕ
 most = 18446744073709551615
 
 abbrev Inv-loop : tie.InvT-loop
-Inv-loop block₀ line₀ store₀ out₀ s₀ feed₀ last₀ t₀ block line store out s feed last t = t ≤ most
+Inv-loop input block₀ line₀ store₀ out₀ s₀ feed₀ last₀ t₀ block line store out s feed last t = t ≤ most
 
 abbrev μ-loop : tie.MeasureT-loop
-μ-loop block₀ line₀ store₀ out₀ s₀ feed₀ last₀ t₀ block line store out s feed last t = most - t
+μ-loop input block₀ line₀ store₀ out₀ s₀ feed₀ last₀ t₀ block line store out s feed last t = most - t
 
 empty-requires : tie.Need-empty-requires Inv-loop μ-loop
 empty-requires c κs = search needs
@@ -46,11 +46,14 @@ loop-again c = search needs
 finish-requires : tie.Need-finish-requires Inv-loop μ-loop
 finish-requires c κs = search needs
 
+say-requires : tie.Need-say-requires Inv-loop μ-loop
+say-requires c κs = search needs
+
 returns : tie.Need-returns Inv-loop μ-loop
 returns c = search needs
 
-pub main-spec : {M : Type 1} → statement M
-main-spec =
+pub write-wave-spec : {M : Type 1} → statement M
+write-wave-spec =
     tie.close
     (tie.spec
     Inv-loop
@@ -66,4 +69,5 @@ main-spec =
     loop-less
     loop-again
     finish-requires
+    say-requires
     returns)

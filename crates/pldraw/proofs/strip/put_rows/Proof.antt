@@ -1,23 +1,20 @@
--- `pldraw::page::put_rows` is safe and ends: a row is drawn for no more than were looked at.
+-- `pldraw::strip::put_rows` is safe and ends: a row is drawn for no more than were looked at.
 use Prim.Native.Nat.{_≤_, _+_, _*_, _-_}
 use mathlib.Core.Logic.{⊎-elim}
 use native.Mathlib.Omega.{arith}
 use Rattle.pldraw.specs.Page.{mostRows}
 use borrow.Author.Needs.{needs}
-use Rattle.pldraw.proofs.page.put_rows.Statement.{statement}
-use Rattle.pldraw.proofs.page.put_rows.Tie as tie
+use Rattle.pldraw.proofs.strip.put_rows.Statement.{statement}
+use Rattle.pldraw.proofs.strip.put_rows.Tie as tie
 
 abbrev Inv-loop : tie.InvT-loop
-Inv-loop out₀ card words s set w₀ y₀ r₀ out w y r = (r ≤ mostRows) × (y ≤ 18 + 22 * r)
+Inv-loop out₀ card ticks s rows w₀ y₀ r₀ out w y r = (r ≤ mostRows) × (y ≤ 30 + 22 * r)
 
 abbrev μ-loop : tie.MeasureT-loop
-μ-loop out₀ card words s set w₀ y₀ r₀ out w y r = mostRows - r
+μ-loop out₀ card ticks s rows w₀ y₀ r₀ out w y r = mostRows - r
 
 loop-holds : tie.Need-loop-holds Inv-loop μ-loop
 loop-holds c = search needs
-
-bit-of-requires : tie.Need-bit-of-requires Inv-loop μ-loop
-bit-of-requires c κs = search needs
 
 bit-requires : tie.Need-bit-requires Inv-loop μ-loop
 bit-requires c κs = search needs
@@ -47,7 +44,6 @@ put-rows-spec =
     Inv-loop
     μ-loop
     loop-holds
-    bit-of-requires
     bit-requires
     put-row-requires
     add-y

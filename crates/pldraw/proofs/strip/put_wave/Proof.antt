@@ -1,17 +1,17 @@
--- `pldraw::page::put_wave` is safe and ends: the tick stays within the strip.
+-- `pldraw::strip::put_wave` is safe and ends: the tick stays within the strip.
 use Prim.Native.Nat.{_≤_, _-_}
 use borrow.Author.Needs.{needs}
-use Rattle.pldraw.proofs.page.put_wave.Statement.{statement}
-use Rattle.pldraw.proofs.page.put_wave.Tie as tie
+use Rattle.pldraw.proofs.strip.put_wave.Statement.{statement}
+use Rattle.pldraw.proofs.strip.put_wave.Tie as tie
 
 abbrev Inv-loop : tie.InvT-loop
-Inv-loop out₀ words s i start end last₀ w₀ t₀ tail tail₂ out last w t = (start ≤ t) × (t ≤ end)
+Inv-loop out₀ ticks s i start end last₀ w₀ t₀ t13 t14 out last w t = (start ≤ t) × (t ≤ end)
 
 abbrev μ-loop : tie.MeasureT-loop
-μ-loop out₀ words s i start end last₀ w₀ t₀ tail tail₂ out last w t = end - t
+μ-loop out₀ ticks s i start end last₀ w₀ t₀ t13 t14 out last w t = end - t
 
-before-requires : tie.Need-before-requires Inv-loop μ-loop
-before-requires c κs = search needs
+shows-requires : tie.Need-shows-requires Inv-loop μ-loop
+shows-requires c κs = search needs
 
 put-start-requires : tie.Need-put-start-requires Inv-loop μ-loop
 put-start-requires c κs = search needs
@@ -19,14 +19,11 @@ put-start-requires c κs = search needs
 loop-holds : tie.Need-loop-holds Inv-loop μ-loop
 loop-holds c = search needs
 
-mul-bit : tie.Need-mul-bit Inv-loop μ-loop
-mul-bit c = search needs
+add-shows : tie.Need-add-shows Inv-loop μ-loop
+add-shows c = search needs
 
-element-copy-out-bit : tie.Need-element-copy-out-bit Inv-loop μ-loop
-element-copy-out-bit c = search needs
-
-bit-requires : tie.Need-bit-requires Inv-loop μ-loop
-bit-requires c κs = search needs
+shows-requires-2 : tie.Need-shows-requires-2 Inv-loop μ-loop
+shows-requires-2 c κs = search needs
 
 sub-put-step : tie.Need-sub-put-step Inv-loop μ-loop
 sub-put-step c = search needs
@@ -67,12 +64,11 @@ put-wave-spec =
     (tie.spec
     Inv-loop
     μ-loop
-    before-requires
+    shows-requires
     put-start-requires
     loop-holds
-    mul-bit
-    element-copy-out-bit
-    bit-requires
+    add-shows
+    shows-requires-2
     sub-put-step
     put-step-requires
     add-t

@@ -1,0 +1,2 @@
+-- The proofs of what lines show: no tick is refused.
+pub mod Refusals
