@@ -1,27 +1,51 @@
-# compare-draw.py NAME SVG RUN: the waves of a picture against the words and levels that plrun printed. Behind each tick of RUN stand the replies to
-# 36RDADC X? and Y?, the levels of that tick. Called by check-draw.
+# compare-draw.py NAME SVG LINES RUN FROM: a picture against what plrun printed for the same lines. Behind each tick of LINES stand 36RDADC X? and Y?, so that RUN has
+# its levels. Called by check-draw.
 import re
 import sys
 import xml.etree.ElementTree as ET
 
-name, svg_path, run_path = sys.argv[1:]
+name, svg_path, lines_path, run_path, first = sys.argv[1:]
 SVG = "{http://www.w3.org/2000/svg}"
-LEFT, KEPT, SIDE_BY_SIDE, HIGH = 170, 300, 60, 4
+LEFT, KEPT, SIDE_BY_SIDE, HIGH = 215, 300, 60, 4
+before = max(int(first) - 1, 0)
 
 
-def ticks_of(lines):
-    """For each tick that ran its driven word, cell word, woken set and levels, BNC1 first."""
+def read(path):
+    return open(path, errors="replace").read().split("\n")[:-1]
+
+
+def ticks_of(lines, answers):
+    """For each tick that ran its driven word, cell word, woken set, levels, BNC1 first, and whether it was full."""
     ticks = []
-    for i, line in enumerate(lines):
-        if re.match(r"T [0-9a-f]{4} ", line):
-            front, back = (int(reply.split()[1]) for reply in lines[i + 1 : i + 3])
-            ticks.append(tuple(int(w, 16) for w in line.split()[1:4]) + (front + 256 * back,))
+    for i, answer in enumerate(answers):
+        if re.match(r"T [0-9a-f]{4} ", answer):
+            front, back = (int(reply.split()[1]) for reply in answers[i + 1 : i + 3])
+            ticks.append(tuple(int(w, 16) for w in answer.split()[1:4]) + (front + 256 * back, lines[i].endswith("F")))
     return ticks
 
 
-run = ticks_of(open(run_path).read().splitlines())
-kept = min(len(run), KEPT)
-column = 20 if kept <= 30 else 10
+def refusals_of(lines, answers):
+    """What the picture must say of refused lines. The reads behind ticks are ours and have no number."""
+    refused, number, skip = [], 0, 0
+    for line, answer in zip(lines, answers):
+        if skip:
+            skip -= 1
+            continue
+        number += 1
+        skip = 2 if line.startswith("T ") else 0
+        if answer.startswith(":N"):
+            refused.append("line %d: %s (%s)" % (number, re.sub("[^ -~]", "?", line[:96]), answer))
+    if not refused:
+        return []
+    if len(refused) == 1:
+        return ["1 line was refused; it is " + refused[0]]
+    return ["%d lines were refused; the first is %s" % (len(refused), refused[0])]
+
+
+lines, answers = read(lines_path), read(run_path)
+every = ticks_of(lines, answers)
+run = every[before : before + KEPT]
+column = 20 if len(run) <= 30 else 10
 
 
 def column_of(x):
@@ -42,19 +66,38 @@ def wave_of(path):
     return values
 
 
-def columns_of(path):
-    """The columns of a band: M x 11 H x for each piece."""
-    return {k for a, b in re.findall(r"M(\d+) 11H(\d+)", path) for k in range(column_of(a), column_of(b))}
+def boxes_of(group):
+    """The boxes of a cell's row: column to class and title."""
+    return {column_of(re.match(r"M(\d+) ", p.get("d")).group(1)): (p.get("class"), p.find(SVG + "title").text) for p in group.findall(SVG + "path")}
 
 
-wrong, rows = [], 0
-strips = [g for g in ET.parse(svg_path).getroot() if g.tag == SVG + "g"]
-if len(strips) != -(-kept // SIDE_BY_SIDE):
+def good_box(box, number, full):
+    """A box says its tick. In a quick tick it has a reason; without one the tick is full, and the tint is the light one."""
+    kind, title = box
+    parts = title.split(", ")
+    reasons = [p for p in parts[1:] if p != "full tick"]
+    return parts[0] == "tick %d" % number and ("full tick" in parts) == full and kind == ("b" if reasons else "a") and (full or reasons)
+
+
+wrong, rows, order = [], 0, []
+root = ET.parse(svg_path).getroot()
+strips = [g for g in root if g.tag == SVG + "g"]
+said = [t.text for t in root.findall(SVG + "text") if t.get("class") == "e" and "no LF" not in t.text]
+if said != refusals_of(lines, answers):
+    wrong.append("refused lines")
+title = root.find(SVG + "text").text
+if run and not title.startswith("Trigger card: ticks %d to %d of %d" % (before + 1, before + len(run), len(every))):
+    wrong.append("title")
+if len(strips) != -(-len(run) // SIDE_BY_SIDE):
     wrong.append("%d strips" % len(strips))
 for s, strip in enumerate(strips):
-    ticks = run[s * SIDE_BY_SIDE : min(kept, (s + 1) * SIDE_BY_SIDE)]
+    ticks = run[s * SIDE_BY_SIDE : (s + 1) * SIDE_BY_SIDE]
     groups = [g for g in strip if g.tag == SVG + "g"]
-    bands = {g.get("transform"): columns_of(g.find(SVG + "path").get("d")) for g in groups if g.find(SVG + "text") is None}
+    marks = {column_of(t.get("x")) for t in strip.findall(SVG + "text") if t.get("class") == "f"}
+    if marks != {k for k, tick in enumerate(ticks) if tick[4]}:
+        wrong.append("marks of full ticks")
+    boxes = {g.get("transform"): boxes_of(g) for g in groups if g.find(SVG + "text") is None}
+    labels = []
     for row in groups:
         label = row.find(SVG + "text")
         if label is None:
@@ -63,15 +106,21 @@ for s, strip in enumerate(strips):
         wave = wave_of(next(p.get("d") for p in row.findall(SVG + "path") if p.get("class") == "w"))
         if len(wave) != len(ticks):
             wrong.append("%s has %d columns" % (label.text, len(wave)))
-        for k, (value, (_, cells, woken, levels)) in enumerate(zip(wave, ticks)):
-            if label.text.startswith("cell"):
-                i = int(label.text.split()[1]) - 1
-                tinted = k in bands[row.get("transform")]
-                good = value == bool(cells >> i & 1) and tinted == bool(woken >> i & 1)
+        words = label.text.split()
+        labels.append(1 if words[0] == "cell" else 0 if words[1] == "in" else 2)
+        for k, (value, (_, cells, woken, levels, full)) in enumerate(zip(wave, ticks)):
+            if words[0] == "cell":
+                i = int(words[1]) - 1
+                box = boxes[row.get("transform")].get(k)
+                good = value == bool(cells >> i & 1) and (box is not None) == bool(woken >> i & 1)
+                good = good and (box is None or good_box(box, before + s * SIDE_BY_SIDE + k + 1, full))
             else:
-                i = int(label.text[3:]) - 1 if label.text.startswith("BNC") else int(label.text[3:]) + 8
+                i = int(words[0][3:]) - 1 if words[0].startswith("BNC") else int(words[0][3:]) + 8
                 good = value == bool(levels >> i & 1)
             if not good:
-                wrong.append("%s at tick %d" % (label.text, s * SIDE_BY_SIDE + k + 1))
-print("%s: %d ticks in %d strips, %d rows, %s" % (name, kept, len(strips), rows, "the same" if not wrong else "DIFFERS: " + "; ".join(wrong[:3])))
+                wrong.append("%s at tick %d" % (label.text, before + s * SIDE_BY_SIDE + k + 1))
+    if labels != sorted(labels):
+        wrong.append("order of rows")
+verdict = "the same" if not wrong else "DIFFERS: " + "; ".join(wrong[:3])
+print("%s from %s: %d ticks in %d strips, %d rows, %s" % (name, first, len(run), len(strips), rows, verdict))
 sys.exit(1 if wrong else 0)

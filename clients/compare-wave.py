@@ -65,7 +65,7 @@ def word(values, names):
 
 
 connectors = ["BNC%d" % i for i in range(1, 9)] + ["TTL%d" % i for i in range(8)]
-driven = ["card.driven." + n for n in connectors]
+driven = ["card.driven.drive_" + n for n in connectors]
 levels = ["card.front." + n for n in connectors[:8]] + ["card.backplane." + n for n in connectors[8:]]
 cells = ["card.cells.cell%d" % i for i in range(1, 17)]
 woken = ["card.woken.woken%d" % i for i in range(1, 17)]
