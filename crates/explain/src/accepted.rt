@@ -1,22 +1,4 @@
 // An accepted line: what it changed, or what it read.
-use crate::out::Page;
-use crate::out::around;
-use crate::out::level;
-use crate::out::low;
-use crate::out::put;
-use crate::out::put_if;
-use crate::out::wide;
-use crate::terms::address;
-use crate::terms::connector_kind;
-use crate::terms::connector_name;
-use crate::terms::slot_name;
-use crate::terms::typed_cell;
-use crate::wiring::put_cell;
-use crate::wiring::put_changes;
-use crate::wiring::put_config;
-use crate::wiring::put_connector;
-use crate::wiring::put_high;
-use crate::wiring::put_set;
 use card::card::Card;
 use card::context::Context;
 use card::context::context_of;
@@ -28,6 +10,24 @@ use cells::table::class_of;
 use commands::grammar::Command;
 use commands::grammar::Pairs;
 use commands::grammar::Slot;
+use phrases::out::Page;
+use phrases::out::around;
+use phrases::out::level;
+use phrases::out::low;
+use phrases::out::put;
+use phrases::out::put_if;
+use phrases::out::wide;
+use phrases::terms::address;
+use phrases::terms::connector_kind;
+use phrases::terms::connector_name;
+use phrases::terms::slot_name;
+use phrases::terms::typed_cell;
+use phrases::wiring::put_cell;
+use phrases::wiring::put_changes;
+use phrases::wiring::put_config;
+use phrases::wiring::put_connector;
+use phrases::wiring::put_high;
+use phrases::wiring::put_set;
 
 // The index of the cell, or the connector, at the pointer.
 fn cell_index(x: Context) -> u8 {

@@ -1,50 +1,138 @@
-// A line of input with its answer, and below it what the answer means.
+// A run, line by line: each with its number, its answer, and below it what the answer means.
+//
+// plexplain writes of each line: its number, where it is a tick that ran `, tick ` and the number of that tick, `> `, and the line; then the answer, as plrun prints it;
+// then sentences, each behind four blanks or more. Ticks are counted as pldraw counts them: an idle one has no number.
 ghost use mathlib.Core.Path.{_≡_};
+ghost use Prim.Native.Nat.{_≤_};
+ghost use lib.ListN.{length};
+ghost use lib.Seq.{sets};
 ghost use Rattle.card.specs.Address.{cellsFor};
-ghost use Rattle.console.specs.Console.{entered};
+ghost use Rattle.console.specs.Console.{entered, longestPrint};
 use crate::accepted::put_accepted;
 use crate::accepted::put_loaded;
-use crate::out::Page;
-use crate::out::put;
-use crate::refused::put_refused;
-use crate::refused::put_unloaded;
-use crate::ticked::put_tick;
-use crate::wiring::put_edited;
 use card::card::Card;
 use card::change::Change;
 use card::change::apply;
 use card::context::context_of;
 use commands::grammar::Parsed;
 use commands::grammar::parse_line;
+use console::LONGEST_PRINT;
 use lines::decision::decide_for;
+use phrases::out::Page;
+use phrases::out::around;
+use phrases::out::put;
+use phrases::out::put_text;
+use phrases::wiring::put_edited;
+use refusals::refused::put_refused;
+use refusals::refused::put_unloaded;
+use tickwords::hints::put_hints;
+use tickwords::ticked::put_tick;
 
-// `longestPrint`: no line prints more.
-const ROOM: usize = 36;
-
-// The card after a line, and how many bytes are written of it.
-pub struct Explained {
+// Between two lines: the card, the lines entered and the ticks that ran, and the card as it was in the last of these, on which all hints have been given.
+pub struct Run {
     pub card: Card,
+    pub hinted: Card,
+    pub lines: u32,
+    pub ticks: u32,
+}
+
+// A run after a line, how many bytes its answer has, and whether it is a tick that ran.
+pub struct Stepped {
+    pub run: Run,
+    pub len: usize,
+    pub ran: bool,
+}
+
+// A run after a line, and how many bytes are written of the line.
+pub struct Explained {
+    pub run: Run,
     pub len: usize,
 }
 
-// A byte of a line. One that no line has is shown as `?`.
-fn put_byte(out: &mut Page, at: usize, b: u8) -> usize {
-    if (b < 32) | (126 < b) {
-        return put(out, at, b"?");
+// Before the first line.
+pub fn start() -> Run {
+    let card = card::card::fresh();
+    Run {
+        card: card,
+        hinted: card,
+        lines: 0,
+        ticks: 0,
     }
-    let shown = [b];
-    put(out, at, &shown)
 }
 
-// The line itself.
-fn put_text(out: &mut Page, at: usize, text: &[u8]) -> usize {
-    let mut n = at;
-    let mut i: usize = 0;
-    while i < text.len() {
-        n = put_byte(out, n, text[i]);
-        i += 1;
+// One more. A count that has reached the largest number stays there.
+pub fn more(n: u32) -> u32 {
+    if n < 4294967295 { n + 1 } else { n }
+}
+
+// Whether a line is a tick that runs on a card.
+fn runs(card: Card, text: &[u8]) -> bool {
+    let t = console::tick_line(text);
+    let input = t.input;
+    t.ok & (input.code == card.trigger)
+}
+
+// The card on which all hints have been given, after a line that left a card.
+fn hinted_after(ran: bool, hinted: Card, next: Card) -> Card {
+    if ran { next } else { hinted }
+}
+
+// How many ticks have run.
+fn ticks_after(ran: bool, ticks: u32) -> u32 {
+    if ran { more(ticks) } else { ticks }
+}
+
+// One line of input, without its LF: it is entered, and its answer goes to the front of the lent bytes, which have room for the longest. The card, the store and the answer are those of plrun.
+pub fn step(run: Run, text: &[u8], store: &mut [u8], answer: &mut [u8]) -> Stepped
+    requires { ⌜ longestPrint ≤ length (now answer) ⌝ }
+    ensures { λ r. ⌜ r .run .card ≡ entered (cellsFor (run .card .size)) (run .card) (now (text .entry)) (now (store .entry)) .card ⌝ }
+    ensures { λ r. ⌜ now (store .exit) ≡ entered (cellsFor (run .card .size)) (run .card) (now (text .entry)) (now (store .entry)) .store ⌝ }
+    ensures { λ r. ⌜ now (answer .exit) ≡ sets (now (answer .entry)) 0 (entered (cellsFor (run .card .size)) (run .card) (now (text .entry)) (now (store .entry)) .printed) ⌝ }
+    ensures { λ r. ⌜ r .len ≡ length (entered (cellsFor (run .card .size)) (run .card) (now (text .entry)) (now (store .entry)) .printed) ⌝ }
+    ensures { λ r. ⌜ r .len ≤ longestPrint ⌝ }
+{
+    let card = run.card;
+    let old = run.hinted;
+    let ran = runs(card, text);
+    let done = console::enter(card, text, store, answer);
+    let next = done.card;
+    let hinted = hinted_after(ran, old, next);
+    let after = Run {
+        card: next,
+        hinted: hinted,
+        lines: more(run.lines),
+        ticks: ticks_after(ran, run.ticks),
+    };
+    Stepped {
+        run: after,
+        len: done.len,
+        ran: ran,
     }
-    put(out, n, b"\n")
+}
+
+// ", tick 3", where the line is a tick that ran.
+fn put_number(out: &mut Page, at: usize, ticked: bool, n: u32) -> usize {
+    if ticked {
+        return around(out, at, b", tick ", n, b"");
+    }
+    at
+}
+
+// The line behind its number, and behind the tick's. The run is that after the line.
+fn put_echo(out: &mut Page, at: usize, text: &[u8], run: Run, ticked: bool) -> usize {
+    let a = around(out, at, b"", run.lines, b"");
+    let b = put_number(out, a, ticked, run.ticks);
+    let c = put(out, b, b"> ");
+    let d = put_text(out, c, text);
+    put(out, d, b"\n")
+}
+
+// The first bytes of lent ones: so many of them are an answer, with its LF.
+pub fn put_answer(out: &mut Page, at: usize, answer: &[u8], len: usize) -> usize {
+    if answer.len() < len {
+        return at;
+    }
+    put(out, at, &answer[0..len])
 }
 
 // The cells that a change edits.
@@ -103,19 +191,32 @@ fn put_load(out: &mut Page, at: usize, store: &[u8], before: Card) -> usize {
     put_unloaded(out, at, loaded.k)
 }
 
-// What the answer to a line means.
-fn put_why(
+// A tick, and where it ran the hints that the run has not given.
+fn put_ticked(out: &mut Page, at: usize, text: &[u8], run: Run, after: Card) -> usize {
+    let before = run.card;
+    let hinted = run.hinted;
+    let t = console::tick_line(text);
+    let input = t.input;
+    let a = put_tick(out, at, before, after, input, t.full);
+    if input.code != before.trigger {
+        return a;
+    }
+    put_hints(out, a, hinted, after)
+}
+
+// What the answer to a line means: the run before it, the card that it left, and the store then.
+pub fn put_why(
     out: &mut Page,
     at: usize,
     text: &[u8],
     store: &[u8],
-    before: Card,
+    run: Run,
     after: Card,
 ) -> usize {
+    let before = run.card;
     let t = console::tick_line(text);
     if t.ok {
-        let input = t.input;
-        return put_tick(out, at, before, after, input, t.full);
+        return put_ticked(out, at, text, run, after);
     }
     if console::is_load(text) {
         return put_load(out, at, store, before);
@@ -123,20 +224,36 @@ fn put_why(
     put_line(out, at, text, store.len(), before, after)
 }
 
-// One line of input, without its LF: itself, its answer as plrun prints it, and what that means. The card and the store are those of plrun.
-pub fn explain(card: Card, text: &[u8], store: &mut [u8], out: &mut Page) -> Explained
-    ensures { λ r. ⌜ r .card ≡ entered (cellsFor (card .size)) card (now (text .entry)) (now (store .entry)) .card ⌝ }
-    ensures { λ r. ⌜ now (store .exit) ≡ entered (cellsFor (card .size)) card (now (text .entry)) (now (store .entry)) .store ⌝ }
+// One line of input, and all that is written of it.
+pub fn explain(run: Run, text: &[u8], store: &mut [u8], out: &mut Page) -> Explained
+    ensures { λ r. ⌜ r .run .card ≡ entered (cellsFor (run .card .size)) (run .card) (now (text .entry)) (now (store .entry)) .card ⌝ }
+    ensures { λ r. ⌜ now (store .exit) ≡ entered (cellsFor (run .card .size)) (run .card) (now (text .entry)) (now (store .entry)) .store ⌝ }
 {
-    let mut answer = [0u8; ROOM];
-    let entered = console::enter(card, text, store, &mut answer);
-    let next = entered.card;
-    let len = entered.len;
-    let a = put_text(out, 0, text);
-    let b = put(out, a, &answer[0..len]);
-    let end = put_why(out, b, text, store, card, next);
+    let mut answer = [0u8; LONGEST_PRINT];
+    let done = step(run, text, store, &mut answer);
+    let after = done.run;
+    let next = after.card;
+    let a = put_echo(out, 0, text, after, done.ran);
+    let b = put_answer(out, a, &answer, done.len);
+    let end = put_why(out, b, text, store, run, next);
     Explained {
-        card: next,
+        run: after,
         len: end,
     }
+}
+
+// The bytes behind the last LF of an input, which are no line, and which line they would be.
+pub fn put_unended(out: &mut Page, at: usize, text: &[u8], line: u32) -> usize {
+    if text.len() == 0 {
+        return at;
+    }
+    let a = around(
+        out,
+        at,
+        b"    Line ",
+        line,
+        b" has no LF behind it, so it is not entered: ",
+    );
+    let b = put_text(out, a, text);
+    put(out, b, b"\n")
 }

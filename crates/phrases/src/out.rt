@@ -1,0 +1,86 @@
+// Text onto a lent page, piece by piece.
+
+// Room for all that is written of one line of input: at most 52 lines, each of them below 300 bytes, and 176 hints, each below 200.
+pub const PAGE: usize = 65536;
+
+pub type Page = [u8; PAGE];
+
+// A piece behind what is written; the place behind it. One that has no room is left out whole.
+pub fn put(out: &mut Page, at: usize, bytes: &[u8]) -> usize {
+    if PAGE < at {
+        return at;
+    }
+    if PAGE - at < bytes.len() {
+        return at;
+    }
+    text::copy(out, at, bytes)
+}
+
+// `maxDigits`: of a number.
+const DIGITS: usize = 10;
+
+// A number in decimal.
+pub fn number(out: &mut Page, at: usize, n: u32) -> usize {
+    if PAGE - DIGITS < at {
+        return at;
+    }
+    text::put_decimal(out, at, n)
+}
+
+// A number between two pieces.
+pub fn around(out: &mut Page, at: usize, before: &[u8], n: u32, after: &[u8]) -> usize {
+    let a = put(out, at, before);
+    let b = number(out, a, n);
+    put(out, b, after)
+}
+
+// A piece, where it is wanted.
+pub fn put_if(wanted: bool, out: &mut Page, at: usize, bytes: &[u8]) -> usize {
+    if wanted {
+        return put(out, at, bytes);
+    }
+    at
+}
+
+// One of two pieces.
+pub fn either(first: bool, out: &mut Page, at: usize, a: &[u8], b: &[u8]) -> usize {
+    if first {
+        return put(out, at, a);
+    }
+    put(out, at, b)
+}
+
+// "high" or "low".
+pub fn level(out: &mut Page, at: usize, high: bool) -> usize {
+    either(high, out, at, b"high", b"low")
+}
+
+// A byte as a number.
+pub fn wide(b: u8) -> u32 {
+    b as u32
+}
+
+// The low 32 bits of a number of a line; all of it where it was not refused with 4.
+pub fn low(v: u64) -> u32 {
+    (v % 4294967296) as u32
+}
+
+// A byte of a line. One that no line has is shown as `?`.
+fn put_byte(out: &mut Page, at: usize, b: u8) -> usize {
+    if (b < 32) | (126 < b) {
+        return put(out, at, b"?");
+    }
+    let shown = [b];
+    put(out, at, &shown)
+}
+
+// A line of input, or of a file, as it is shown.
+pub fn put_text(out: &mut Page, at: usize, text: &[u8]) -> usize {
+    let mut n = at;
+    let mut i: usize = 0;
+    while i < text.len() {
+        n = put_byte(out, n, text[i]);
+        i += 1;
+    }
+    n
+}
