@@ -100,7 +100,8 @@ pub fn read(k: u8, v: Value) -> Decision
     }
 }
 
-fn refused(k: u8) -> Decision
+// A line that is refused whatever the card is.
+pub fn refused(k: u8) -> Decision
     ensures { λ d. ⌜ d ≡ Line.refused k ⌝ }
 {
     let response = SILENT;

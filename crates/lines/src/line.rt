@@ -7,11 +7,13 @@ ghost use lib.ListN.{length};
 ghost use lib.Seq.{sets};
 ghost use Rattle.text.specs.Decimal.{decimal, maxDigits};
 ghost use Rattle.card.specs.Address.{cellsFor};
+ghost use Rattle.card.specs.Context.{contextOf};
 ghost use Rattle.saved.specs.Record.{configWidth, savedTo};
-ghost use Rattle.lines.specs.Line.{ending, replyOf, replyWith, shortestReply, lineOutcome, lineResult, resultFor, resultOf};
+ghost use Rattle.lines.specs.Line.{ending, replyOf, replyWith, shortestReply, lineDecision, lineOutcome, lineResult, resultFor, resultOf};
+use crate::decision::Decision;
 use crate::decision::Response;
-use crate::decision::SILENT;
 use crate::decision::decide_for;
+use crate::decision::refused;
 use card::card::Card;
 use card::context::Value;
 use commands::grammar::parse_line;
@@ -64,6 +66,17 @@ fn save_if(asked: bool, card: Card, store: &mut [u8])
     }
 }
 
+// What becomes of a line, by the lengths of the two buffers.
+fn judge(card: Card, text: &[u8], reply: usize, store: usize) -> Decision
+    ensures { λ d. ⌜ d ≡ lineDecision (cellsFor (card .size)) (contextOf (cellsFor (card .size)) card) (now (text .entry)) reply store ⌝ }
+{
+    if reply < SHORTEST_REPLY {
+        return refused(1);
+    }
+    let x = card::context::context_of(card);
+    decide_for(x, store, parse_line(text, card.size))
+}
+
 // What a line comes to: 0 or the number of its refusal, the card then, and the response. It goes by the lengths of the two buffers.
 pub struct Outcome {
     pub k: u8,
@@ -74,16 +87,7 @@ pub struct Outcome {
 pub fn outcome_of(card: Card, text: &[u8], reply: usize, store: usize) -> Outcome
     ensures { λ o. ⌜ o ≡ lineOutcome (cellsFor (card .size)) card (now (text .entry)) reply store ⌝ }
 {
-    if reply < SHORTEST_REPLY {
-        let response = SILENT;
-        return Outcome {
-            k: 1,
-            card: card,
-            response: response,
-        };
-    }
-    let x = card::context::context_of(card);
-    let d = decide_for(x, store, parse_line(text, card.size));
+    let d = judge(card, text, reply, store);
     let response = d.response;
     let change = d.change;
     let next = card::change::apply(card, change);
@@ -126,11 +130,23 @@ pub fn answer_to(card: Card, o: Outcome, reply: &mut [u8], store: &mut [u8]) -> 
 
 // A line to the card: any bytes, without the line's own ending. The reply is written to the front of its buffer, and `36SS Z` writes the record
 // to the front of the store; beyond these both are as they were. A refused line gives its number and leaves the card. Where the buffer has
-// fewer than SHORTEST_REPLY bytes, that number is 1 and nothing is written.
+// fewer than SHORTEST_REPLY bytes, that number is 1 and nothing is written. The card is changed last: held in an outcome it costs some
+// 200 instructions more.
 pub fn line(card: Card, text: &[u8], reply: &mut [u8], store: &mut [u8]) -> Answered
     ensures { λ r. ⌜ resultOf r (now (reply .exit)) (now (store .exit)) ≡ lineResult (cellsFor (card .size)) card (now (text .entry)) (now (reply .entry)) (now (store .entry)) ⌝ }
     ensures { λ r. ⌜ r .len ≤ shortestReply ⌝ }
 {
-    let o = outcome_of(card, text, reply.len(), store.len());
-    answer_to(card, o, reply, store)
+    let d = judge(card, text, reply.len(), store.len());
+    let k = d.k;
+    let response = d.response;
+    let len = put_reply_if(reply, k, response);
+    let saves = (k == 0) & response.saves;
+    save_if(saves, card, store);
+    let change = d.change;
+    let next = card::change::apply(card, change);
+    Answered {
+        card: next,
+        k: k,
+        len: len,
+    }
 }

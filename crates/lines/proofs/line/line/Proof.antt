@@ -1,17 +1,23 @@
--- `lines::line::line` meets its contract: the outcome of the line, answered.
+-- `lines::line::line` meets its contract: the decision by `judge`, the reply by `put_reply_if`, the store by `save_if`, the card by `apply`.
 use mathlib.Core.Path.{ap, _∙_}
 use Rattle.card.specs.Address.{cellsFor}
-use Rattle.lines.specs.declared.line.Outcome.{Outcome}
-use Rattle.lines.specs.Line.{resultFor, lineReply, replyAfter, storeAfter}
+use Rattle.lines.specs.declared.decision.Decision.{Decision}
+use Rattle.lines.specs.Line.{outcomeOf, resultFor, lineOutcome, lineReply, replyAfter, storeAfter}
 use borrow.Author.Needs.{needs}
 use Rattle.lines.proofs.line.line.Statement.{statement}
 use Rattle.lines.proofs.line.line.Tie as tie
 
-outcome-of-requires : tie.Need-outcome-of-requires
-outcome-of-requires c κs = search needs
+judge-requires : tie.Need-judge-requires
+judge-requires c κs = search needs
 
-answer-to-requires : tie.Need-answer-to-requires
-answer-to-requires c κs = search needs
+put-reply-if-requires : tie.Need-put-reply-if-requires
+put-reply-if-requires c κs = search needs
+
+save-if-requires : tie.Need-save-if-requires
+save-if-requires c κs = search needs
+
+apply-requires : tie.Need-apply-requires
+apply-requires c κs = search needs
 
 same-length : tie.Need-same-length
 same-length c = search needs
@@ -20,13 +26,30 @@ same-length-2 : tie.Need-same-length-2
 same-length-2 c = search needs
 
 returns : tie.Need-returns
-unfolding lineReply replyAfter storeAfter
+unfolding lineOutcome lineReply replyAfter storeAfter
 returns c =
-    let r = c .before .before .before .before in
-    let o = r .before .before .before in
-    let a = o .before .before .before .before .args in
-    let e = r .answer-to .ensures in
-    (e .0 ∙ ap (λ (x : Outcome). resultFor (cellsFor (a .card .size)) (a .card) x (a .reply .now) (a .store .now)) (o .outcome-of .ensures), e .1)
+    let saves = c .before .before .before in
+    let puts = saves .before .before .before .before .before in
+    let judges = puts .before .before .before in
+    let a = judges .before .before .before .before .args in
+    let n = cellsFor (a .card .size) in
+    let put = puts .put-reply-if .ensures in
+    let saved = saves .save-if .ensures in
+    let made = c .apply .ensures in
+    let k = judges .judge .result .k in (
+      (λ i. record { k = k; len = put .1 .0 i; card = made i; reply = put .0 i; store = saved i })
+          ∙ ap (λ (d : Decision). resultFor n (a .card) (outcomeOf n (a .card) d) (a .reply .now) (a .store .now)) (judges .judge .ensures),
+      put .1 .1,
+    )
 
 pub line-spec : {M : Type 1} → statement M
-line-spec = tie.close (tie.spec outcome-of-requires answer-to-requires same-length same-length-2 returns)
+line-spec =
+    tie.close
+    (tie.spec
+    judge-requires
+    put-reply-if-requires
+    save-if-requires
+    apply-requires
+    same-length
+    same-length-2
+    returns)
