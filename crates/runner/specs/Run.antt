@@ -6,7 +6,7 @@ use lib.ListN.{length, getD, take, drop, replicate}
 use Rattle.card.specs.declared.card.Card.{Card}
 use Rattle.card.specs.Address.{cellsFor}
 use Rattle.card.specs.Fresh.{freshOf}
-use Rattle.saved.specs.Record.{configWidth, recordLength}
+use Rattle.saved.specs.Record.{configWidth, recordLength, savedTo}
 use Rattle.console.specs.Console.{longestPrint, Entry, entered}
 use Rattle.printed.specs.Parts.{textMost}
 use Rattle.printed.specs.Print.{printLength, printedTo}
@@ -109,3 +109,7 @@ pub record Wired (n : ℕ) (input : List ℕ) (len : ℕ) (before after : List �
 -- as long as that wiring is what plprint hands to write, from a buffer that has room for any
 abbrev pub WiringSize : (n : ℕ) (input : List ℕ) (len : ℕ) → Type 0
 WiringSize n input len = len ≡ printedSize (takesAll enters (startState n) input .done .card) textMost
+
+-- what plsave does with this input: the store holds the record of the card that it leaves
+abbrev pub recordedNow : Card → List ℕ → List ℕ
+recordedNow c before = savedTo (cellsFor (c .size)) configWidth c before

@@ -11,8 +11,8 @@
 // which reads and writes: `turn` gives the bytes of one read to `take_lines` and hands what they
 // printed to one write. The calls that read stand in `input`, the one that writes in `write_front`;
 // no contract can say which bytes come there, and what becomes of those that are handed over.
-// `print_from` is the run of plprint: it writes nothing that the lines print, and at the end it
-// writes the card's wiring.
+// `print_from` is the run of plprint and `save_from` that of plsave: nothing that the lines print is
+// written, and at the end the card's wiring is, or its record.
 ghost use mathlib.Core.Bool.{true, _&&_};
 ghost use mathlib.Core.List.{List, _++_};
 ghost use mathlib.Core.Path.{_≡_};
@@ -23,7 +23,7 @@ ghost use Rattle.card.specs.Address.{cellCount, cellsFor};
 ghost use Rattle.card.specs.Fresh.{fresh};
 ghost use Rattle.console.specs.Console.{longestPrint, entered};
 ghost use Rattle.input.specs.Lines.{takesAll, part, kept, blockLength, mostReads};
-ghost use Rattle.runner.specs.Run.{enters, keptOf, flushed, standing, Stopped, RanOver, outputLength, stateOf, runStateOf, Counted, Ran, Wired, WiringSize};
+ghost use Rattle.runner.specs.Run.{enters, startState, keptOf, flushed, standing, Stopped, RanOver, outputLength, stateOf, runStateOf, Counted, Ran, Wired, WiringSize, recordedNow};
 use card::card::Card;
 use console::LONGEST_PRINT;
 use input::BLOCK;
@@ -339,4 +339,30 @@ pub fn print_from(input: i32, output: i32) -> Written
     let mut text = [0u8; TEXT_MOST];
     let len = wiring_from(input, &mut text);
     write_front(output, &text, len)
+}
+
+// The record of the card that the lines of an input leave.
+fn record_from(input: i32, store: &mut [u8; STORE])
+    ensures { λ _. ⌜ ((bytes : List ℕ) × (now (store .exit) ≡ recordedNow (takesAll enters (startState cellCount) bytes .done .card) (now (store .entry)))) ⌝ }
+{
+    let run = run_with(input, QUIET);
+    let card = run.card;
+    saved::record::save(card, store);
+}
+
+// One write of a whole record.
+fn write_record(output: i32, store: &[u8; STORE]) -> Written
+    ensures { λ r. ⌜ r .used ≡ 308 ⌝ }
+{
+    write_front(output, store, STORE)
+}
+
+// The run of plsave: the lines of an input, and then the record of the card to an output, and nothing
+// else.
+pub fn save_from(input: i32, output: i32) -> Written
+    ensures { λ r. ⌜ r .used ≡ 308 ⌝ }
+{
+    let mut store = [0u8; STORE];
+    record_from(input, &mut store);
+    write_record(output, &store)
 }
