@@ -77,6 +77,8 @@ inputs = inputs_of(wiring_path)
 wrong = []
 if set(names.values()) != set(driven + levels + cells + woken):
     wrong.append("names of wires")
+if set(line.strip() for line in open("examples/card.gtkw") if line.startswith("card.")) != set(names.values()):
+    wrong.append("names in examples/card.gtkw")
 if len(rows) != len(run):
     wrong.append("%d ticks in the dump, %d in the run" % (len(rows), len(run)))
 for t, (values, words) in enumerate(zip(rows, run)):

@@ -1,12 +1,10 @@
 // The frame of the picture: its size, its style and what is written above the strips.
 ghost use Prim.Native.Nat.{_≤_};
-ghost use Rattle.pldraw.specs.Page.{keptTicks, highestStrip};
-use crate::places::number_of;
+ghost use Rattle.diagram.specs.Page.{keptTicks, highestStrip};
+use diagram::places::number_of;
 use input::LINE;
 use input::least;
 use scope::notes::Form;
-use scope::notes::Text;
-use scope::notes::Told;
 use scope::notes::has_refused;
 use scope::notes::has_rest;
 use scope::notes::put_refused;
@@ -16,6 +14,8 @@ use scope::sink::Sink;
 use scope::sink::put;
 use scope::sink::put_number;
 use scope::sink::put_with;
+use told::Text;
+use told::Told;
 
 // What a picture shows: n ticks, those before them, all ticks that ran, and the rows as a set, in the order in which they are drawn.
 pub struct Shape {

@@ -3,24 +3,21 @@
 // A row is a connector's level or a cell's output; who has one is said in `rows`. A cell's row is tinted in the ticks that woke it. Sixty ticks stand
 // side by side, and the next sixty below them. The picture keeps 300 ticks, from the one that is asked for, and says how many there are. Rows are named by the
 // wiring of the last tick that is drawn. No contract can say what is written.
-mod boxes;
 mod frame;
-mod kept;
 mod labels;
 mod page;
-mod places;
 mod rows;
 mod strip;
 
 ghost use Prim.Native.Nat.{_≤_};
-ghost use Rattle.pldraw.specs.Page.{keptTicks};
+ghost use Rattle.diagram.specs.Page.{keptTicks};
 use card::card::Card;
+use diagram::kept::KEPT;
+use diagram::kept::Ticks;
+use diagram::kept::WORDS;
+use diagram::kept::keep;
+use diagram::kept::why_of;
 use frame::Shape;
-use kept::KEPT;
-use kept::Ticks;
-use kept::WORDS;
-use kept::keep;
-use kept::why_of;
 use scope::BUFFER;
 use scope::Feed;
 use scope::LINE;
@@ -166,7 +163,7 @@ fn draw(input: i32, from: u64) {
     let shape = shape_of(start.count, drawn, rest.count);
     let mut out = [0u8; ROOM];
     page::put_page(&mut out, empty(), drawn.card, &ticks, shape, told);
-    scope::notes::say(&mut out, told);
+    told::say(told);
 }
 
 fn main() {

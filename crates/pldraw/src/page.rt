@@ -1,6 +1,6 @@
 // The picture as text: its head, and its strips one below the other.
 ghost use Prim.Native.Nat.{_≤_};
-ghost use Rattle.pldraw.specs.Page.{keptTicks, mostRows, highestStrip, Fits};
+ghost use Rattle.diagram.specs.Page.{keptTicks, mostRows, highestStrip, Fits};
 use crate::frame::Shape;
 use crate::frame::head_height;
 use crate::frame::height_of;
@@ -8,24 +8,24 @@ use crate::frame::put_head;
 use crate::frame::put_size;
 use crate::frame::put_style;
 use crate::frame::width_for;
-use crate::kept::Ticks;
-use crate::places::COLUMNS;
-use crate::places::GAP;
-use crate::places::NUMBERS;
-use crate::places::RIGHT;
-use crate::places::ROW;
-use crate::places::ROWS;
-use crate::places::Strip;
-use crate::places::end_of;
-use crate::places::x_of;
 use crate::strip::put_strip;
 use card::card::Card;
-use scope::notes::Told;
+use diagram::kept::Ticks;
+use diagram::places::COLUMNS;
+use diagram::places::GAP;
+use diagram::places::NUMBERS;
+use diagram::places::RIGHT;
+use diagram::places::ROW;
+use diagram::places::ROWS;
+use diagram::places::Strip;
+use diagram::places::end_of;
+use diagram::places::x_of;
 use scope::sink::Room;
 use scope::sink::Sink;
 use scope::sink::flush;
 use scope::sink::put;
 use scope::sink::put_with;
+use told::Told;
 
 // How many rows a set has.
 fn count_rows(rows: u64) -> u64

@@ -11,7 +11,6 @@ ghost use lib.ListN.{length};
 ghost use lib.Seq.{sets};
 ghost use Rattle.plwave.specs.Dump.{codeOf, digitOf, changeOf, changes, wires, longest};
 use scope::notes::Form;
-use scope::notes::Told;
 use scope::notes::has_refused;
 use scope::notes::has_rest;
 use scope::notes::put_refused;
@@ -22,6 +21,7 @@ use scope::sink::flush;
 use scope::sink::put;
 use scope::sink::put_byte;
 use scope::sink::put_number;
+use told::Told;
 
 // The identifier of the wire that shows bit i of a tick's packed words: one printable byte.
 fn code_of(i: u32) -> u8
@@ -239,7 +239,7 @@ fn write_wave(input: i32) {
     }
     let told = feed.told;
     finish(&mut out, s, told, t);
-    scope::notes::say(&mut out, told);
+    told::say(told);
 }
 
 fn main() {

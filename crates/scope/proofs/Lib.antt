@@ -1,2 +1,2 @@
--- The proofs of what lines show: no tick is refused.
-pub mod Refusals
+-- The proofs of what lines show: what was stored at the front of a buffer.
+pub mod Fronts

@@ -1,15 +1,15 @@
 -- What one line of input shows, and whether it is refused, beside what it leaves (`entered` of the console).
-use Prim.Native.Nat.{ℕ, _+_, _*_, _%_, _^_}
+use Prim.Native.Nat.{ℕ, _+_, _-_, _*_, _%_, _^_}
 use mathlib.Core.Bool.{Bool, true, false, cond}
 use mathlib.Core.List.{List}
-use lib.Dec.{eqb}
-use lib.ListN.{getD}
+use lib.ListN.{length, take}
 use Rattle.card.specs.declared.card.Card.{Card}
 use Rattle.ticks.specs.declared.tick.Answer.{Answer}
 use Rattle.ticks.specs.declared.tick.Ticked.{Ticked}
 use Rattle.console.specs.declared.TickLine.{TickLine}
 use Rattle.console.specs.Console.{tickLine, ticked, entered}
 use Rattle.input.specs.Lines.{kept, blockLength}
+use Rattle.told.specs.Told.{isRefusal}
 use Rattle.scope.specs.declared.Shown.{Shown}
 use Rattle.scope.specs.declared.Words.{Words}
 
@@ -41,12 +41,13 @@ shownBy l t =
 unfoldable pub shownAt : ℕ → Card → List ℕ → Shown
 shownAt n c t = cond (tickLine t .ok) (shownBy (tickLine t) (ticked n c t)) nothing
 
--- a refusal is printed as `:N-k`, an answer as `:A`, and a tick begins with `T` and a blank: the second byte, `N`, tells
-unfoldable pub isRefusal : List ℕ → Bool
-isRefusal printed = eqb (getD printed 1 0) 78
+-- what a line prints, without the LF at its end
+abbrev pub withoutLf : List ℕ → List ℕ
+withoutLf printed = take (length printed - 1) printed
 
-abbrev pub refusedAt : ℕ → Card → List ℕ → List ℕ → Bool
-refusedAt n c t store = isRefusal (entered n c t store .printed)
+-- a tick is not refused, and another line where it prints a refusal
+unfoldable pub refusedAt : ℕ → Card → List ℕ → List ℕ → Bool
+refusedAt n c t store = cond (tickLine t .ok) false (isRefusal (withoutLf (entered n c t store .printed)))
 
 -- the bytes of the block that a program lends: a line that has not ended, and a block of input
 abbrev pub bufferLength : ℕ

@@ -8,18 +8,14 @@ pub mod sink;
 
 ghost use mathlib.Core.Bool.{true};
 ghost use mathlib.Core.Path.{_≡_};
-ghost use Prim.Native.Nat.{_≤_, _<_};
+ghost use Prim.Native.Nat.{_≤_, _<_, _-_};
 ghost use lib.ListN.{length};
 ghost use Rattle.card.specs.Address.{cellsFor};
 ghost use Rattle.card.specs.Fresh.{fresh};
 ghost use Rattle.console.specs.Console.{entered};
 ghost use Rattle.scope.specs.Steps;
-ghost use Rattle.scope.specs.Steps.{wordsOf, shownBy, shownAt, refusedAt, bufferLength};
-use crate::notes::Text;
-use crate::notes::Told;
-use crate::notes::answer_of;
-use crate::notes::is_refusal;
-use crate::notes::no_text;
+ghost use Rattle.told.specs.Told.{isRefusal, countedIf};
+ghost use Rattle.scope.specs.Steps.{wordsOf, shownBy, shownAt, withoutLf, refusedAt, bufferLength};
 use card::card::Card;
 use console::LONGEST_PRINT;
 use console::TickLine;
@@ -29,6 +25,7 @@ use saved::record::RECORD_LENGTH;
 use ticks::tick::Answer;
 use ticks::tick::Ticked;
 use ticks::view::Input;
+use told::Told;
 
 // What a program lends for the whole of an input: the block, the line that has not ended, and "The program's store starts as 308 zeros".
 pub const BUFFER: usize = input::BUFFER;
@@ -53,12 +50,11 @@ pub struct Shown {
     pub words: Words,
 }
 
-// The card after a line, what the line showed, and whether it was refused, with the answer then.
+// The card after a line, what the line showed, and what is told of the lines so far.
 pub struct Stepped {
     pub card: Card,
     pub shown: Shown,
-    pub refused: bool,
-    pub answer: Text,
+    pub told: Told,
 }
 
 // Between two lines.
@@ -139,48 +135,56 @@ fn shown_by(line: TickLine, t: Ticked) -> Shown
     }
 }
 
-// A line that is no tick, to a card. What it prints is left out, unless it is a refusal.
-fn step_line(card: Card, text: &[u8], store: &mut [u8]) -> Stepped
+// How many bytes are printed before the LF.
+fn before_lf(n: usize) -> usize
+    ensures { λ r. ⌜ (r ≡ n - 1) × (r ≤ n) ⌝ }
+{
+    if n == 0 {
+        return 0;
+    }
+    n - 1
+}
+
+// A line that is no tick, to a card. What it prints is left out; whether it was refused is told.
+fn step_line(card: Card, told: Told, text: &[u8], store: &mut [u8]) -> Stepped
     ensures { λ r. ⌜ r .card ≡ entered (cellsFor (card .size)) card (now (text .entry)) (now (store .entry)) .card ⌝ }
     ensures { λ r. ⌜ now (store .exit) ≡ entered (cellsFor (card .size)) card (now (text .entry)) (now (store .entry)) .store ⌝ }
-    ensures { λ r. ⌜ r .refused ≡ refusedAt (cellsFor (card .size)) card (now (text .entry)) (now (store .entry)) ⌝ }
     ensures { λ r. ⌜ r .shown ≡ Steps.nothing ⌝ }
+    ensures { λ r. ⌜ r .told .refused ≡ countedIf (isRefusal (withoutLf (entered (cellsFor (card .size)) card (now (text .entry)) (now (store .entry)) .printed))) (told .refused) ⌝ }
 {
     let mut out = [0u8; LONGEST_PRINT];
     let entered = console::enter(card, text, store, &mut out);
     let next = entered.card;
-    let len = entered.len;
     let shown = nothing();
-    let answer = answer_of(&out[0..len]);
+    let len = before_lf(entered.len);
+    let after = told::after(told, text, &out[0..len]);
     Stepped {
         card: next,
         shown: shown,
-        refused: is_refusal(&out[0..len]),
-        answer: answer,
+        told: after,
     }
 }
 
 // One line of input, without its LF: a tick, a load of the store, or a card line.
-pub fn step(card: Card, text: &[u8], store: &mut [u8]) -> Stepped
+pub fn step(card: Card, told: Told, text: &[u8], store: &mut [u8]) -> Stepped
     ensures { λ r. ⌜ r .card ≡ entered (cellsFor (card .size)) card (now (text .entry)) (now (store .entry)) .card ⌝ }
     ensures { λ r. ⌜ now (store .exit) ≡ entered (cellsFor (card .size)) card (now (text .entry)) (now (store .entry)) .store ⌝ }
-    ensures { λ r. ⌜ r .refused ≡ refusedAt (cellsFor (card .size)) card (now (text .entry)) (now (store .entry)) ⌝ }
     ensures { λ r. ⌜ r .shown ≡ shownAt (cellsFor (card .size)) card (now (text .entry)) ⌝ }
+    ensures { λ r. ⌜ r .told .refused ≡ countedIf (refusedAt (cellsFor (card .size)) card (now (text .entry)) (now (store .entry))) (told .refused) ⌝ }
 {
     let t = console::tick_line(text);
     if t.ok {
         let done = console::do_tick(card, t);
         let next = done.card;
         let shown = shown_by(t, done);
-        let answer = no_text();
+        let after = told::after(told, text, b"T");
         return Stepped {
             card: next,
             shown: shown,
-            refused: false,
-            answer: answer,
+            told: after,
         };
     }
-    step_line(card, text, store)
+    step_line(card, told, text, store)
 }
 
 // ---- the input
@@ -195,7 +199,7 @@ pub fn start() -> Feed
     let card = card::card::fresh();
     let shown = nothing();
     let reader = input::start();
-    let told = notes::none();
+    let told = told::none();
     Feed {
         before: card,
         card: card,
@@ -212,7 +216,7 @@ fn past(feed: Feed, r: Reader, text: &[u8]) -> Feed
     let mut f = feed;
     f.shown = nothing();
     f.reader = r;
-    let told = notes::at_end(feed.told, text);
+    let told = told::at_end(feed.told, text);
     f.told = told;
     f
 }
@@ -222,11 +226,10 @@ fn taken(feed: Feed, r: Reader, text: &[u8], store: &mut [u8]) -> Feed
     ensures { λ f. ⌜ (f .reader .end ≡ r .end) × (f .reader .n ≡ r .n) × (f .reader .left ≡ r .left) ⌝ }
 {
     let card = feed.card;
-    let stepped = step(card, text, store);
+    let stepped = step(card, feed.told, text, store);
     let next = stepped.card;
     let shown = stepped.shown;
-    let answer = stepped.answer;
-    let told = notes::after(feed.told, text, stepped.refused, answer);
+    let told = stepped.told;
     Feed {
         before: card,
         card: next,

@@ -1,11 +1,10 @@
-// Text that a program writes, gathered in a lent buffer and handed to standard output, or to the error output, a buffer at a time.
+// Text that a program writes, gathered in a lent buffer and handed to standard output a buffer at a time.
 //
 // After a write that failed nothing more is written, so that what came out is never without its middle, and the program can end.
 ghost use mathlib.Core.Bool.{true, false};
 ghost use mathlib.Core.Path.{_≡_};
 ghost use Prim.Native.Nat.{_≤_};
 ghost use Rattle.scope.specs.Sinks.{roomLength};
-use libc::STDERR_FILENO;
 use libc::STDOUT_FILENO;
 
 // `roomLength`: of the buffer.
@@ -13,37 +12,17 @@ pub const ROOM: usize = 65536;
 
 pub type Room = [u8; ROOM];
 
-// How many bytes wait at the front of the buffer, where they go, and whether all that was handed to write went.
+// How many bytes wait at the front of the buffer, and whether all that was handed to write went.
 pub struct Sink {
     pub used: usize,
-    pub to: i32,
     pub ok: bool,
-}
-
-fn empty_to(to: i32) -> Sink
-    ensures { λ r. ⌜ r .used ≡ 0 ⌝ }
-    ensures { λ r. ⌜ r .ok ≡ true ⌝ }
-{
-    Sink {
-        used: 0,
-        to: to,
-        ok: true,
-    }
 }
 
 pub fn empty() -> Sink
     ensures { λ r. ⌜ r .used ≡ 0 ⌝ }
     ensures { λ r. ⌜ r .ok ≡ true ⌝ }
 {
-    empty_to(STDOUT_FILENO)
-}
-
-// The same, to the error output.
-pub fn errors() -> Sink
-    ensures { λ r. ⌜ r .used ≡ 0 ⌝ }
-    ensures { λ r. ⌜ r .ok ≡ true ⌝ }
-{
-    empty_to(STDERR_FILENO)
+    Sink { used: 0, ok: true }
 }
 
 // A write has failed.
@@ -51,11 +30,7 @@ fn broken() -> Sink
     ensures { λ r. ⌜ r .used ≡ 0 ⌝ }
     ensures { λ r. ⌜ r .ok ≡ false ⌝ }
 {
-    Sink {
-        used: 0,
-        to: STDOUT_FILENO,
-        ok: false,
-    }
+    Sink { used: 0, ok: false }
 }
 
 // What waits is handed to write.
@@ -69,12 +44,8 @@ pub fn flush(out: &[u8], s: Sink) -> Sink
         return broken();
     }
     let used = s.used;
-    let ok = io::write_all(s.to, &out[0..used]);
-    Sink {
-        used: 0,
-        to: s.to,
-        ok: ok,
-    }
+    let ok = io::write_all(STDOUT_FILENO, &out[0..used]);
+    Sink { used: 0, ok: ok }
 }
 
 // Where a piece has no room behind what waits: that is handed to write, and the piece waits alone.
@@ -91,7 +62,6 @@ fn put_alone(out: &mut Room, s: Sink, text: &[u8]) -> Sink
     let used = text::copy(out, 0, text);
     Sink {
         used: used,
-        to: s.to,
         ok: true,
     }
 }
@@ -112,7 +82,6 @@ pub fn put(out: &mut Room, s: Sink, text: &[u8]) -> Sink
     let used = text::copy(out, s.used, text);
     Sink {
         used: used,
-        to: s.to,
         ok: true,
     }
 }

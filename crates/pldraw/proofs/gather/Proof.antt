@@ -1,6 +1,6 @@
 -- `pldraw::gather` meets its contract: no more ticks are kept than there is room for.
 use Prim.Native.Nat.{_≤_, _-_}
-use Rattle.pldraw.specs.Page.{keptTicks}
+use Rattle.diagram.specs.Page.{keptTicks}
 use borrow.Author.Needs.{needs}
 use Rattle.pldraw.proofs.gather.Statement.{statement}
 use Rattle.pldraw.proofs.gather.Tie as tie

@@ -1,8 +1,8 @@
--- `pldraw::boxes::put_boxes` is safe and ends: the tick stays within the strip.
+-- `diagram::boxes::put_boxes` is safe and ends: the tick stays within the strip.
 use Prim.Native.Nat.{_≤_, _-_}
 use borrow.Author.Needs.{needs}
-use Rattle.pldraw.proofs.boxes.put_boxes.Statement.{statement}
-use Rattle.pldraw.proofs.boxes.put_boxes.Tie as tie
+use Rattle.diagram.proofs.boxes.put_boxes.Statement.{statement}
+use Rattle.diagram.proofs.boxes.put_boxes.Tie as tie
 
 abbrev Inv-loop : tie.InvT-loop
 Inv-loop out₀ ticks s i start end w₀ t₀ out w t = (start ≤ t) × (t ≤ end)

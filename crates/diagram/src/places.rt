@@ -1,6 +1,6 @@
 // Where things stand in a picture. Lengths are in pixels, of which a printed page has about 96 to the inch.
 ghost use Prim.Native.Nat.{_≤_, _<_, _+_};
-ghost use Rattle.pldraw.specs.Page.{columns, mostRows};
+ghost use Rattle.diagram.specs.Page.{columns, mostRows};
 use scope::sink::Room;
 use scope::sink::Sink;
 use scope::sink::put_with;

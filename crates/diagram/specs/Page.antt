@@ -1,6 +1,6 @@
 -- The limits of the picture.
 use Prim.Native.Nat.{ℕ, _+_, _≤_}
-use Rattle.pldraw.specs.declared.places.Strip.{Strip}
+use Rattle.diagram.specs.declared.places.Strip.{Strip}
 
 -- the ticks that are kept, and those that stand side by side
 abbrev pub keptTicks : ℕ

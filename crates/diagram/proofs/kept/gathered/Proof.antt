@@ -1,8 +1,8 @@
--- `pldraw::kept::gathered` is safe and ends: the index stays at most 16.
+-- `diagram::kept::gathered` is safe and ends: the index stays at most 16.
 use Prim.Native.Nat.{_≤_, _-_}
 use borrow.Author.Needs.{needs}
-use Rattle.pldraw.proofs.kept.gathered.Statement.{statement}
-use Rattle.pldraw.proofs.kept.gathered.Tie as tie
+use Rattle.diagram.proofs.kept.gathered.Statement.{statement}
+use Rattle.diagram.proofs.kept.gathered.Tie as tie
 
 abbrev Inv-loop : tie.InvT-loop
 Inv-loop full found cells first₀ second₀ kinds₀ i₀ first second kinds i = i ≤ 16

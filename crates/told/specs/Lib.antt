@@ -1,0 +1,2 @@
+-- What is told of the lines of an input.
+pub mod Told
