@@ -12,7 +12,9 @@
 // printed to one write. The calls that read stand in `input`, the one that writes in `write_front`;
 // no contract can say which bytes come there, and what becomes of those that are handed over.
 // `print_from` is the run of plprint and `save_from` that of plsave: nothing that the lines print is
-// written, and at the end the card's wiring is, or its record.
+// written, and at the end the card's wiring is, or its record. Of a run that writes no answers the
+// error output tells how many were refusals and the first of them (crate `told`); of every run, that
+// a last line has not ended.
 ghost use mathlib.Core.Bool.{true, _&&_};
 ghost use mathlib.Core.List.{List, _++_};
 ghost use mathlib.Core.Path.{_≡_};
@@ -35,6 +37,7 @@ use input::line_end;
 use input::read_behind;
 use printed::parts::TEXT_MOST;
 use saved::record::RECORD_LENGTH;
+use told::Told;
 
 // "The program's store starts as 308 zeros."
 pub const STORE: usize = RECORD_LENGTH;
@@ -72,6 +75,9 @@ pub struct Run {
     pub printed: u64,
     // reads that may still be made
     pub left: u64,
+    // of a quiet run the lines so far and those that were refused; of every run the line that has
+    // not ended
+    pub told: Told,
 }
 
 // Where the lines of a block stop: the line from `start` to `end` has not ended, or there is no
@@ -213,7 +219,7 @@ fn write_front(output: i32, out: &[u8], used: usize) -> Written
 
 // One read, and what its lines print. After a write that failed nothing more is written, so that
 // what came out is never without its middle.
-fn turn(
+fn read_turn(
     run: Run,
     input: i32,
     output: i32,
@@ -239,6 +245,7 @@ fn turn(
     ensures { λ r. ⌜ r .used ≤ length (now (out .exit)) ⌝ }
 {
     let card = run.card;
+    let told = run.told;
     let len = run.len;
     let s = State {
         card: card,
@@ -259,6 +266,84 @@ fn turn(
         taken: run.taken + got as u64,
         printed: run.printed + written.used as u64,
         left: run.left - 1,
+        told: told,
+    }
+}
+
+// The lines of a block that have ended, each with what it printed: one line of the output, without
+// its LF. Told of a quiet run, whose output nobody sees.
+fn noted(told: Told, output: i32, block: &[u8], n: usize, out: &[u8], used: usize) -> Told
+    requires { ⌜ n ≤ length (now block) ⌝ }
+    requires { ⌜ used ≤ length (now out) ⌝ }
+{
+    if output != QUIET {
+        return told;
+    }
+    let mut t = told;
+    let mut start: usize = 0;
+    let mut end = line_end(block, 0, n);
+    let mut from: usize = 0;
+    let mut to = line_end(out, 0, used);
+    while end < n && to < used {
+        t = told::after(t, &block[start..end], &out[from..to]);
+        start = end + 1;
+        from = to + 1;
+        end = line_end(block, start, n);
+        to = line_end(out, from, used);
+    }
+    t
+}
+
+// The line that has not ended.
+fn with_rest(told: Told, line: &[u8], len: usize) -> Told
+    requires { ⌜ len ≤ length (now line) ⌝ }
+{
+    told::at_end(told, &line[0..len])
+}
+
+// The same, and what is told of its lines.
+fn turn(
+    run: Run,
+    input: i32,
+    output: i32,
+    block: &mut [u8; BUFFER],
+    line: &mut [u8; LINE],
+    store: &mut [u8; STORE],
+    out: &mut [u8; OUTPUT],
+) -> Run
+    requires { ⌜ run .len ≤ kept ⌝ }
+    requires { ⌜ length (now line) ≡ kept ⌝ }
+    requires { ⌜ 0 < run .left ⌝ }
+    requires { ⌜ Counted run ⌝ }
+    ensures { λ r. ⌜ r .got ≤ blockLength ⌝ }
+    ensures { λ r. ⌜ runStateOf r (now (store .exit)) (now (line .exit)) (now (out .exit)) ≡ keptOf (takesAll enters (flushed (runStateOf run (now (store .entry)) (now (line .entry)) (now (out .entry)))) (part (run .len) (run .len + r .got) (now (block .exit)))) ⌝ }
+    ensures { λ r. ⌜ r .going ≡ (ltb 0 (r .got) && r .wrote) ⌝ }
+    ensures { λ r. ⌜ r .len ≤ kept ⌝ }
+    ensures { λ r. ⌜ length (now (line .exit)) ≡ kept ⌝ }
+    ensures { λ r. ⌜ r .taken ≡ run .taken + r .got ⌝ }
+    ensures { λ r. ⌜ r .printed ≡ run .printed + r .used ⌝ }
+    ensures { λ r. ⌜ r .left + 1 ≡ run .left ⌝ }
+    ensures { λ r. ⌜ Counted r ⌝ }
+    ensures { λ r. ⌜ run .len + r .got ≤ length (now (block .exit)) ⌝ }
+    ensures { λ r. ⌜ r .used ≤ length (now (out .exit)) ⌝ }
+{
+    let len = run.len;
+    let r = read_turn(run, input, output, block, line, store, out);
+    let past = r.told;
+    let all = noted(past, output, block, len + r.got, out, r.used);
+    let told = with_rest(all, line, r.len);
+    let card = r.card;
+    Run {
+        card: card,
+        len: r.len,
+        got: r.got,
+        used: r.used,
+        wrote: r.wrote,
+        going: r.going,
+        taken: r.taken,
+        printed: r.printed,
+        left: r.left,
+        told: told,
     }
 }
 
@@ -269,6 +354,7 @@ fn start() -> Run
     ensures { λ r. ⌜ (r .taken ≡ 0) × (r .printed ≡ 0) × (r .left ≡ mostReads) ⌝ }
 {
     let card = card::card::fresh();
+    let told = told::none();
     Run {
         card: card,
         len: 0,
@@ -279,6 +365,7 @@ fn start() -> Run
         taken: 0,
         printed: 0,
         left: READS,
+        told: told,
     }
 }
 
@@ -309,14 +396,18 @@ fn run_with(input: i32, output: i32) -> Run
     r
 }
 
-// The run of plrun: what the lines of an input print goes to an output.
+// The run of plrun: what the lines of an input print goes to an output, or nowhere. What is told of
+// them goes to the error output.
 pub fn run_from(input: i32, output: i32) -> Run
     ensures { λ r. ⌜ ((bytes : List ℕ) × Ran cellCount r bytes) ⌝ }
     ensures { λ r. ⌜ r .left < mostReads ⌝ }
     ensures { λ r. ⌜ r .going ≡ (ltb 0 (r .got) && r .wrote) ⌝ }
     ensures { λ r. ⌜ (r .going ≡ true → r .left ≡ 0) ⌝ }
 {
-    run_with(input, output)
+    let run = run_with(input, output);
+    let told = run.told;
+    told::say(told);
+    run
 }
 
 // The wiring of the card that the lines of an input leave, at the front of a buffer. What the lines
@@ -325,7 +416,7 @@ fn wiring_from(input: i32, buffer: &mut [u8]) -> usize
     ensures { λ r. ⌜ ((bytes : List ℕ) × Wired cellCount bytes r (now (buffer .entry)) (now (buffer .exit))) ⌝ }
     ensures { λ r. ⌜ r ≤ length (now (buffer .exit)) ⌝ }
 {
-    let run = run_with(input, QUIET);
+    let run = run_from(input, QUIET);
     let card = run.card;
     let printed = printed::print::print(card, buffer);
     printed.len
@@ -345,7 +436,7 @@ pub fn print_from(input: i32, output: i32) -> Written
 fn record_from(input: i32, store: &mut [u8; STORE])
     ensures { λ _. ⌜ ((bytes : List ℕ) × (now (store .exit) ≡ recordedNow (takesAll enters (startState cellCount) bytes .done .card) (now (store .entry)))) ⌝ }
 {
-    let run = run_with(input, QUIET);
+    let run = run_from(input, QUIET);
     let card = run.card;
     saved::record::save(card, store);
 }

@@ -6,8 +6,8 @@ use borrow.Author.Needs.{needs}
 use Rattle.runner.proofs.record_from.Statement.{statement}
 use Rattle.runner.proofs.record_from.Tie as tie
 
-run-with-requires : tie.Need-run-with-requires
-run-with-requires c κs = search needs
+run-from-requires : tie.Need-run-from-requires
+run-from-requires c κs = search needs
 
 save-requires : tie.Need-save-requires
 save-requires c κs = search needs
@@ -17,8 +17,8 @@ returns c =
     let s = c in
     let r = s .before .before .before in
     let before = r .before .args .store .now in
-    let ran = r .run-with .ensures .0 in
+    let ran = r .run-from .ensures .0 in
     (ran .0, s .save .ensures .0 ∙ ap (λ (d : Card). recordedNow d before) (ran .1 .card))
 
 pub record-from-spec : {M : Type 1} → statement M
-record-from-spec = tie.close (tie.spec run-with-requires save-requires returns)
+record-from-spec = tie.close (tie.spec run-from-requires save-requires returns)
