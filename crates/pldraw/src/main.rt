@@ -4,10 +4,8 @@
 // side by side, and the next sixty below them. The picture keeps 300 ticks, from the one that is asked for, and says how many there are. Rows are named by the
 // wiring of the last tick that is drawn. No contract can say what is written.
 mod frame;
-mod labels;
 mod page;
 mod rows;
-mod strip;
 
 ghost use Prim.Native.Nat.{_≤_};
 ghost use Rattle.diagram.specs.Page.{keptTicks};

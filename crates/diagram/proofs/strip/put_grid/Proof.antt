@@ -1,9 +1,9 @@
--- `pldraw::strip::put_grid` is safe and ends: the column stays within the strip.
+-- `diagram::strip::put_grid` is safe and ends: the column stays within the strip.
 use Prim.Native.Nat.{_≤_, _+_, _-_}
 use mathlib.Core.Path.{_≡_}
 use borrow.Author.Needs.{needs}
-use Rattle.pldraw.proofs.strip.put_grid.Statement.{statement}
-use Rattle.pldraw.proofs.strip.put_grid.Tie as tie
+use Rattle.diagram.proofs.strip.put_grid.Statement.{statement}
+use Rattle.diagram.proofs.strip.put_grid.Tie as tie
 
 abbrev Inv-loop : tie.InvT-loop
 Inv-loop out₀ colour n wide step offset low end w₀ k₀ t12 out w k = (end ≡ n + 1) × (k ≤ end)

@@ -1,8 +1,8 @@
--- `pldraw::strip::put_numbers` is safe and ends: the tick stays within the strip.
+-- `diagram::strip::put_numbers` is safe and ends: the tick stays within the strip.
 use Prim.Native.Nat.{_≤_, _-_}
 use borrow.Author.Needs.{needs}
-use Rattle.pldraw.proofs.strip.put_numbers.Statement.{statement}
-use Rattle.pldraw.proofs.strip.put_numbers.Tie as tie
+use Rattle.diagram.proofs.strip.put_numbers.Statement.{statement}
+use Rattle.diagram.proofs.strip.put_numbers.Tie as tie
 
 abbrev Inv-loop : tie.InvT-loop
 Inv-loop out₀ ticks s start end w₀ t₀ out w t = (start ≤ t) × (t ≤ end)
