@@ -1,6 +1,8 @@
 // A record as lines: it reads a record as a card would load it, and writes the wiring that the card then has, or why the card refuses it.
+ghost use mathlib.Core.Path.{_≡_};
 ghost use Prim.Native.Nat.{_≤_};
 ghost use lib.ListN.{length};
+ghost use Rattle.plload.specs.Wiring.{numberOf, wiringLength, wiringOf};
 use libc::STDERR_FILENO;
 use libc::STDOUT_FILENO;
 use printed::parts::TEXT_MOST;
@@ -17,6 +19,9 @@ struct Wiring {
 
 // A load of these bytes to a fresh card, and the card's wiring at the front of a buffer.
 fn wiring_of(bytes: &[u8], buffer: &mut [u8]) -> Wiring
+    ensures { λ r. ⌜ r .k ≡ numberOf (now (bytes .entry)) ⌝ }
+    ensures { λ r. ⌜ r .len ≡ wiringLength (now (bytes .entry)) (length (now (buffer .entry))) ⌝ }
+    ensures { λ _. ⌜ now (buffer .exit) ≡ wiringOf (now (bytes .entry)) (now (buffer .entry)) ⌝ }
     ensures { λ r. ⌜ r .len ≤ length (now (buffer .exit)) ⌝ }
 {
     let fresh = card::card::fresh();

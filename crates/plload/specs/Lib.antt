@@ -1,0 +1,2 @@
+-- What plload prints of a record.
+pub mod Wiring
