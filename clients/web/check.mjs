@@ -40,7 +40,7 @@ async function drive(open, prefix, has) {
     if (has('plcheck')) await walk.findsWiring(page);
     await shot('wiring');
     if (has('plrack')) await walk.callsRack(page);
-    if (has('plcheck')) await walk.takesHint(page);
+    await walk.takesHint(page);
     await shot('hint');
     await walk.triesLookup(page);
     await shot('lookup');

@@ -86,13 +86,23 @@ export function compareRecords(modules) {
   console.log(`records ${made.length} of stored inputs, ${old.length} in the old form, ${rows.length} of the gate, in both builds`);
 }
 
+// What the gate gives a program to read: its standard input, or the file that its one word names.
+function storedInput(folder) {
+  const [stdin, args] = ['stdin', 'args'].map((name) => path.join(folder, name));
+  if (!fs.existsSync(args)) return fs.existsSync(stdin) ? stdin : null;
+  const words = fs.readFileSync(args, 'utf8').split('\n').filter(Boolean);
+  return words.length === 1 ? path.join(folder, 'data', words[0]) : null;
+}
+
 // Outputs that the gate stores: of each program by itself, and of plrun in crates/gate_replay.
 export function compareStored(modules) {
   let compared = 0;
   for (const name of NAMES) {
-    const [input, output] = ['stdin', 'stdout'].map((f) => path.join(TOP, 'crates', name, f));
-    if (!fs.existsSync(input)) continue;
-    expect(`${name} writes crates/${name}/stdout`, sameBytes(runBytes(modules[name], fs.readFileSync(input)).output, fs.readFileSync(output)), true);
+    const folder = path.join(TOP, 'crates', name);
+    const input = storedInput(folder);
+    if (!input) continue;
+    const wanted = fs.readFileSync(path.join(folder, 'stdout'));
+    expect(`${name} writes crates/${name}/stdout`, sameBytes(runBytes(modules[name], fs.readFileSync(input)).output, wanted), true);
     compared += 1;
   }
   const replay = path.join(TOP, 'crates', 'gate_replay');

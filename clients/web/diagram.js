@@ -85,7 +85,7 @@ function rowGround(row, i, columns, column) {
   let counts = '';
   columns.forEach((e, c) => {
     if (e.tick.idle || e.covered || !row.woken(e.tick)) return;
-    paths[e.tick.named.includes(row.name) ? 'woken' : 'woken-full'] += `M${c * column} ${y + 1}h${column}v${ROW - 2}h${-column}z`;
+    paths[e.tick.named?.includes(row.name) ?? true ? 'woken' : 'woken-full'] += `M${c * column} ${y + 1}h${column}v${ROW - 2}h${-column}z`;
     counts += countText(e.tick.reasons[row.cell], c * column + column / 2, y + ROW / 2 + 3, column);
   });
   return Object.entries(paths).map(([cls, d]) => (d ? `<path class="${cls}" d="${d}"/>` : '')).join('') + counts + line;

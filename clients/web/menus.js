@@ -15,6 +15,12 @@ let material = null;
 const exampleItem = (group, index, wiring, name) => `<li><button data-group="${group}" data-index="${index}">
   <b>${escapeText(capital(wiring.title))}</b> <span>${escapeText(name)}</span></button></li>`;
 
+// Exercises of the examples need plcheck.
+function exerciseItems(exercises) {
+  if (!exercises.length || !material.programs.some((p) => p.name === 'plcheck')) return '';
+  return `<h2>Exercises: find the wiring</h2><ul>${exercises.map((w, i) => exampleItem('exercises', i, w, '')).join('')}</ul>`;
+}
+
 function presetRow({ numbers, text }) {
   const buttons = numbers.map((n) => `<button data-preset="${n}" aria-label="Preset ${n}">${n}</button>`);
   return `<tr><td>${buttons.join(' ')}</td><td>${escapeText(text)}</td></tr>`;
@@ -27,7 +33,7 @@ export function buildMenus(itsMaterial) {
   material = itsMaterial;
   byId('examples').innerHTML = `<h2>From the manual</h2><ul>${exampleItem('first', 0, material.first[0], '')}</ul>
     <h2>Classroom errors</h2><ul>${material.errors.map((w, i) => exampleItem('errors', i, w, '')).join('')}</ul>
-    ${material.exercises.length ? `<h2>Exercises: find the wiring</h2><ul>${material.exercises.map((w, i) => exampleItem('exercises', i, w, '')).join('')}</ul>` : ''}
+    ${exerciseItems(material.exercises)}
     <h2>Wirings that run</h2><ul>${material.examples.map((w, i) => exampleItem('examples', i, w, w.name)).join('')}</ul>`;
   byId('presets').innerHTML = `<h2>Presets</h2><p id="preset-place"></p><table><tbody>${material.presets.map(presetRow).join('')}</tbody></table>`;
   byId('tables').innerHTML = material.tables;

@@ -1,7 +1,7 @@
 // The tabs: what plexplain says of the line that is looked at, the card at that line, what each program makes of all lines, and predictions.
 
 import { decoded } from './programs.js';
-import { truthTable, bitOf, onlyFull } from './session.js';
+import { truthTable, bitOf } from './session.js';
 import { escapeText } from './diagram.js';
 import { foundWords, totals } from './predict.js';
 import { recordHtml } from './record.js';
@@ -101,11 +101,8 @@ const pointerHtml = (entry) => (entry.kind === 'idle' ? '' : `<p class="quiet">P
 // The manual's three steps, and under each what plexplain says of it. So it is seen that not everything changes together.
 function stepsHtml(t) {
   const [drive, levels, cells] = panel.steps.map(escapeText);
-  const step = (rule, words) => `<li><p class="step">${rule}</p><div>${words}</div></li>`;
-  const quietOnes = t.cellWords.filter(onlyFull);
-  const fold = quietOnes.length ? `<details><summary>${count(quietOnes.length, 'cell')} only because the tick is full</summary>${said(quietOnes)}</details>` : '';
-  const loudOnes = said(t.cellWords.filter((text) => !onlyFull(text)));
-  const steps = [step(drive, said(t.drivenWords)), step(levels, said(t.lineWords)), step(cells, loudOnes + fold + said(t.highWords))];
+  const step = (rule, words) => `<li><p class="step">${rule}</p><div>${said(words)}</div></li>`;
+  const steps = [step(drive, t.drivenWords), step(levels, t.lineWords), step(cells, [...t.cellWords, ...t.highWords])];
   return `<ol class="steps">${steps.join('')}</ol>${said(t.other)}${hintsHtml(t.hints)}`;
 }
 

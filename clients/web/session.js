@@ -124,10 +124,11 @@ const reasonsOf = (words) => Object.fromEntries(words.flatMap((text) => {
   return cell ? [[cell, text]] : [];
 }));
 
-// The cells that the waking rules name. In a full tick others are worked out too, and it says so of each.
-export const onlyFull = (text) => / the tick is full\./.test(text);
-
-const namedBy = (words) => words.filter((text) => !onlyFull(text)).flatMap((text) => namesIn(text).slice(0, 1));
+// The cells that the waking rules name. A full tick says which; in a quick one they are those that woke.
+function namedBy(words) {
+  const named = words.find((text) => text.startsWith('The rules name:'));
+  return named ? namesIn(named) : null;
+}
 
 function numberTicks(entries) {
   let number = 0;
