@@ -3,3 +3,4 @@ pub mod Asked
 pub mod Rows
 pub mod Certificate
 pub mod Never
+pub mod Witness
