@@ -155,7 +155,7 @@ fn noted(named: EditedSet, i: u32, is: bool) -> EditedSet
 
 // ---- a tick
 //
-// The two kinds stand side by side, since a card in a value that branches meet in is copied once more.
+// The two kinds stand side by side: where two branches end in one card, the compiler copies that card once more.
 
 // The connectors, driven from the last tick's words, and the levels of what comes in.
 pub fn lines_in(connectors: Connectors, m: Memory, input: Input) -> Lines
