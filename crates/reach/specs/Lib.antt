@@ -4,3 +4,4 @@ pub mod Rows
 pub mod Certificate
 pub mod Never
 pub mod Witness
+pub mod Examples
