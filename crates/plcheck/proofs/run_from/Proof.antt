@@ -7,7 +7,8 @@ use Rattle.plcheck.proofs.run_from.Statement.{statement}
 use Rattle.plcheck.proofs.run_from.Tie as tie
 
 abbrev Inv-loop : tie.InvT-loop
-Inv-loop input block₀ line₀ store₀ kept₀ answer₀ out₀ s₀ r₀ block line store kept answer out s r = (r .end ≤ r .n) × (r .n ≤ length block) × (length block ≡ 2144) × (length line ≡ 96)
+Inv-loop input block₀ line₀ store₀ kept₀ answer₀ out₀ s₀ r₀ block line store kept answer out s r =
+    (r .end ≤ r .n) × (r .n ≤ length block) × (length block ≡ 2144) × (length line ≡ 96)
 
 abbrev μ-loop : tie.MeasureT-loop
 μ-loop input block₀ line₀ store₀ kept₀ answer₀ out₀ s₀ r₀ block line store kept answer out s r = r .left
