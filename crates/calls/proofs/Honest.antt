@@ -7,6 +7,7 @@ use mathlib.Core.List.{List}
 use native.Mathlib.Nat.{le-of-lt}
 use lib.Dec.{eqb}
 use lib.ListN.{length, getD}
+use borrow.Author.Tests.{eq-eqb}
 use Rattle.words.specs.Bits.{bitAt}
 use Rattle.words.proofs.Laws.{bit-zero, bit-ones}
 use Rattle.cells.specs.declared.table.Slots.{Slots}
@@ -15,11 +16,10 @@ use Rattle.cells.specs.Wake.{wakes}
 use Rattle.card.specs.declared.card.Card.{Card}
 use Rattle.card.specs.Fresh.{noCell, noMemory, freshOf}
 use Rattle.card.proofs.ChangeLaws.{changed-bit}
-use Rattle.ticks.specs.declared.tick.Ticked.{Ticked}
 use Rattle.ticks.specs.Settled.{remembered}
 use Rattle.ticks.specs.Tick
-use Rattle.ticks.proofs.Cases.{by-tick, tick-own}
-use Rattle.ticks.proofs.Sleep.{quick-set, remembers, recalls, started-low}
+use Rattle.ticks.proofs.Cases.{by-tick-on}
+use Rattle.ticks.proofs.Sleep.{quick-set, remembers-on, recalls, started-low}
 use Rattle.saved.specs.Record.{loadNumber}
 use Rattle.saved.proofs.Records.{loaded-by}
 use Rattle.lines.specs.Line.{lineChange, lineOutcome}
@@ -41,8 +41,8 @@ module _ (n : ℕ) where
       go : (b : Bool) (d : Card) → d .edited ≡ 2 ^ n - 1 → bitAt (cond b d c .edited) i ≡ cond b true (bitAt (c .edited) i)
       go true d e = rw e (bit-ones n i h)
       go false d e = refl
-  call-edited c (tick full input) i h =
-      by-tick n full c input (λ t. bitAt (t .card .edited) i ≡ cond (t .answer .ran) false (bitAt (c .edited) i)) (λ _. bit-zero i) (λ _. refl)
+  call-edited c (tick full code on) i h =
+      by-tick-on n full c code (on c) (λ t. bitAt (t .card .edited) i ≡ cond (t .answer .ran) false (bitAt (c .edited) i)) (λ _. bit-zero i) (λ _. refl)
 
   -- over every list
   pub edited-honest : (c : Card) (calls : List Call) (i : ℕ) → i < n → bitAt (end n c calls .edited) i ≡ editedSince n c calls i (bitAt (c .edited) i)
@@ -64,11 +64,11 @@ module _ (n : ℕ) where
       go : (b : Bool) (d : Card) → d .memory ≡ noMemory → cond b d c .memory ≡ cond b noMemory (c .memory)
       go true d e = e
       go false d e = refl
-  call-last c (tick full input) =
-      by-tick n full c input
+  call-last c (tick full code on) =
+      by-tick-on n full c code (on c)
       (λ t. t .card .memory
       ≡ cond (t .answer .ran) (Tick.moved (Tick.trimmed n (c .memory))
-      (record { driven = t .answer .driven; pulled = Tick.lines n c input .pulled; levels = Tick.lines n c input .levels })
+      (record { driven = t .answer .driven; pulled = on c .pulled; levels = on c .levels })
       (t .answer .cells)) (c .memory))
       (λ _. refl) (λ _. refl)
 
@@ -94,10 +94,10 @@ module _ (n : ℕ) where
           → remembered n i (cond b d c .memory) ≡ cond b lowReadings (remembered n i (c .memory))
       go true d e = e
       go false d e = refl
-  call-read c (tick full input) i h =
-      by-tick n full c input
-      (λ t. remembered n i (t .card .memory) ≡ cond (t .answer .ran) (Tick.readIn n full c input i) (remembered n i (c .memory)))
-      (λ _ k s. remembers n full c input i s h k) (λ _. refl)
+  call-read c (tick full code on) i h =
+      by-tick-on n full c code (on c)
+      (λ t. remembered n i (t .card .memory) ≡ cond (t .answer .ran) (Tick.readOn n full c (on c .levels) i) (remembered n i (c .memory)))
+      (λ _ k s. remembers-on n full c (on c) i s h k) (λ _. refl)
 
   -- over every list
   pub read-honest : (c : Card) (calls : List Call) (i : ℕ) → i ≤ n
@@ -113,13 +113,13 @@ module _ (n : ℕ) where
 
   pub who-wakes : WhoWakes n
   unfolding WhoWakes Tick.named
-  who-wakes calls input i h own =
+  who-wakes calls code l i h own =
       let c = end n (freshOf n) calls in
-      let levels = Tick.lines n c input .levels in
+      let levels = l .levels in
       let cell = getD (c .cells) i noCell in
-      let now = Tick.readIn n false c input i (cell .slots) in
+      let now = Tick.readOn n false c levels i (cell .slots) in
       let read = read-from-fresh calls i (le-of-lt h) in
       let last = recalls n i (c .memory) levels (cell .slots) ∙ ap (λ (r : Readings). r (cell .slots)) read in
       let said = ap₂ (λ (e : Bool) (r : Slots). wakes (cell .kind) (stateOf cell) e now r) (edited-from-fresh calls i h) last in
-      ap (λ (t : Ticked). bitAt (t .answer .woken) i) (tick-own n false c input own)
+      ap (λ (b : Bool). bitAt (cond b (Tick.tickedOn n false c l) (Tick.idle c) .answer .woken) i) (eq-eqb _ _ own)
       ∙ quick-set n (c .cells) (c .edited) (Tick.wiresOf (c .memory) levels) i h ∙ said

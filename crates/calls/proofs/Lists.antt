@@ -14,10 +14,11 @@ use Rattle.card.specs.Context.{contextOf}
 use Rattle.card.specs.Fresh.{freshOf}
 use Rattle.card.specs.Untouched.{Edit}
 use Rattle.card.proofs.ChangeLaws.{changed-edit}
+use Rattle.ticks.specs.declared.connectors.Lines.{Lines}
 use Rattle.ticks.specs.declared.view.Input.{Input}
 use Rattle.ticks.specs.Tick
 use Rattle.ticks.specs.Settled.{Settled, AlikeTicks}
-use Rattle.ticks.proofs.Sleep.{fresh-settled, tick-settled, same-ticks, edit-settled, powered-settled}
+use Rattle.ticks.proofs.Sleep.{fresh-settled, tick-on-settled, same-ticks-on, edit-settled, powered-settled}
 use Rattle.saved.specs.Record.{loadNumber}
 use Rattle.saved.proofs.Records.{loaded-by}
 use Rattle.commands.specs.declared.grammar.Parsed.{Parsed}
@@ -65,30 +66,35 @@ module _ (n : ℕ) where
   unfolding afterCall
   call-settled c (line text reply store) s = edit-settled n c _ (line-edit n c text (length reply) (length store)) s
   call-settled c (load bytes) s = rw (loaded-by n c bytes) (load-settled c (eqb (loadNumber n bytes) 0) _ (powered-settled n _ _ _ _) s)
-  call-settled c (tick full input) s = tick-settled n full c input s
+  call-settled c (tick full code on) s = tick-on-settled n full c code (on c) s
 
-  -- two ticks of any kinds do the same on a settled card
+  -- two ticks of any kinds with the same lines do the same on a settled card
+  pub alike-on : (c : Card) (full quick : Bool) (code : ℕ) (l : Lines) → Settled n c
+      → AlikeTicks (Tick.tickOn n full c code l) (Tick.tickOn n quick c code l)
+  alike-on c true true code l s = record { card = refl; ran = refl; driven = refl; cells = refl }
+  alike-on c false false code l s = record { card = refl; ran = refl; driven = refl; cells = refl }
+  alike-on c false true code l s = same-ticks-on n c code l s
+  alike-on c true false code l s =
+      let a = same-ticks-on n c code l s in
+      record { card = sym (a .card); ran = sym (a .ran); driven = sym (a .driven); cells = sym (a .cells) }
+
   pub ticks-alike : (c : Card) (full quick : Bool) (input : Input) → Settled n c
       → AlikeTicks (Tick.tick n full c input) (Tick.tick n quick c input)
-  ticks-alike c true true input s = record { card = refl; ran = refl; driven = refl; cells = refl }
-  ticks-alike c false false input s = record { card = refl; ran = refl; driven = refl; cells = refl }
-  ticks-alike c false true input s = same-ticks n c input s
-  ticks-alike c true false input s =
-      let a = same-ticks n c input s in
-      record { card = sym (a .card); ran = sym (a .ran); driven = sym (a .driven); cells = sym (a .cells) }
+  unfolding Tick.tick
+  ticks-alike c full quick input s = alike-on c full quick (input .code) (Tick.lines n c input) s
 
   same-after : (c : Card) {a b : Call} → SameCall a b → Settled n c → afterCall n c a ≡ afterCall n c b
   unfolding afterCall
   same-after c (same-line text reply other store another p q) s = λ i. lineOutcome n c text (p i) (q i) .card
   same-after c (same-load bytes) s = refl
-  same-after c (same-tick full quick input) s = ticks-alike c full quick input s .card
+  same-after c (same-tick full quick code on) s = alike-on c full quick code (on c) s .card
 
   same-answer : (c : Card) {a b : Call} → SameCall a b → Settled n c → AlikeReply (answer n c a) (answer n c b)
   unfolding answer
   same-answer c (same-line text reply other store another p q) s = rw (p, q) (alike-line _ _ _)
   same-answer c (same-load bytes) s = alike-load _
-  same-answer c (same-tick full quick input) s =
-      let a = ticks-alike c full quick input s in
+  same-answer c (same-tick full quick code on) s =
+      let a = alike-on c full quick code (on c) s in
       alike-tick (a .ran) (a .driven) (a .cells)
 
   -- ---- lists

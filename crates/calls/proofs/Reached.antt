@@ -21,7 +21,7 @@ use Rattle.card.specs.Valid.{badCellType, badConnectorType, badClock, badConfig
 use Rattle.card.proofs.ValidLaws.{fresh-valid, valid-source}
 use Rattle.card.proofs.ValidLaws.{valid-move, valid-trigger, valid-home, valid-type, valid-config, valid-state, valid-slots, valid-connector-type}
 use Rattle.card.proofs.PresetValid.{valid-preset}
-use Rattle.ticks.proofs.ValidTicks.{valid-tick}
+use Rattle.ticks.proofs.ValidTicks.{valid-tick-on}
 use Rattle.saved.specs.Record.{loadNumber, loaded}
 use Rattle.saved.proofs.Records.{load-refused, loaded-valid}
 use Rattle.commands.specs.declared.grammar.Pairs.{Pairs}
@@ -142,7 +142,7 @@ module _ (n : ℕ) (more : cellCount ≤ n) where
   unfolding afterCall
   call-valid c (line text reply store) ok = line-valid c text (length reply) (length store) ok
   call-valid c (load bytes) ok = load-valid c bytes ok
-  call-valid c (tick full input) ok = valid-tick n c ok full input
+  call-valid c (tick full code on) ok = valid-tick-on n c ok full code (on c)
 
   -- every card that a list reaches is valid
   pub reached-valid : (c : Card) (calls : List Call) → validCard n c ≡ true → validCard n (end n c calls) ≡ true

@@ -15,7 +15,6 @@ use Rattle.ticks.proofs.Sleep.{fresh-settled, tick-settled}
 use Rattle.ticks.proofs.AtRest.{rest-answers, rest-card, rest-on, rest-none, rest-more}
 use Rattle.calls.specs.Runs.{endOf, answersOf}
 use Rattle.calls.specs.Calls.{afterCall, answer, end, answers}
-use Rattle.calls.specs.Calls.Call.{tick}
 use Rattle.calls.specs.Calls.Reply.{tickReply}
 use Rattle.calls.specs.Demand3.{AlikeReplies}
 use Rattle.calls.specs.Demand3.AlikeReply.{alike-tick}
@@ -25,9 +24,9 @@ use Rattle.calls.proofs.Lists.{ticks-alike, reached-settled}
 module _ (n : ℕ) (input : Input) where
   -- any list of ticks: the first one leaves a card that is settled and at rest, with another total
   pub stays-all : (kinds : List Bool) (c : Card) → Settled n c → AtRest n c input
-      → (end n c (ticksWith input kinds) ≡ withTotal c (restTotal c input (length kinds)))
-      × AlikeReplies (answers n c (ticksWith input kinds)) (map (λ full. tickReply (restAnswer c input)) kinds)
-  unfolding endOf answersOf afterCall answer
+      → (end n c (ticksWith n input kinds) ≡ withTotal c (restTotal c input (length kinds)))
+      × AlikeReplies (answers n c (ticksWith n input kinds)) (map (λ full. tickReply (restAnswer c input)) kinds)
+  unfolding endOf answersOf afterCall answer Tick.tick
   stays-all [] c settled rest = (ap (withTotal c) (sym (rest-none c input)), Forall₂·nil)
   stays-all (full ∷ kinds) c settled rest =
       let a = ticks-alike n c full false input settled in
@@ -35,10 +34,10 @@ module _ (n : ℕ) (input : Input) where
       let one = a .card ∙ rest-card n c input rest in
       let others = map (λ full. tickReply (restAnswer c input)) kinds in
       let tail = stays-all kinds (withTotal c (restTotal c input 1)) (subst (Settled n) one (tick-settled n full c input settled)) (rest-on n c input rest) in (
-        ap (λ (d : Card). end n d (ticksWith input kinds)) one ∙ tail .0 ∙ ap (withTotal c) (rest-more c input (length kinds)),
+        ap (λ (d : Card). end n d (ticksWith n input kinds)) one ∙ tail .0 ∙ ap (withTotal c) (rest-more c input (length kinds)),
         Forall₂·cons
             (alike-tick (a .ran ∙ ap (λ (x : Answer). x .ran) r) (a .driven ∙ ap (λ (x : Answer). x .driven) r) (a .cells ∙ ap (λ (x : Answer). x .cells) r))
-            (subst (λ (d : Card). AlikeReplies (answers n d (ticksWith input kinds)) others) (sym one) (tail .1)),
+            (subst (λ (d : Card). AlikeReplies (answers n d (ticksWith n input kinds)) others) (sym one) (tail .1)),
       )
 
 pub rest-lasts : (n : ℕ) → RestLasts n

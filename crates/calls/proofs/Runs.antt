@@ -1,9 +1,21 @@
 -- Laws of lists of calls on any state: what holds of one call is lifted to lists, each by one induction.
 use mathlib.Core.Path.{_≡_, refl, ap, _∙_, subst}
-use mathlib.Core.List.{List, [], _∷_, Forall₂, Forall₂·nil, Forall₂·cons}
+use mathlib.Core.List.{List, [], _∷_, _++_, Forall₂, Forall₂·nil, Forall₂·cons}
 use Rattle.calls.specs.Runs.{endOf, answersOf, since}
 
 module _ {S C : Type 0} (step : S → C → S) where
+  -- one list behind another
+  pub end-append : (s : S) (calls others : List C) → endOf step s (calls ++ others) ≡ endOf step (endOf step s calls) others
+  unfolding endOf
+  end-append s [] others = refl
+  end-append s (call ∷ calls) others = end-append (step s call) calls others
+
+  pub answers-append : {R : Type 0} (reply : S → C → R) (s : S) (calls others : List C)
+      → answersOf step reply s (calls ++ others) ≡ answersOf step reply s calls ++ answersOf step reply (endOf step s calls) others
+  unfolding endOf answersOf
+  answers-append reply s [] others = refl
+  answers-append reply s (call ∷ calls) others = ap (λ l. reply s call ∷ l) (answers-append reply (step s call) calls others)
+
   -- an invariant, which every call keeps, holds at the end of every list
   pub invariant : (Inv : S → Type 0) → ((s : S) (call : C) → Inv s → Inv (step s call)) → (s : S) (calls : List C) → Inv s → Inv (endOf step s calls)
   unfolding endOf

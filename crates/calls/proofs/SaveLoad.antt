@@ -75,7 +75,7 @@ room n x false store Malformed e g = never g
 room n x false store Elsewhere e g = never g
 room n x false store (Here command) e g = command-room n x store command g e
 
-save-room : (n : ℕ) (c : Card) (text : List ℕ) (reply store : ℕ) → Saves n c text reply store → wholeRecord n ≤ store
+pub save-room : (n : ℕ) (c : Card) (text : List ℕ) (reply store : ℕ) → Saves n c text reply store → wholeRecord n ≤ store
 unfolding lineDecision lineOutcome
 save-room n c text reply store s = room n (contextOf n c) (ltb reply shortestReply) store (parse n text) (s .accepted) (s .saves)
 

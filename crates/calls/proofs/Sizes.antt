@@ -8,7 +8,7 @@ use Rattle.card.specs.declared.card.Card.{Card}
 use Rattle.card.specs.Address.{cellCount, cellRoom, cellsFor}
 use Rattle.card.specs.Fresh.{freshOf}
 use Rattle.card.proofs.ChangeLaws.{changed-size}
-use Rattle.ticks.proofs.Cases.{by-tick}
+use Rattle.ticks.proofs.Cases.{by-tick-on}
 use Rattle.saved.specs.Record.{loadNumber}
 use Rattle.saved.proofs.Records.{loaded-by}
 use Rattle.lines.specs.Line.{lineOutcome}
@@ -25,7 +25,7 @@ call-size n c (load bytes) = rw (loaded-by n c bytes) (go (eqb (loadNumber n byt
     go : (b : Bool) (d : Card) → d .size ≡ c .size → cond b d c .size ≡ c .size
     go true d e = e
     go false d e = refl
-call-size n c (tick full input) = by-tick n full c input (λ t. t .card .size ≡ c .size) (λ _. refl) (λ _. refl)
+call-size n c (tick full code on) = by-tick-on n full c code (on c) (λ t. t .card .size ≡ c .size) (λ _. refl) (λ _. refl)
 
 pub end-size : (n : ℕ) (c : Card) (calls : List Call) → end n c calls .size ≡ c .size
 end-size n c calls = invariant (afterCall n) (λ d. d .size ≡ c .size) (λ d call e. call-size n d call ∙ e) c calls refl

@@ -18,12 +18,11 @@ use Rattle.card.specs.Address.{cellRoom}
 use Rattle.card.specs.Fresh.{freshOf, noCell}
 use Rattle.card.specs.Tally.{ticks, standstill, noTallies, tallyOf, talliedBy}
 use Rattle.card.proofs.TallyLaws.{tallied-total, tallied-at, tallied-off, counted-below}
-use Rattle.ticks.specs.declared.view.Input.{Input}
-use Rattle.ticks.specs.declared.tick.Ticked.{Ticked}
+use Rattle.ticks.specs.declared.connectors.Lines.{Lines}
 use Rattle.ticks.specs.Tick
 use Rattle.ticks.specs.Exact.{dueAt, namedOn}
 use Rattle.ticks.specs.Rest.{totalOf}
-use Rattle.ticks.proofs.Cases.{by-tick, tick-own}
+use Rattle.ticks.proofs.Cases.{by-tick-on}
 use Rattle.ticks.proofs.Exact.{works-exactly}
 use Rattle.saved.specs.Record.{loadNumber}
 use Rattle.saved.proofs.Records.{loaded-by}
@@ -106,7 +105,7 @@ module _ (n : ℕ) where
   tallyNext : Card → Call → Tallies → Tallies
   tallyNext c (line text reply store) t = t
   tallyNext c (load bytes) t = cond (eqb (loadNumber n bytes) 0) noTallies t
-  tallyNext c (tick full input) t = cond (Tick.tick n full c input .answer .ran) (talliedBy n (namedIn n full c input) t) t
+  tallyNext c (tick full code on) t = cond (Tick.tickOn n full c code (on c) .answer .ran) (talliedBy n (namedIn n full c (on c)) t) t
 
   call-tallies : (c : Card) (call : Call) → afterCall n c call .tallies ≡ tallyNext c call (c .tallies)
   unfolding afterCall tallyNext
@@ -116,11 +115,12 @@ module _ (n : ℕ) where
       go : (b : Bool) (d : Card) → d .tallies ≡ noTallies → cond b d c .tallies ≡ cond b noTallies (c .tallies)
       go true d e = e
       go false d e = refl
-  call-tallies c (tick full input) =
-      by-tick n full c input (λ t. t .card .tallies ≡ cond (t .answer .ran) (talliedBy n (namedIn n full c input) (c .tallies)) (c .tallies))
+  call-tallies c (tick full code on) =
+      by-tick-on n full c code (on c) (λ t. t .card .tallies ≡ cond (t .answer .ran) (talliedBy n (namedIn n full c (on c)) (c .tallies)) (c .tallies))
       (λ e.
-      let own = eqb-true (input .code) (c .trigger) e in
-      ap (λ (t : Ticked). t .card .tallies) (sym (tick-own n full c input own)) ∙ works-exactly n .own full c input own .tallies) (λ _. refl)
+      let own = eqb-true code (c .trigger) e in
+      ap (λ (b : Bool). cond b (Tick.tickedOn n full c (on c)) (Tick.idle c) .card .tallies) (sym e)
+      ∙ works-exactly n .own-on full c code (on c) own .tallies) (λ _. refl)
 
   call-good : (c : Card) (call : Call) → Good n (c .tallies) → Good n (afterCall n c call .tallies)
   unfolding tallyNext
@@ -133,12 +133,12 @@ module _ (n : ℕ) where
       go : (call : Call) → Good n (tallyNext c call (c .tallies))
       go (line text reply store) = good
       go (load bytes) = either (eqb (loadNumber n bytes) 0) noTallies (none-good n)
-      go (tick full input) = either (Tick.tick n full c input .answer .ran) _ (good-next n (namedIn n full c input) (c .tallies) good)
+      go (tick full code on) = either (Tick.tickOn n full c code (on c) .answer .ran) _ (good-next n (namedIn n full c (on c)) (c .tallies) good)
 
   -- something that is read off the tallies: nothing without a tick, and each tick below the standstill adds to it
   module _ (f : Tallies → ℕ) (more : PerTick) (none : f noTallies ≡ 0)
-      (adds : (full : Bool) (c : Card) (input : Input) → Good n (c .tallies) → ltb (totalOf c) standstill ≡ true
-      → f (talliedBy n (namedIn n full c input) (c .tallies)) ≡ f (c .tallies) + more full c input) where
+      (adds : (full : Bool) (c : Card) (l : Lines) → Good n (c .tallies) → ltb (totalOf c) standstill ≡ true
+      → f (talliedBy n (namedIn n full c l) (c .tallies)) ≡ f (c .tallies) + more full c l) where
     told : Tallies → Summed
     told t = record { ran = t .total .0; sum = f t }
 
@@ -150,18 +150,18 @@ module _ (n : ℕ) where
         loads true = λ k. record { ran = 0; sum = none k }
         loads false = refl
 
-        runs : (full : Bool) (input : Input) (q b : Bool) → ltb (totalOf c) standstill ≡ b
-            → told (cond q (talliedBy n (namedIn n full c input) (c .tallies)) (c .tallies))
-            ≡ cond (q && ltb (totalOf c) standstill) (record { ran = totalOf c + 1; sum = f (c .tallies) + more full c input }) (told (c .tallies))
-        runs full input true true e =
-            (λ k. record { ran = total-on n (namedIn n full c input) (c .tallies) good e k; sum = adds full c input good e k }) ∙ rw e
-        runs full input true false e = ap told (tallied-off n (namedIn n full c input) (c .tallies) e) ∙ rw e
-        runs full input false b e = refl
+        runs : (full : Bool) (l : Lines) (q b : Bool) → ltb (totalOf c) standstill ≡ b
+            → told (cond q (talliedBy n (namedIn n full c l) (c .tallies)) (c .tallies))
+            ≡ cond (q && ltb (totalOf c) standstill) (record { ran = totalOf c + 1; sum = f (c .tallies) + more full c l }) (told (c .tallies))
+        runs full l true true e =
+            (λ k. record { ran = total-on n (namedIn n full c l) (c .tallies) good e k; sum = adds full c l good e k }) ∙ rw e
+        runs full l true false e = ap told (tallied-off n (namedIn n full c l) (c .tallies) e) ∙ rw e
+        runs full l false b e = refl
 
         go : (call : Call) → told (tallyNext c call (c .tallies)) ≡ sumNext n more c call (told (c .tallies))
         go (line text reply store) = refl
         go (load bytes) = loads (eqb (loadNumber n bytes) 0)
-        go (tick full input) = runs full input (Tick.tick n full c input .answer .ran) (ltb (totalOf c) standstill) refl
+        go (tick full code on) = runs full (on c) (Tick.tickOn n full c code (on c) .answer .ran) (ltb (totalOf c) standstill) refl
 
     list-summed : (calls : List Call) → f (end n (freshOf n) calls .tallies) ≡ summed n more calls
     unfolding told
@@ -177,29 +177,29 @@ module _ (n : ℕ) where
   unfolding EveryListTallied
   every-list-tallied calls =
       record {
-        ran = list-summed (λ t. t .total .0) _ refl (λ full c input good e. total-on n (namedIn n full c input) (c .tallies) good e) calls;
+        ran = list-summed (λ t. t .total .0) _ refl (λ full c l good e. total-on n (namedIn n full c l) (c .tallies) good e) calls;
         times = λ i h. list-summed (λ t. tallyOf t i) _ (none-at i)
-            (λ full c input good e. grows n (namedIn n full c input) (c .tallies) good e i h) calls;
+            (λ full c l good e. grows n (namedIn n full c l) (c .tallies) good e i h) calls;
         sums = list-summed (λ t. sumOf (tallyOf t) n) _ (sum-same (tallyOf noTallies) (λ i. 0) n (λ i h. none-at i) ∙ sum-zero n)
-            (λ full c input good e. sum-same _ _ n (λ i h. grows n (namedIn n full c input) (c .tallies) good e i h)
-            ∙ sum-adds (tallyOf (c .tallies)) (namedIn n full c input) n) calls;
+            (λ full c l good e. sum-same _ _ n (λ i h. grows n (namedIn n full c l) (c .tallies) good e i h)
+            ∙ sum-adds (tallyOf (c .tallies)) (namedIn n full c l) n) calls;
         most = invariant (afterCall n) (λ c. Good n (c .tallies)) call-good (freshOf n) calls (none-good n) .1;
       }
 
   pub who-is-named : WhoIsNamed n
   unfolding WhoIsNamed
-  who-is-named calls full input i h =
+  who-is-named calls full l i h =
       let c = end n (freshOf n) calls in
       let cell = getD (c .cells) i noCell in
-      let now = Tick.readIn n full c input i (cell .slots) in
+      let now = Tick.readOn n full c (l .levels) i (cell .slots) in
       let last = ap (λ (r : Readings). r (cell .slots)) (read-from-fresh n calls i (le-of-lt h)) in
       ap₂ (λ (e : Bool) (r : Slots). wakes (cell .kind) (stateOf cell) e now r) (edited-from-fresh n calls i h) last
 
   pub grows-as-answered : GrowsAsAnswered n
   unfolding GrowsAsAnswered
-  grows-as-answered c input i h own below room =
-      let exact = works-exactly n .own false c input own in
-      let named = namedIn n false c input in
+  grows-as-answered c code l i h own below room =
+      let exact = works-exactly n .own-on false c code l own in
+      let named = namedIn n false c l in
       ap (λ (t : Tallies). tallyOf t i) (exact .tallies)
       ∙ tallied-at n named (c .tallies) i h (lt-ltb (totalOf c) standstill below)
       ∙ counted-below (named i) (getD (c .tallies .cells) i (ticks 0)) room

@@ -93,7 +93,7 @@ line text = Calls.Call.line (bytesOf text) (replicate shortestReply 0) []
 
 -- `T 0 w ffff Q`, and `T 0 0100 ffff Q`
 quickWith : ℕ → Call
-quickWith w = Calls.Call.tick false (record { code = 0; sample = w; attached = 0xffff })
+quickWith w = Calls.ownTick cellCount false (record { code = 0; sample = w; attached = 0xffff })
 
 quick : Call
 quick = quickWith 0x0100

@@ -5,9 +5,10 @@ use mathlib.Core.Path.{_≡_}
 use mathlib.Core.Bool.{Bool}
 use mathlib.Core.List.{List, Forall₂}
 use lib.ListN.{length}
+use Rattle.card.specs.declared.card.Card.{Card}
 use Rattle.card.specs.Fresh.{freshOf}
 use Rattle.ticks.specs.declared.tick.Answer.{Answer}
-use Rattle.ticks.specs.declared.view.Input.{Input}
+use Rattle.ticks.specs.declared.connectors.Lines.{Lines}
 use Rattle.calls.specs.Calls.{Call, Reply, end, answers}
 use Rattle.calls.specs.Calls.Call.{line, load, tick}
 use Rattle.calls.specs.Calls.Reply.{lineReply, loadReply, tickReply}
@@ -18,7 +19,7 @@ pub data SameCall : Call → Call → Type 0 where
   same-line : (text reply other store another : List ℕ) → length reply ≡ length other → length store ≡ length another
       → SameCall (line text reply store) (line text other another)
   same-load : (bytes : List ℕ) → SameCall (load bytes) (load bytes)
-  same-tick : (full quick : Bool) (input : Input) → SameCall (tick full input) (tick quick input)
+  same-tick : (full quick : Bool) (code : ℕ) (on : Card → Lines) → SameCall (tick full code on) (tick quick code on)
 
 abbrev pub SameCalls : List Call → List Call → Type 0
 SameCalls = Forall₂ SameCall

@@ -15,10 +15,9 @@ use Rattle.card.specs.declared.card.Card.{Card}
 use Rattle.card.specs.declared.card.Memory.{Memory}
 use Rattle.card.specs.Change.{editsCell}
 use Rattle.card.specs.Fresh.{noCell, noMemory, freshOf}
-use Rattle.ticks.specs.declared.view.Input.{Input}
+use Rattle.ticks.specs.declared.connectors.Lines.{Lines}
 use Rattle.ticks.specs.Reading.{slotsRead}
-use Rattle.ticks.specs.Tick
-use Rattle.ticks.specs.Tick.{trimmed, moved, readIn}
+use Rattle.ticks.specs.Tick.{trimmed, moved, readOn, tickOn}
 use Rattle.saved.specs.Record.{loadNumber}
 use Rattle.lines.specs.Line.{lineChange}
 use Rattle.calls.specs.Runs.{since}
@@ -42,7 +41,7 @@ module _ (n : ℕ) where
   editedNext c (line text reply store) i was =
       was || editsCell n c (lineChange n c text (length reply) (length store)) i
   editedNext c (load bytes) i was = cond (eqb (loadNumber n bytes) 0) true was
-  editedNext c (tick full input) i was = cond (Tick.tick n full c input .answer .ran) false was
+  editedNext c (tick full code on) i was = cond (tickOn n full c code (on c) .answer .ran) false was
 
   -- whether cell i was edited since the last tick that ran, or since the start of the list
   abbrev pub editedSince : Card → List Call → ℕ → Bool → Bool
@@ -54,7 +53,7 @@ module _ (n : ℕ) where
   unfoldable pub readNext : Card → Call → ℕ → Readings → Readings
   readNext c (line text reply store) i was = was
   readNext c (load bytes) i was = cond (eqb (loadNumber n bytes) 0) lowReadings was
-  readNext c (tick full input) i was = cond (Tick.tick n full c input .answer .ran) (readIn n full c input i) was
+  readNext c (tick full code on) i was = cond (tickOn n full c code (on c) .answer .ran) (readOn n full c (on c .levels) i) was
 
   -- what a reader in position i read in the last tick that ran
   abbrev pub readSince : Card → List Call → ℕ → Readings → Readings
@@ -62,15 +61,15 @@ module _ (n : ℕ) where
 
   -- ---- "Who wakes", said of a list
 
-  -- behind any list of calls from a fresh card, the set that a quick tick on the card's own clock answers has a cell exactly where the rules hold
+  -- behind any list of calls from a fresh card, the set that a quick tick on the card's own clock answers, whatever its lines, has a cell exactly where the rules hold
   -- of the calls since the last tick that ran, or since the start, of what the cell's slots read now, and of what they read in that tick
   unfoldable pub WhoWakes : Type 0
-  WhoWakes = (calls : List Call) (input : Input) (i : ℕ) → i < n
+  WhoWakes = (calls : List Call) (code : ℕ) (l : Lines) (i : ℕ) → i < n
       → let c = end n (freshOf n) calls in
       let cell = getD (c .cells) i noCell in
-      input .code ≡ c .trigger
-      → bitAt (Tick.tick n false c input .answer .woken) i
-      ≡ wakes (cell .kind) (stateOf cell) (editedSince (freshOf n) calls i false) (readIn n false c input i (cell .slots))
+      code ≡ c .trigger
+      → bitAt (tickOn n false c code l .answer .woken) i
+      ≡ wakes (cell .kind) (stateOf cell) (editedSince (freshOf n) calls i false) (readOn n false c (l .levels) i (cell .slots))
       (readSince (freshOf n) calls i lowReadings (cell .slots))
 
   -- ---- what the last ticks were
@@ -79,9 +78,9 @@ module _ (n : ℕ) where
   unfoldable pub lastNext : Card → Call → Memory → Memory
   lastNext c (line text reply store) was = was
   lastNext c (load bytes) was = cond (eqb (loadNumber n bytes) 0) noMemory was
-  lastNext c (tick full input) was =
-      let a = Tick.tick n full c input .answer in
-      let l = Tick.lines n c input in
+  lastNext c (tick full code on) was =
+      let l = on c in
+      let a = tickOn n full c code l .answer in
       cond (a .ran) (moved (trimmed n was) (record { driven = a .driven; pulled = l .pulled; levels = l .levels }) (a .cells)) was
 
   -- the cell words of the last three ticks that ran, the levels of the last two, and of the last the driven word and what it pulled low

@@ -55,7 +55,7 @@ refused k text = lineReply k (bytesOf text) []
 
 -- a tick of clock code 3 with everything attached
 tickOf : ℕ → Call
-tickOf sample = Calls.Call.tick false (record { code = 3; sample = sample; attached = 0xffff })
+tickOf sample = Calls.ownTick cellCount false (record { code = 3; sample = sample; attached = 0xffff })
 
 -- ---- sixteen cells
 
@@ -164,7 +164,7 @@ largeSession =
     ∷ large "M E=3" ":A\r\n"
     ∷ large "36CCA Z=1" ":A\r\n"
     ∷ (
-      Calls.Call.tick false (record { code = 0; sample = 0; attached = 0xffff }),
+      Calls.ownTick cellRoom false (record { code = 0; sample = 0; attached = 0xffff }),
       tickReply (record { ran = true; driven = 0; cells = 0x80080004; woken = 0x80080004; count = ones 0x80080004 }),
     )
     ∷ large "36RDADC F?" ":A 32776\r\n"

@@ -7,14 +7,13 @@ use lib.ListN.{length}
 use Rattle.card.specs.Fresh.{freshOf}
 use Rattle.ticks.specs.declared.view.Input.{Input}
 use Rattle.ticks.specs.Rest.{AtRest, restAnswer, withTotal, restTotal}
-use Rattle.calls.specs.Calls.{Call, end, answers}
-use Rattle.calls.specs.Calls.Call.{tick}
+use Rattle.calls.specs.Calls.{Call, ownTick, end, answers}
 use Rattle.calls.specs.Calls.Reply.{tickReply}
 use Rattle.calls.specs.Demand3.{AlikeReplies}
 
 -- ticks with one input, quick and full as a list says
-abbrev pub ticksWith : Input → List Bool → List Call
-ticksWith input kinds = map (λ full. tick full input) kinds
+abbrev pub ticksWith : ℕ → Input → List Bool → List Call
+ticksWith n input kinds = map (λ full. ownTick n full input) kinds
 
 -- behind any list of calls from a fresh card: where the card is at rest under an input, any ticks with it leave all of the card but the tick total, which
 -- counts
@@ -23,5 +22,5 @@ unfoldable pub RestLasts : ℕ → Type 0
 RestLasts n = (calls : List Call) (input : Input) (kinds : List Bool)
     → let c = end n (freshOf n) calls in
     AtRest n c input
-    → (end n c (ticksWith input kinds) ≡ withTotal c (restTotal c input (length kinds)))
-    × AlikeReplies (answers n c (ticksWith input kinds)) (map (λ full. tickReply (restAnswer c input)) kinds)
+    → (end n c (ticksWith n input kinds) ≡ withTotal c (restTotal c input (length kinds)))
+    × AlikeReplies (answers n c (ticksWith n input kinds)) (map (λ full. tickReply (restAnswer c input)) kinds)

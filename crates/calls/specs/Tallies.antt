@@ -12,9 +12,8 @@ use Rattle.cells.specs.Wake.{wakes}
 use Rattle.card.specs.declared.card.Card.{Card}
 use Rattle.card.specs.Fresh.{freshOf, noCell}
 use Rattle.card.specs.Tally.{standstill, tallyOf}
-use Rattle.ticks.specs.declared.view.Input.{Input}
-use Rattle.ticks.specs.Tick
-use Rattle.ticks.specs.Tick.{readIn}
+use Rattle.ticks.specs.declared.connectors.Lines.{Lines}
+use Rattle.ticks.specs.Tick.{readOn, tickOn}
 use Rattle.ticks.specs.Exact.{namedOn}
 use Rattle.ticks.specs.Rest.{totalOf}
 use Rattle.saved.specs.Record.{loadNumber}
@@ -38,52 +37,52 @@ nothing = record { ran = 0; sum = 0 }
 
 -- something that each tick has more of
 abbrev pub PerTick : Type 0
-PerTick = Bool → Card → Input → ℕ
+PerTick = Bool → Card → Lines → ℕ
 
 module _ (n : ℕ) where
   -- the rules name cell i in a tick, a full one too
-  abbrev pub namedIn : Bool → Card → Input → ℕ → Bool
-  namedIn full c input i = namedOn n full c (Tick.lines n c input .levels) i
+  abbrev pub namedIn : Bool → Card → Lines → ℕ → Bool
+  namedIn full c l i = namedOn n full c (l .levels) i
 
   -- after a call: "Once the tick total is 4,294,967,295 all of them stand still", and until then a tick that ran counts; "A load clears them", if it is
   -- accepted; nothing else counts
   unfoldable pub sumNext : PerTick → Card → Call → Summed → Summed
   sumNext more c (line text reply store) was = was
   sumNext more c (load bytes) was = cond (eqb (loadNumber n bytes) 0) nothing was
-  sumNext more c (tick full input) was =
-      cond (Tick.tick n full c input .answer .ran && ltb (was .ran) standstill) (record { ran = was .ran + 1; sum = was .sum + more full c input }) was
+  sumNext more c (tick full code on) was =
+      cond (tickOn n full c code (on c) .answer .ran && ltb (was .ran) standstill) (record { ran = was .ran + 1; sum = was .sum + more full c (on c) }) was
 
   -- "tick by tick up to the standstill": over a list of calls on a fresh card, since its start or the last accepted load
   abbrev pub summed : PerTick → List Call → ℕ
   summed more calls = since (afterCall n) (sumNext more) (freshOf n) calls nothing .sum
 
   -- a card's tallies are what the list says
-  pub record Tallied (calls : List Call) : Type 0 where
+  pub record Tallied (c : Card) (calls : List Call) : Type 0 where
     -- "how many ticks ran"
-    pub ran : totalOf (end n (freshOf n) calls) ≡ summed (λ full c input. 1) calls
+    pub ran : totalOf c ≡ summed (λ full c l. 1) calls
     -- "for each cell, in how many ticks the waking rules named it, also in full ticks"
     pub times : (i : ℕ) → i < n
-        → tallyOf (end n (freshOf n) calls .tallies) i ≡ summed (λ full c input. bitNumber (namedIn full c input i)) calls
+        → tallyOf (c .tallies) i ≡ summed (λ full c l. bitNumber (namedIn full c l i)) calls
     -- "the sum taken cell by cell equals the sum, tick by tick up to the standstill, of the sizes of the sets that the rules name (in a full tick too)"
-    pub sums : sumOf (tallyOf (end n (freshOf n) calls .tallies)) n ≡ summed (λ full c input. countOf (namedIn full c input) n) calls
+    pub sums : sumOf (tallyOf (c .tallies)) n ≡ summed (λ full c l. countOf (namedIn full c l) n) calls
     -- "no cell's tally exceeds the tick total"
-    pub most : (i : ℕ) → i < n → tallyOf (end n (freshOf n) calls .tallies) i ≤ totalOf (end n (freshOf n) calls)
+    pub most : (i : ℕ) → i < n → tallyOf (c .tallies) i ≤ totalOf c
 
   -- "Over every list of calls since a load or a fresh start"
   unfoldable pub EveryListTallied : Type 0
-  EveryListTallied = (calls : List Call) → Tallied calls
+  EveryListTallied = (calls : List Call) → Tallied (end n (freshOf n) calls) calls
 
   -- whom the rules name behind a list, in a tick of either kind: by the calls since the last tick that ran and by what it read, as WhoWakes has it
   unfoldable pub WhoIsNamed : Type 0
-  WhoIsNamed = (calls : List Call) (full : Bool) (input : Input) (i : ℕ) → i < n
+  WhoIsNamed = (calls : List Call) (full : Bool) (l : Lines) (i : ℕ) → i < n
       → let c = end n (freshOf n) calls in
       let cell = getD (c .cells) i noCell in
-      namedIn full c input i
-      ≡ wakes (cell .kind) (stateOf cell) (editedSince n (freshOf n) calls i false) (readIn n full c input i (cell .slots))
+      namedIn full c l i
+      ≡ wakes (cell .kind) (stateOf cell) (editedSince n (freshOf n) calls i false) (readOn n full c (l .levels) i (cell .slots))
       (readSince n (freshOf n) calls i lowReadings (cell .slots))
 
   -- on any card, in a quick tick that runs: a tally that is below the limit grows exactly where the answer's set has a bit
   unfoldable pub GrowsAsAnswered : Type 0
-  GrowsAsAnswered = (c : Card) (input : Input) (i : ℕ) → i < n → input .code ≡ c .trigger → totalOf c < standstill → tallyOf (c .tallies) i < standstill
-      → let t = Tick.tick n false c input in
+  GrowsAsAnswered = (c : Card) (code : ℕ) (l : Lines) (i : ℕ) → i < n → code ≡ c .trigger → totalOf c < standstill → tallyOf (c .tallies) i < standstill
+      → let t = tickOn n false c code l in
       tallyOf (t .card .tallies) i ≡ tallyOf (c .tallies) i + bitNumber (bitAt (t .answer .woken) i)

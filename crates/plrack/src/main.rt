@@ -6,8 +6,8 @@
 //     tick CODE F|Q ..      a tick: sample and attached of the backplane, then of each front   the number, and where it is 0 the answers
 // A line of another form, and one of more than 640 bytes, prints `?`. Bytes after the last LF are dropped, and the program says so.
 //
-// A program cannot lend a row of cards that it holds itself, so the cards are held by value: what is done to each is done by the jobs of the calls on a
-// lent row (rack::pass::visit, rack::job), card by card. That these jobs are the calls is proved there.
+// The cards are held by value, and lent as a row for each pass over them (rack::held::on_row). What is done then is done by the functions that the calls on
+// a lent row are made of (rack::row::each, rack::job).
 mod fields;
 mod forms;
 
@@ -36,6 +36,8 @@ use input::least;
 use input::next_line;
 use libc::STDERR_FILENO;
 use libc::STDOUT_FILENO;
+use rack::held::HELD;
+use rack::held::on_row;
 use rack::job::Taken;
 use rack::job::line_in;
 use rack::job::load_in;
@@ -49,12 +51,11 @@ use rack::pass::looking;
 use rack::pass::start_card;
 use rack::pass::start_order;
 use rack::pass::tick_order;
-use rack::pass::visit;
 use saved::record::RECORD_LENGTH;
 use ticks::tick::Answer;
 
 // One card more than a rack may have.
-const ROOM: usize = 5;
+const ROOM: usize = HELD;
 
 // The longest line that is kept whole, and the longest that is taken.
 const KEPT: usize = 644;
@@ -80,32 +81,21 @@ fn put_number(v: u64) {
 
 // ---- the row, by value
 
-fn visited(rig: Rig, i: usize) -> Rig {
-    if rig.n <= i {
-        return rig;
-    }
-    if ROOM <= i {
-        return rig;
-    }
-    let mut cards = rig.cards;
-    let p = rig.pass;
-    let v = visit(p, cards[i]);
-    let c = v.card;
-    cards[i] = c;
-    let next = v.pass;
-    Rig {
-        cards: cards,
-        n: rig.n,
-        pass: next,
-    }
-}
-
+// A pass over the cards, which are lent for it as a row.
 fn passed(rig: Rig) -> Rig {
-    let a = visited(rig, 0);
-    let b = visited(a, 1);
-    let c = visited(b, 2);
-    let d = visited(c, 3);
-    visited(d, 4)
+    if ROOM < rig.n {
+        return rig;
+    }
+    let cards = rig.cards;
+    let pass = rig.pass;
+    let h = on_row(cards, rig.n, pass);
+    let next = h.cards;
+    let after = h.pass;
+    Rig {
+        cards: next,
+        n: rig.n,
+        pass: after,
+    }
 }
 
 fn with_pass(rig: Rig, pass: Pass) -> Rig {

@@ -1,4 +1,5 @@
 -- Laws of passes over a list of cards, and the rules of the walks: a slice lent on, a row lent on to any callee, a call on plain values.
+pub mod Walk
 pub mod Rows
 pub mod Passes
 pub mod Takes
@@ -8,13 +9,17 @@ pub mod Called
 pub mod Types
 pub mod Plains
 pub mod LendsEach
-pub mod LendsCardAt
-pub mod LendsPutAt
+pub mod LendsSwapAt
 pub mod LendsPasses
 pub mod LendsTake
 pub mod LendsLineIn
 pub mod LendsLoadIn
+pub mod Own
+pub mod PlainsHeld
 pub mod Draws
 pub mod Racks
 pub mod Supplies
 pub mod Alone
+pub mod Buffers
+pub mod Started
+pub mod Cards

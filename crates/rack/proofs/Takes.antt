@@ -7,7 +7,7 @@ use native.Mathlib.Nat.{not-suc-le-zero, le-of-suc-le-suc, zero-add}
 use native.Mathlib.Omega.{arith}
 use lib.Dec.{eqb, ltb}
 use lib.ListN.{length, getD, set, replicate, drop, length-map}
-use lib.Seq.{sets, sets-eq}
+use lib.Seq.{sets, sets-eq, set-set}
 use borrow.Author.Tests.{ltb-false}
 use Rattle.card.specs.declared.card.Card.{Card}
 use Rattle.card.specs.Address.{cellCount, cellsFor}
@@ -20,7 +20,7 @@ use Rattle.rack.specs.declared.pass.Pass.{Pass}
 use Rattle.rack.specs.Supply.{mostCards, supply, draw, drawsOf, sumOf, sameFronts, over}
 use Rattle.rack.specs.Rack.{isLarge, anyLarge, badLength, badRow, badNumber, startCard, cardOf, outcomeIn, rowOutcome, lineIn, loadIn}
 use Rattle.rack.specs.Rack.{rowLoadNumber, loadedRow, rowResult, rowResultOf}
-use Rattle.rack.specs.Visit.{nothing, noInput, lookOrder, lookedOver, lookedRow, takenFrom, replyOf}
+use Rattle.rack.specs.Visit.{nothing, noInput, lookOrder, lookedOver, lookedRow, takenFrom, takenRow, replyOf}
 use Rattle.rack.proofs.Passes.{or-left, or-right, small, too-many, few, sees}
 
 -- ---- the row
@@ -189,20 +189,21 @@ load-card cards number bytes =
 
 pub line-row : (cards : List Card) (number : ℕ) (text reply store : List ℕ) (r : Answered) (reply′ store′ : List ℕ) → let t = takenFrom cards number in
     resultOf r reply′ store′ ≡ lineIn (cellsFor (t .card .size)) (t .bad) (t .draws) (t .place) (t .card) text reply store
-    → rowResultOf (replyOf r) (set (lookedRow lookOrder cards) (number - 1) (r .card)) reply′ store′ ≡ rowResult cellCount cards number text reply store
+    → rowResultOf (replyOf r) (set (takenRow cards number) (number - 1) (r .card)) reply′ store′ ≡ rowResult cellCount cards number text reply store
 unfolding rowResult
 line-row cards number text reply store r reply′ store′ said =
     let e = said ∙ line-does cards number text reply store in
-    λ i. record { k = e i .k; len = e i .len; row = set (looked-row cards i) (number - 1) (e i .card); reply = e i .reply; store = e i .store }
+    ap (λ (l : List Card). rowResultOf (replyOf r) l reply′ store′) (set-set (lookedRow lookOrder cards) (number - 1) (startCard cellCount) (r .card))
+    ∙ (λ i. record { k = e i .k; len = e i .len; row = set (looked-row cards i) (number - 1) (e i .card); reply = e i .reply; store = e i .store })
 
 pub load-row : (cards : List Card) (number : ℕ) (bytes : List ℕ) (r : Loaded) → let t = takenFrom cards number in let n = cellsFor (t .card .size) in
     r .k ≡ loadIn (t .bad) (t .draws) (t .place) (t .card) (loadNumber n bytes) (loaded n (t .card) bytes)
     → r .card ≡ cond (eqb (r .k) 0) (loaded n (t .card) bytes) (t .card)
-    → (r .k ≡ rowLoadNumber cellCount cards number bytes) × (set (lookedRow lookOrder cards) (number - 1) (r .card) ≡ loadedRow cellCount cards number bytes)
+    → (r .k ≡ rowLoadNumber cellCount cards number bytes) × (set (takenRow cards number) (number - 1) (r .card) ≡ loadedRow cellCount cards number bytes)
 unfolding loadedRow
 load-row cards number bytes r number-said card-said =
     let t = takenFrom cards number in
     let n = cellsFor (t .card .size) in
     let k = number-said ∙ load-does cards number bytes in
     let card = card-said ∙ ap (λ (m : ℕ). cond (eqb m 0) (loaded n (t .card) bytes) (t .card)) k ∙ load-card cards number bytes in
-    (k, λ i. set (looked-row cards i) (number - 1) (card i))
+    (k, set-set (lookedRow lookOrder cards) (number - 1) (startCard cellCount) (r .card) ∙ (λ i. set (looked-row cards i) (number - 1) (card i)))

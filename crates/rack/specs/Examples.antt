@@ -85,13 +85,24 @@ fronts trigger =
     encode configWidth trigger (replicate cellCount freshCell)
     (replicate 8 (record { kind = 2; source = 0 }) ++ replicate 8 (record { kind = 0; source = 0 }))
 
+-- a record with all front connectors open-drain and all of the backplane push-pull: none of them draws
+drains : List ℕ
+drains =
+    encode configWidth 0 (replicate cellCount freshCell)
+    (replicate 8 (record { kind = 1; source = 0 }) ++ replicate 8 (record { kind = 2; source = 0 }))
+
+-- the record of a started card
+startRecord : List ℕ
+startRecord = encode configWidth 0 (replicate cellCount freshCell) (replicate 16 (record { kind = 0; source = 0 }))
+
 -- ---- the supply
 
--- "the sum over the cards of the larger of 4 and the card's push-pull front connectors is then at most 16": three cards with 8, 1 and 0 draw 16. Then five on
--- the second are one too many; 13 and 15 come before that
+-- "the sum over the cards of the larger of 4 and the card's push-pull front connectors is then at most 16": three cards with 8, 1 and 0 draw 16, whatever is
+-- open-drain or on the backplane. Then five on the second are one too many; 13 and 15 come before that
 supplySession : List (RackCall × RackReply)
 supplySession =
-    (lineTo 1 "36CCA X=19", accepted)
+    (Calls.RackCall.load 3 drains, numberReply 0)
+    ∷ (lineTo 1 "36CCA X=19", accepted)
     ∷ (lineTo 2 "36CCA X=24", accepted)
     ∷ (lineTo 2 "36CCA X=5", refused 19 ":N-19\r\n")
     ∷ (lineTo 2 "M E=37", accepted)
@@ -150,6 +161,37 @@ driverSession =
     ∷ (lineTo 1 "36RDADC Y?", said ":A 254\r\n")
     ∷ []
 
+-- "one backplane sample" for all, and for each card its own front, each with its attached bits: BNC2 of card 1, BNC3 of card 2 and, of the backplane, TTL1 and
+-- TTL3 to TTL7 are high. Card 1 drives TTL0 high, push-pull, and it is low, for the sample is; then it drives it low, and card 2 sees it. A start of such a row
+apartSession : List (RackCall × RackReply)
+apartSession =
+    (lineTo 1 "M E=41", accepted)
+    ∷ (lineTo 1 "36CCA Y=2", accepted)
+    ∷ (lineTo 1 "36CCA Z=64", accepted)
+    ∷ (
+      Calls.RackCall.tick false (record {
+        code = 0;
+        sample = 0xf8;
+        attached = 0xfd;
+        count = 2;
+        fronts = record { sample = 0x03; attached = 0xfe } ∷ record { sample = 0x0c; attached = 0xf7 } ∷ replicate 2 (record { sample = 0xff; attached = 0xff });
+      }),
+      ticked (ran 0x0100 ∷ ran 0 ∷ []),
+    )
+    ∷ (lineTo 1 "36RDADC X?", said ":A 2\r\n")
+    ∷ (lineTo 2 "36RDADC X?", said ":A 4\r\n")
+    ∷ (lineTo 1 "36RDADC Y?", said ":A 250\r\n")
+    ∷ (lineTo 2 "36RDADC Y?", said ":A 250\r\n")
+    ∷ (lineTo 1 "36CCA Z=0", accepted)
+    ∷ (tickOf 0, ticked (ran 0 ∷ ran 0 ∷ []))
+    ∷ (lineTo 2 "36RDADC Y?", said ":A 254\r\n")
+    ∷ (lineTo 1 "PM E=1", accepted)
+    ∷ (Calls.RackCall.start, numberReply 0)
+    ∷ (lineTo 1 "W E", said ":A 1\r\n")
+    ∷ (lineTo 1 "36RDADC Y?", said ":A 0\r\n")
+    ∷ (Calls.RackCall.line 1 (bytesOf "36SS Z") (replicate shortestReply 0) (replicate 308 0), lineReply 0 (bytesOf ":A\r\n") startRecord)
+    ∷ []
+
 -- ---- what is no rack
 
 noRackRows : List (List RackReply × List RackReply)
@@ -170,7 +212,7 @@ abbrev told : List (RackCall × RackReply) → List RackReply
 told session = map (λ (e : RackCall × RackReply). e .1) session
 
 supply-session : answers cellCount (startRow cellCount 3) (asked supplySession) ≡ told supplySession
-unfolding supplySession presetCell presetSource setsFront preset bytesOf ones onesIn withBit wordOf bitAt listed valueBy isDigit digitsOf leads plain numberIn numberAt decimalFrom decimal rowOf slotsOf taken raised workAs workOut stirredAs stirred disagree wakes levelAt readsLevels reads slotsRead mixed view effectiveSample linesOf move setTrigger home currentCell currentConnector putCell putConnectors typed setType configuredState configured setConfig statedAs stated setState wired setSlots setConnectorType setSource configShown stateAs presetTable settingOf offered readNow readLast named turnAt outputsBelow turned tick permittedBase badPlace badCellType badConnectorType badClock badConfig unusedSlot badAddress noConfig badStateAs badState noState frontDriven validSlot validSlots validCell validConnector every valid bigEndian cellField connectorField fieldsFrom encode bigValue cellIn connectorIn normalCell recordOf sameBytes loadNumberAs loadedAs loadNumber loaded isWord isWhole toEnd slotOf gave give pairRead pairsOf writeOf ccaWrite ccaRead ccaForm slotForm ccbForm readOf readForm cardForm plainForm addressed parse alone refusal slotIndex changed changeFor responseTo decision decisionFor lineDecision lineOutcome replyOf kindAt sourceAt withKind withSource each fromEach wellFormed drivenWord levelsFrom pulledWord countOf pulls sharedLevels sharedTick pushes draw sameKinds sumOf over anyLarge startNumber startedRow lowLines ticksFrom tickNumber tickedRow rowAnswers rowOutcome linedRow rowLoadNumber loadedRow rowReply rowSaved afterCall answer answersOf lineTo accepted said refused tickOf ran ticked fronts
+unfolding supplySession presetCell presetSource setsFront preset bytesOf ones onesIn withBit wordOf bitAt listed valueBy isDigit digitsOf leads plain numberIn numberAt decimalFrom decimal rowOf slotsOf taken raised workAs workOut stirredAs stirred disagree wakes levelAt readsLevels reads slotsRead mixed view effectiveSample linesOf move setTrigger home currentCell currentConnector putCell putConnectors typed setType configuredState configured setConfig statedAs stated setState wired setSlots setConnectorType setSource configShown stateAs presetTable settingOf offered readNow readLast named turnAt outputsBelow turned tick permittedBase badPlace badCellType badConnectorType badClock badConfig unusedSlot badAddress noConfig badStateAs badState noState frontDriven validSlot validSlots validCell validConnector every valid bigEndian cellField connectorField fieldsFrom encode bigValue cellIn connectorIn normalCell recordOf sameBytes loadNumberAs loadedAs loadNumber loaded isWord isWhole toEnd slotOf gave give pairRead pairsOf writeOf ccaWrite ccaRead ccaForm slotForm ccbForm readOf readForm cardForm plainForm addressed parse alone refusal slotIndex changed changeFor responseTo decision decisionFor lineDecision lineOutcome replyOf kindAt sourceAt withKind withSource each fromEach wellFormed drivenWord levelsFrom pulledWord countOf pulls sharedLevels sharedTick pushes draw sameKinds sumOf over anyLarge startNumber startedRow lowLines ticksFrom tickNumber tickedRow rowAnswers rowOutcome linedRow rowLoadNumber loadedRow rowReply rowSaved afterCall answer answersOf drains lineTo accepted said refused tickOf ran ticked fronts
 supply-session = refl
 
 over-session : answers cellCount (replicate 3 (freshOf cellCount)) (asked overSession) ≡ told overSession
@@ -184,6 +226,10 @@ idle-session = refl
 driver-session : answers cellCount (startRow cellCount 2) (asked driverSession) ≡ told driverSession
 unfolding driverSession bytesOf ones onesIn withBit wordOf bitAt listed valueBy isDigit digitsOf leads plain numberIn numberAt decimalFrom decimal rowOf slotsOf taken raised workAs workOut stirredAs stirred disagree wakes levelAt readsLevels reads slotsRead mixed view effectiveSample linesOf move setTrigger home currentCell currentConnector putCell putConnectors typed setType configuredState configured setConfig statedAs stated setState wired setSlots setConnectorType setSource configShown stateAs presetTable settingOf offered readNow readLast named turnAt outputsBelow turned tick permittedBase badPlace badCellType badConnectorType badClock badConfig unusedSlot badAddress noConfig badStateAs badState noState frontDriven validSlot validSlots validCell validConnector every valid bigEndian cellField connectorField fieldsFrom encode bigValue cellIn connectorIn normalCell recordOf sameBytes loadNumberAs loadedAs loadNumber loaded isWord isWhole toEnd slotOf gave give pairRead pairsOf writeOf ccaWrite ccaRead ccaForm slotForm ccbForm readOf readForm cardForm plainForm addressed parse alone refusal slotIndex changed changeFor responseTo decision decisionFor lineDecision lineOutcome replyOf kindAt sourceAt withKind withSource each fromEach wellFormed drivenWord levelsFrom pulledWord countOf pulls sharedLevels sharedTick pushes draw sameKinds sumOf over anyLarge startNumber startedRow lowLines ticksFrom tickNumber tickedRow rowAnswers rowOutcome linedRow rowLoadNumber loadedRow rowReply rowSaved afterCall answer answersOf lineTo accepted said refused tickOf ran ticked fronts
 driver-session = refl
+
+apart-session : answers cellCount (startRow cellCount 2) (asked apartSession) ≡ told apartSession
+unfolding apartSession bytesOf ones onesIn withBit wordOf bitAt listed valueBy isDigit digitsOf leads plain numberIn numberAt decimalFrom decimal rowOf slotsOf taken raised workAs workOut stirredAs stirred disagree wakes levelAt readsLevels reads slotsRead mixed view effectiveSample linesOf move setTrigger home currentCell currentConnector putCell putConnectors typed setType configuredState configured setConfig statedAs stated setState wired setSlots setConnectorType setSource configShown stateAs presetTable settingOf offered readNow readLast named turnAt outputsBelow turned tick permittedBase badPlace badCellType badConnectorType badClock badConfig unusedSlot badAddress noConfig badStateAs badState noState frontDriven validSlot validSlots validCell validConnector every valid bigEndian cellField connectorField fieldsFrom encode bigValue cellIn connectorIn normalCell recordOf sameBytes loadNumberAs loadedAs loadNumber loaded isWord isWhole toEnd slotOf gave give pairRead pairsOf writeOf ccaWrite ccaRead ccaForm slotForm ccbForm readOf readForm cardForm plainForm addressed parse alone refusal slotIndex changed changeFor responseTo decision decisionFor lineDecision lineOutcome replyOf kindAt sourceAt withKind withSource each fromEach wellFormed drivenWord levelsFrom pulledWord countOf pulls sharedLevels sharedTick pushes draw sameKinds sumOf over anyLarge startNumber startedRow lowLines ticksFrom tickNumber tickedRow rowAnswers rowOutcome linedRow rowLoadNumber loadedRow rowReply rowSaved afterCall answer answersOf startRecord lineTo accepted said refused tickOf ran ticked fronts
+apart-session = refl
 
 no-racks : map (λ (e : List RackReply × List RackReply). e .0) noRackRows ≡ map (λ (e : List RackReply × List RackReply). e .1) noRackRows
 unfolding noRackRows bytesOf ones onesIn withBit wordOf bitAt listed valueBy isDigit digitsOf leads plain numberIn numberAt decimalFrom decimal rowOf slotsOf taken raised workAs workOut stirredAs stirred disagree wakes levelAt readsLevels reads slotsRead mixed view effectiveSample linesOf move setTrigger home currentCell currentConnector putCell putConnectors typed setType configuredState configured setConfig statedAs stated setState wired setSlots setConnectorType setSource configShown stateAs presetTable settingOf offered readNow readLast named turnAt outputsBelow turned tick permittedBase badPlace badCellType badConnectorType badClock badConfig unusedSlot badAddress noConfig badStateAs badState noState frontDriven validSlot validSlots validCell validConnector every valid bigEndian cellField connectorField fieldsFrom encode bigValue cellIn connectorIn normalCell recordOf sameBytes loadNumberAs loadedAs loadNumber loaded isWord isWhole toEnd slotOf gave give pairRead pairsOf writeOf ccaWrite ccaRead ccaForm slotForm ccbForm readOf readForm cardForm plainForm addressed parse alone refusal slotIndex changed changeFor responseTo decision decisionFor lineDecision lineOutcome replyOf kindAt sourceAt withKind withSource each fromEach wellFormed drivenWord levelsFrom pulledWord countOf pulls sharedLevels sharedTick pushes draw sameKinds sumOf over anyLarge startNumber startedRow lowLines ticksFrom tickNumber tickedRow rowAnswers rowOutcome linedRow rowLoadNumber loadedRow rowReply rowSaved afterCall answer answersOf lineTo accepted said refused tickOf ran ticked fronts

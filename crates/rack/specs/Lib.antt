@@ -5,5 +5,7 @@ pub mod Rack
 pub mod Calls
 pub mod Demand3
 pub mod Alone
+pub mod Cards
 pub mod Visit
+pub mod Held
 pub mod Examples

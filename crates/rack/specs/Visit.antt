@@ -190,6 +190,10 @@ takenBy p number c =
 abbrev pub takenFrom : List Card → ℕ → Taken
 takenFrom cards number = takenBy (lookedOver lookOrder cards) number (getD (lookedRow lookOrder cards) (number - 1) (startCard cellCount))
 
+-- and the row then: a started card stands in its place
+abbrev pub takenRow : List Card → ℕ → List Card
+takenRow cards number = set (lookedRow lookOrder cards) (number - 1) (startCard cellCount)
+
 -- ---- what a call gives
 
 abbrev pub answersOf : Pass → RackTicked

@@ -16,7 +16,7 @@ use crate::pass::RackTicked;
 use crate::pass::start_order;
 use crate::pass::tick_order;
 use crate::row::passes;
-use crate::row::put_at;
+use crate::row::swap_at;
 use crate::row::take;
 use card::card::Card;
 
@@ -56,7 +56,7 @@ pub extern "C" fn rack_line(
     let a = line_in(t, text, reply, store);
     let i = place_of(number);
     let c = a.card;
-    put_at(row, i, c);
+    swap_at(row, i, c);
     reply_of(a)
 }
 
@@ -69,6 +69,6 @@ pub extern "C" fn rack_load(row: &mut [Card], number: usize, bytes: &[u8]) -> u8
     let r = load_in(t, bytes);
     let i = place_of(number);
     let c = r.card;
-    put_at(row, i, c);
+    swap_at(row, i, c);
     r.k
 }

@@ -1,7 +1,7 @@
 // A lent row of cards, each read and changed where it sits. Proved by a walk of the code.
 ghost use mathlib.Core.Path.{_≡_};
 ghost use lib.ListN.{getD, set};
-ghost use Rattle.rack.specs.Visit.{afterRow, visitedRow, actedOver, actedRow, lookedRow, lookOrder, takenFrom};
+ghost use Rattle.rack.specs.Visit.{afterRow, visitedRow, actedOver, actedRow, takenFrom, takenRow};
 use crate::job::Taken;
 use crate::job::place_of;
 use crate::job::taken_by;
@@ -28,19 +28,16 @@ pub fn each(row: &mut [Card], pass: Pass) -> Pass
     p
 }
 
-// The card at place i of the row, or the other where there is no such place.
-pub fn card_at(row: &mut [Card], i: usize, other: Card) -> Card
-    ensures { λ r. ⌜ (r ≡ getD (now (row .entry)) i other) × (now (row .exit) ≡ now (row .entry)) ⌝ }
-{
-    if i < row.len() { row[i] } else { other }
-}
-
-// Puts a card at place i of the row, where there is such a place.
-pub fn put_at(row: &mut [Card], i: usize, card: Card)
-    ensures { λ _. ⌜ now (row .exit) ≡ set (now (row .entry)) i card ⌝ }
+// Puts a card at place i of the row, and gives what stood there; where there is no such place, the card itself.
+pub fn swap_at(row: &mut [Card], i: usize, card: Card) -> Card
+    ensures { λ r. ⌜ (r ≡ getD (now (row .entry)) i card) × (now (row .exit) ≡ set (now (row .entry)) i card) ⌝ }
 {
     if i < row.len() {
+        let was = row[i];
         row[i] = card;
+        was
+    } else {
+        card
     }
 }
 
@@ -55,9 +52,9 @@ pub fn passes(row: &mut [Card], order: Pass) -> Pass
     each(row, s)
 }
 
-// The card of a number, with what the cards of the row draw.
+// The card of a number, with what the cards of the row draw. A started card stands in its place until it is put back.
 pub fn take(row: &mut [Card], number: usize) -> Taken
-    ensures { λ t. ⌜ (t ≡ takenFrom (now (row .entry)) number) × (now (row .exit) ≡ lookedRow lookOrder (now (row .entry))) ⌝ }
+    ensures { λ t. ⌜ (t ≡ takenFrom (now (row .entry)) number) × (now (row .exit) ≡ takenRow (now (row .entry)) number) ⌝ }
 {
     let n = row.len();
     let o = look_order();
@@ -65,6 +62,6 @@ pub fn take(row: &mut [Card], number: usize) -> Taken
     let q = each(row, p);
     let i = place_of(number);
     let other = start_card();
-    let c = card_at(row, i, other);
+    let c = swap_at(row, i, other);
     taken_by(q, number, c)
 }
