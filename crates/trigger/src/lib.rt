@@ -12,6 +12,7 @@ ghost use Rattle.convert.specs.Convert.{convertNumber, convertLength, converted
 ghost use Rattle.lines.specs.Line.{shortestReply, lineResult, resultOf};
 ghost use Rattle.printed.specs.Print.{printNumber, printLength, printedTo};
 ghost use Rattle.survey.specs.Survey.{Survey};
+ghost use Rattle.steady.specs.Steady.{steadyFor, advanced};
 use card::card::Card;
 use card::limits::LARGE;
 use card::limits::Number;
@@ -20,6 +21,7 @@ use convert::Converted;
 use lines::line::Answered;
 use printed::print::Printed;
 use saved::record::Loaded;
+use steady::Advanced;
 use survey::Surveyed;
 use ticks::tick::Ticked;
 use ticks::view::Input;
@@ -63,6 +65,23 @@ pub extern "C" fn trigger_at_rest(card: Card, input: Input) -> bool
     ensures { λ q. ⌜ Decides q (AtRest (cellsFor (card .size)) card input) ⌝ }
 {
     ticks::rest::at_rest(card, input)
+}
+
+// For how many quick ticks with the input nothing but counts changes, that are the counts of cells, the tallies and the tick total, and no count comes to its
+// end. A processor may sleep so long, or until an input changes, and then make the ticks at once.
+#[no_mangle]
+pub extern "C" fn trigger_steady_for(card: Card, input: Input) -> u32
+    ensures { λ r. ⌜ r ≡ steadyFor (cellsFor (card .size)) card input ⌝ }
+{
+    steady::steady_for(card, input)
+}
+
+// Up to k quick ticks with one input at once: one, and more as long as nothing but counts changes. The card and the answer are those of so many quick ticks.
+#[no_mangle]
+pub extern "C" fn trigger_advance(card: Card, input: Input, k: u32) -> Advanced
+    ensures { λ a. ⌜ a ≡ advanced (cellsFor (card .size)) card input k ⌝ }
+{
+    steady::advance(card, input, k)
 }
 
 // A load of any bytes: the card powers up with them, and a refused load leaves it as it was.

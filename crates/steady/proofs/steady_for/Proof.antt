@@ -1,0 +1,34 @@
+use borrow.Author.Needs.{needs}
+use Prim.Native.Nat.{ℕ}
+use mathlib.Core.Path.{ap₂, _∙_}
+use Rattle.ticks.specs.declared.tick.Ticked.{Ticked}
+use Rattle.steady.specs.Steady.{steadyFrom, steadyFor}
+use Rattle.steady.proofs.steady_for.Statement.{statement}
+use Rattle.steady.proofs.steady_for.Tie as tie
+use Rattle.steady.proofs.steady_for.Reads as reads
+use Rattle.steady.proofs.steady_for.Lts as lts
+use Rattle.card.proofs.place.cells_for.Reads as cells-for-reads
+use Rattle.steady.proofs.steady_from.Reads as steady-from-reads
+use Rattle.ticks.proofs.tick.quick_tick.Reads as quick-tick-reads
+
+cells-for-requires : tie.Need-cells-for-requires
+cells-for-requires c κs = search needs
+
+quick-tick-requires : tie.Need-quick-tick-requires
+quick-tick-requires c κs = search needs
+
+steady-from-requires : tie.Need-steady-from-requires
+steady-from-requires c κs = search needs
+
+returns : tie.Need-returns
+unfolding steadyFor
+returns c =
+    let q = c .before .before in
+    let z = q .before in
+    let a = z .before .args in
+    c .steady-from .ensures
+    ∙ ap₂ (λ (n : ℕ) (t : Ticked). steadyFrom n (a .card) (t .card)) (z .cells-for .ensures .0) (q .quick-tick .ensures)
+
+pub steady-for-spec : {M : Type 1} → statement M
+steady-for-spec =
+    tie.close (tie.spec cells-for-requires quick-tick-requires steady-from-requires returns)
