@@ -1,6 +1,12 @@
 pub mod Admitted
 pub mod Below
 pub mod Held
+pub mod Caps
+pub mod Choices
 pub mod Steps
 pub mod Leading
+pub mod Asks
+pub mod Monitor
 pub mod Lists
+pub mod Readings
+pub mod Spread

@@ -4,4 +4,5 @@ pub mod Rows
 pub mod Certificate
 pub mod Never
 pub mod Witness
+pub mod Beside
 pub mod Examples
