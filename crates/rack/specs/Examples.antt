@@ -28,21 +28,25 @@ use lib.ListN.{replicate}
 use Rattle.words.specs.Bits.{countOf}
 use Rattle.cells.specs.Wake.{stirredAs, stirred, disagree, wakes}
 use Rattle.card.specs.Address.{cellCount, cellRoom}
+use Rattle.card.specs.declared.card.Card.{Card}
 use Rattle.card.specs.Fresh.{freshCell, freshOf}
+use Rattle.card.specs.Tally.{counted, talliedBy}
 use Rattle.ticks.specs.declared.tick.Answer.{Answer}
+use Rattle.ticks.specs.Rest.{totalOf}
 use Rattle.ticks.specs.Reading.{levelAt, readsLevels, reads, slotsRead, mixed, view}
 use Rattle.ticks.specs.Levels.{effectiveSample, drivenWord, pulledWord, levelsFrom, linesOf}
 use Rattle.saved.specs.Record.{configWidth, bigEndian, cellField, connectorField, fieldsFrom, encode, bigValue, cellIn, connectorIn, normalCell}
 use Rattle.saved.specs.Record.{recordOf, sameBytes}
 use Rattle.saved.specs.Record.{loadNumberAs, loadedAs, loadNumber, loaded}
 use Rattle.lines.specs.Line.{shortestReply, slotIndex, changeFor, responseTo, decision, decisionFor, lineDecision, lineOutcome, replyOf}
-use Rattle.calls.specs.Runs.{answersOf}
+use Rattle.calls.specs.Runs.{endOf, answersOf}
+use Rattle.rack.specs.declared.pass.Front.{Front}
 use Rattle.rack.specs.Shared.{pulls, sharedLevels, sharedTick}
 use Rattle.rack.specs.Supply.{pushes, draw, sameKinds, sumOf, over}
 use Rattle.rack.specs.Rack.{anyLarge, startCard, startNumber, startedRow, lowLines, ticksFrom, tickNumber, tickedRow, idleAnswer, rowAnswers}
 use Rattle.rack.specs.Rack.{rowOutcome, linedRow, rowLoadNumber, loadedRow}
 use Rattle.rack.specs.Calls
-use Rattle.rack.specs.Calls.{RackCall, RackReply, rowReply, rowSaved, afterCall, answer, answers}
+use Rattle.rack.specs.Calls.{RackCall, RackReply, rowReply, rowSaved, afterCall, answer, end, answers}
 use Rattle.rack.specs.Calls.RackReply.{numberReply, lineReply, tickReply}
 use Rattle.rack.specs.Demand3.{startRow}
 
@@ -61,176 +65,226 @@ said text = lineReply 0 (bytesOf text) []
 refused : ℕ → String → RackReply
 refused k text = lineReply k (bytesOf text) []
 
--- a quick tick of a clock for two cards, with the backplane sampled high, the fronts low, and everything attached
+-- a quick tick of a clock: the backplane with what is attached there, and the fronts
+tickOn : (code sample attached count : ℕ) → List Front → RackCall
+tickOn code sample attached count fronts =
+    Calls.RackCall.tick false (record { code = code; sample = sample; attached = attached; count = count; fronts = fronts })
+
+-- for two cards, with the backplane sampled high, the fronts low, and everything attached
 tickOf : ℕ → RackCall
-tickOf code =
-    Calls.RackCall.tick false (record {
-      code = code;
-      sample = 0xff;
-      attached = 0xff;
-      count = 2;
-      fronts = replicate 4 (record { sample = 0; attached = 0xff });
-    })
+tickOf code = tickOn code 0xff 0xff 2 (replicate 4 (record { sample = 0; attached = 0xff }))
 
 -- a card that ran, with nothing woken
 ran : ℕ → Answer
 ran driven = record { ran = true; driven = driven; cells = 0; woken = 0; count = 0 }
 
 ticked : List Answer → RackReply
-ticked answers = tickReply (record { k = 0; answers = answers ++ replicate 2 idleAnswer })
+ticked answers = tickReply (record { k = 0; answers = answers })
 
--- a record with the front all push-pull, and with this trigger
-fronts : ℕ → List ℕ
-fronts trigger =
+-- the answers of two cards, and nothing of the two that are not there
+pair : Answer → Answer → RackReply
+pair one two = ticked (one ∷ two ∷ replicate 2 idleAnswer)
+
+-- a record of constants 0 with this trigger, the eight front connectors of one type and the eight of the backplane of another, all from 0
+recordWith : (trigger front back : ℕ) → List ℕ
+recordWith trigger front back =
     encode configWidth trigger (replicate cellCount freshCell)
-    (replicate 8 (record { kind = 2; source = 0 }) ++ replicate 8 (record { kind = 0; source = 0 }))
+    (replicate 8 (record { kind = front; source = 0 }) ++ replicate 8 (record { kind = back; source = 0 }))
 
--- a record with all front connectors open-drain and all of the backplane push-pull: none of them draws
-drains : List ℕ
-drains =
-    encode configWidth 0 (replicate cellCount freshCell)
-    (replicate 8 (record { kind = 1; source = 0 }) ++ replicate 8 (record { kind = 2; source = 0 }))
-
--- the record of a started card
-startRecord : List ℕ
-startRecord = encode configWidth 0 (replicate cellCount freshCell) (replicate 16 (record { kind = 0; source = 0 }))
+-- a row, the calls on it, and what each answers
+pub record Session : Type 0 where
+  pub row : List Card
+  pub calls : List (RackCall × RackReply)
 
 -- ---- the supply
 
 -- "the sum over the cards of the larger of 4 and the card's push-pull front connectors is then at most 16": three cards with 8, 1 and 0 draw 16, whatever is
 -- open-drain or on the backplane. Then five on the second are one too many; 13 and 15 come before that
-supplySession : List (RackCall × RackReply)
-supplySession =
-    (Calls.RackCall.load 3 drains, numberReply 0)
-    ∷ (lineTo 1 "36CCA X=19", accepted)
-    ∷ (lineTo 2 "36CCA X=24", accepted)
-    ∷ (lineTo 2 "36CCA X=5", refused 19 ":N-19\r\n")
-    ∷ (lineTo 2 "M E=37", accepted)
-    ∷ (lineTo 2 "36CCA Y?", said ":A 0\r\n")
-    ∷ (lineTo 1 "36CCA X=19", accepted)
-    ∷ (Calls.RackCall.load 2 (fronts 0), numberReply 19)
-    ∷ (Calls.RackCall.load 2 (fronts 9), numberReply 15)
-    ∷ (lineTo 2 "PM E=4", accepted)
-    ∷ (lineTo 2 "36CCA X=19", refused 13 ":N-13\r\n")
-    ∷ []
+supplySession : Session
+supplySession = record {
+  row = startRow cellCount 3;
+  calls =
+      (Calls.RackCall.load 3 (recordWith 0 1 2), numberReply 0)
+      ∷ (lineTo 1 "36CCA X=19", accepted)
+      ∷ (lineTo 2 "36CCA X=24", accepted)
+      ∷ (lineTo 2 "36CCA X=5", refused 19 ":N-19\r\n")
+      ∷ (lineTo 2 "M E=37", accepted)
+      ∷ (lineTo 2 "36CCA Y?", said ":A 0\r\n")
+      ∷ (lineTo 1 "36CCA X=19", accepted)
+      ∷ (Calls.RackCall.load 2 (recordWith 0 2 0), numberReply 19)
+      ∷ (Calls.RackCall.load 2 (recordWith 9 2 0), numberReply 15)
+      ∷ (lineTo 2 "PM E=4", accepted)
+      ∷ (lineTo 2 "36CCA X=19", refused 13 ":N-13\r\n")
+      ∷ [];
+}
 
 -- on a row that draws too much already, three fresh cards with 24: what changes no front type is free, a preset on connectors that are push-pull already too;
 -- a change that leaves the row over 16 is refused, open-drain and `PM E=4` among them
-overSession : List (RackCall × RackReply)
-overSession =
-    (lineTo 1 "M E=33", accepted)
-    ∷ (lineTo 1 "36CCA Z=64", accepted)
-    ∷ (lineTo 1 "36CCA X=19", accepted)
-    ∷ (lineTo 1 "36CCA Y=1", refused 19 ":N-19\r\n")
-    ∷ (lineTo 1 "PM E=4", refused 19 ":N-19\r\n")
-    ∷ (lineTo 1 "PM E=3", accepted)
-    ∷ []
+overSession : Session
+overSession = record {
+  row = replicate 3 (freshOf cellCount);
+  calls =
+      (lineTo 1 "M E=33", accepted)
+      ∷ (lineTo 1 "36CCA Z=64", accepted)
+      ∷ (lineTo 1 "36CCA X=19", accepted)
+      ∷ (lineTo 1 "36CCA Y=1", refused 19 ":N-19\r\n")
+      ∷ (lineTo 1 "PM E=4", refused 19 ":N-19\r\n")
+      ∷ (lineTo 1 "PM E=3", accepted)
+      ∷ [];
+}
+
+-- "a lent row of 1 to 4 cards": four take a start, a load of open-drain fronts, four push-pull ones on the last and no fifth, and a tick with a front for each
+fourSession : Session
+fourSession = record {
+  row = startRow cellCount 4;
+  calls =
+      (Calls.RackCall.start, numberReply 0)
+      ∷ (Calls.RackCall.load 2 (recordWith 0 1 0), numberReply 0)
+      ∷ (lineTo 4 "36CCA X=31", accepted)
+      ∷ (lineTo 4 "36CCA X=24", refused 19 ":N-19\r\n")
+      ∷ (
+        tickOn 0 0xff 0xff 4 (replicate 4 (record { sample = 0x80; attached = 0xff })),
+        ticked (
+            ran 0 ∷ record { ran = true; driven = 0; cells = 0; woken = 0xffff; count = 16 } ∷ ran 0
+            ∷ record { ran = true; driven = 0; cells = 0; woken = 0x0060; count = 2 } ∷ []),
+      )
+      ∷ (lineTo 3 "36RDADC X?", said ":A 128\r\n")
+      ∷ [];
+}
 
 -- ---- who pulls a line low
 
 -- card 1 has TTL0 open-drain from 0: both cards see it low. It idles and its connector becomes an input: it goes on pulling, until it runs again
-idleSession : List (RackCall × RackReply)
-idleSession =
-    (lineTo 1 "M E=41", accepted)
-    ∷ (lineTo 1 "36CCA Y=1", accepted)
-    ∷ (tickOf 0, ticked (ran 0 ∷ ran 0 ∷ []))
-    ∷ (lineTo 2 "36RDADC Y?", said ":A 254\r\n")
-    ∷ (lineTo 1 "PM E=1", accepted)
-    ∷ (lineTo 1 "36CCA Y=0", accepted)
-    ∷ (tickOf 0, ticked (idleAnswer ∷ ran 0 ∷ []))
-    ∷ (lineTo 2 "36RDADC Y?", said ":A 254\r\n")
-    ∷ (tickOf 1, ticked (ran 0 ∷ idleAnswer ∷ []))
-    ∷ (lineTo 1 "36RDADC Y?", said ":A 255\r\n")
-    ∷ (tickOf 0, ticked (idleAnswer ∷ ran 0 ∷ []))
-    ∷ (lineTo 2 "36RDADC Y?", said ":A 255\r\n")
-    ∷ []
+idleSession : Session
+idleSession = record {
+  row = startRow cellCount 2;
+  calls =
+      (lineTo 1 "M E=41", accepted)
+      ∷ (lineTo 1 "36CCA Y=1", accepted)
+      ∷ (tickOf 0, pair (ran 0) (ran 0))
+      ∷ (lineTo 2 "36RDADC Y?", said ":A 254\r\n")
+      ∷ (lineTo 1 "PM E=1", accepted)
+      ∷ (lineTo 1 "36CCA Y=0", accepted)
+      ∷ (tickOf 0, pair idleAnswer (ran 0))
+      ∷ (lineTo 2 "36RDADC Y?", said ":A 254\r\n")
+      ∷ (tickOf 1, pair (ran 0) idleAnswer)
+      ∷ (lineTo 1 "36RDADC Y?", said ":A 255\r\n")
+      ∷ (tickOf 0, pair idleAnswer (ran 0))
+      ∷ (lineTo 2 "36RDADC Y?", said ":A 255\r\n")
+      ∷ [];
+}
 
 -- "before its first tick it drives nothing"; "push-pull there counts as open-drain": card 1 drives TTL0 high and card 2 low, and it is low for both
-driverSession : List (RackCall × RackReply)
-driverSession =
-    (lineTo 2 "M E=41", accepted)
-    ∷ (lineTo 2 "36CCA Y=1", accepted)
-    ∷ (lineTo 2 "PM E=1", accepted)
-    ∷ (lineTo 1 "M E=41", accepted)
-    ∷ (lineTo 1 "36CCA Y=2", accepted)
-    ∷ (lineTo 1 "36CCA Z=64", accepted)
-    ∷ (tickOf 0, ticked (ran 0x0100 ∷ idleAnswer ∷ []))
-    ∷ (lineTo 1 "36RDADC Y?", said ":A 255\r\n")
-    ∷ (tickOf 1, ticked (idleAnswer ∷ ran 0 ∷ []))
-    ∷ (tickOf 0, ticked (ran 0x0100 ∷ idleAnswer ∷ []))
-    ∷ (lineTo 1 "36RDADC Y?", said ":A 254\r\n")
-    ∷ []
+driverSession : Session
+driverSession = record {
+  row = startRow cellCount 2;
+  calls =
+      (lineTo 2 "M E=41", accepted)
+      ∷ (lineTo 2 "36CCA Y=1", accepted)
+      ∷ (lineTo 2 "PM E=1", accepted)
+      ∷ (lineTo 1 "M E=41", accepted)
+      ∷ (lineTo 1 "36CCA Y=2", accepted)
+      ∷ (lineTo 1 "36CCA Z=64", accepted)
+      ∷ (tickOf 0, pair (ran 0x0100) idleAnswer)
+      ∷ (lineTo 1 "36RDADC Y?", said ":A 255\r\n")
+      ∷ (tickOf 1, pair idleAnswer (ran 0))
+      ∷ (tickOf 0, pair (ran 0x0100) idleAnswer)
+      ∷ (lineTo 1 "36RDADC Y?", said ":A 254\r\n")
+      ∷ [];
+}
 
 -- "one backplane sample" for all, and for each card its own front, each with its attached bits: BNC2 of card 1, BNC3 of card 2 and, of the backplane, TTL1 and
--- TTL3 to TTL7 are high. Card 1 drives TTL0 high, push-pull, and it is low, for the sample is; then it drives it low, and card 2 sees it. A start of such a row
-apartSession : List (RackCall × RackReply)
-apartSession =
-    (lineTo 1 "M E=41", accepted)
-    ∷ (lineTo 1 "36CCA Y=2", accepted)
-    ∷ (lineTo 1 "36CCA Z=64", accepted)
-    ∷ (
-      Calls.RackCall.tick false (record {
-        code = 0;
-        sample = 0xf8;
-        attached = 0xfd;
-        count = 2;
-        fronts = record { sample = 0x03; attached = 0xfe } ∷ record { sample = 0x0c; attached = 0xf7 } ∷ replicate 2 (record { sample = 0xff; attached = 0xff });
-      }),
-      ticked (ran 0x0100 ∷ ran 0 ∷ []),
-    )
-    ∷ (lineTo 1 "36RDADC X?", said ":A 2\r\n")
-    ∷ (lineTo 2 "36RDADC X?", said ":A 4\r\n")
-    ∷ (lineTo 1 "36RDADC Y?", said ":A 250\r\n")
-    ∷ (lineTo 2 "36RDADC Y?", said ":A 250\r\n")
-    ∷ (lineTo 1 "36CCA Z=0", accepted)
-    ∷ (tickOf 0, ticked (ran 0 ∷ ran 0 ∷ []))
-    ∷ (lineTo 2 "36RDADC Y?", said ":A 254\r\n")
-    ∷ (lineTo 1 "PM E=1", accepted)
-    ∷ (Calls.RackCall.start, numberReply 0)
-    ∷ (lineTo 1 "W E", said ":A 1\r\n")
-    ∷ (lineTo 1 "36RDADC Y?", said ":A 0\r\n")
-    ∷ (Calls.RackCall.line 1 (bytesOf "36SS Z") (replicate shortestReply 0) (replicate 308 0), lineReply 0 (bytesOf ":A\r\n") startRecord)
-    ∷ []
+-- TTL3 to TTL7 are high. Card 1 drives TTL0 high, push-pull, and it is low, for the sample is; then it drives it low, and card 2 sees it; then both drive it
+-- low, and it is low
+apartSession : Session
+apartSession = record {
+  row = startRow cellCount 2;
+  calls =
+      (lineTo 1 "M E=41", accepted)
+      ∷ (lineTo 1 "36CCA Y=2", accepted)
+      ∷ (lineTo 1 "36CCA Z=64", accepted)
+      ∷ (
+        tickOn 0 0xf8 0xfd 2
+            (record { sample = 0x03; attached = 0xfe } ∷ record { sample = 0x0c; attached = 0xf7 } ∷ replicate 2 (record { sample = 0xff; attached = 0xff })),
+        pair (ran 0x0100) (ran 0),
+      )
+      ∷ (lineTo 1 "36RDADC X?", said ":A 2\r\n")
+      ∷ (lineTo 2 "36RDADC X?", said ":A 4\r\n")
+      ∷ (lineTo 1 "36RDADC Y?", said ":A 250\r\n")
+      ∷ (lineTo 2 "36RDADC Y?", said ":A 250\r\n")
+      ∷ (lineTo 1 "36CCA Z=0", accepted)
+      ∷ (tickOf 0, pair (ran 0) (ran 0))
+      ∷ (lineTo 2 "36RDADC Y?", said ":A 254\r\n")
+      ∷ (lineTo 2 "M E=41", accepted)
+      ∷ (lineTo 2 "36CCA Y=1", accepted)
+      ∷ (tickOf 0, pair (ran 0) (ran 0))
+      ∷ (lineTo 1 "36RDADC Y?", said ":A 254\r\n")
+      ∷ [];
+}
+
+-- ---- what a start leaves
+
+-- "makes every card of the row fresh, but with all front connectors as inputs": pointer, trigger, cells, levels, types, sources, and the record that it saves
+startSession : Session
+startSession = record {
+  row = replicate 2 (freshOf cellCount);
+  calls =
+      (lineTo 2 "36CCA X=19", accepted)
+      ∷ (lineTo 2 "36CCA Y=5", accepted)
+      ∷ (lineTo 2 "M E=40", accepted)
+      ∷ (lineTo 2 "PM E=1", accepted)
+      ∷ (tickOf 1, pair idleAnswer (record { ran = true; driven = 0; cells = 0; woken = 1; count = 1 }))
+      ∷ (Calls.RackCall.start, numberReply 0)
+      ∷ (lineTo 2 "W E", said ":A 1\r\n")
+      ∷ (lineTo 2 "36CCA Y?", said ":A 0\r\n")
+      ∷ (lineTo 2 "36RDADC Y?", said ":A 0\r\n")
+      ∷ (lineTo 2 "36RDADC Z?", said ":A 0\r\n")
+      ∷ (lineTo 2 "M E=40", accepted)
+      ∷ (lineTo 2 "36CCA Y?", said ":A 0\r\n")
+      ∷ (lineTo 2 "36CCA Z?", said ":A 0\r\n")
+      ∷ (Calls.RackCall.line 2 (bytesOf "36SS Z") (replicate shortestReply 0) (replicate 308 0), lineReply 0 (bytesOf ":A\r\n") (recordWith 0 0 0))
+      ∷ (tickOf 0, pair (ran 0) (ran 0))
+      ∷ [];
+}
 
 -- ---- what is no rack
 
-noRackRows : List (List RackReply × List RackReply)
-noRackRows =
-    (answers cellCount [] (Calls.RackCall.start ∷ []), numberReply 20 ∷ [])
-    ∷ (answers cellCount (startRow cellCount 5) (Calls.RackCall.start ∷ []), numberReply 20 ∷ [])
-    ∷ (answers cellCount (startCard cellCount ∷ freshOf cellRoom ∷ []) (Calls.RackCall.start ∷ []), numberReply 20 ∷ [])
-    ∷ (answers cellCount (startRow cellCount 2) (lineTo 0 "W E" ∷ lineTo 3 "W E" ∷ []), refused 20 ":N-20\r\n" ∷ refused 20 ":N-20\r\n" ∷ [])
-    ∷ (answers cellCount (startRow cellCount 2) (Calls.RackCall.line 3 (bytesOf "W E") (replicate 15 0) [] ∷ []), lineReply 20 [] [] ∷ [])
-    ∷ (answers cellCount (startRow cellCount 2) (Calls.RackCall.load 3 [] ∷ Calls.RackCall.load 1 [] ∷ []), numberReply 20 ∷ numberReply 14 ∷ [])
-    ∷ (answers cellCount (startRow cellCount 3) (tickOf 0 ∷ []), tickReply (record { k = 20; answers = replicate 4 idleAnswer }) ∷ [])
+noRackSessions : List Session
+noRackSessions =
+    record { row = []; calls = (Calls.RackCall.start, numberReply 20) ∷ [] }
+    ∷ record { row = startRow cellCount 5; calls = (Calls.RackCall.start, numberReply 20) ∷ [] }
+    ∷ record { row = startCard cellCount ∷ freshOf cellRoom ∷ []; calls = (Calls.RackCall.start, numberReply 20) ∷ [] }
+    ∷ record {
+      row = startRow cellCount 2;
+      calls =
+          (lineTo 0 "W E", refused 20 ":N-20\r\n")
+          ∷ (lineTo 3 "W E", refused 20 ":N-20\r\n")
+          ∷ (Calls.RackCall.line 3 (bytesOf "W E") (replicate 15 0) [], lineReply 20 [] [])
+          ∷ (Calls.RackCall.load 3 [], numberReply 20)
+          ∷ (Calls.RackCall.load 1 [], numberReply 14)
+          ∷ [];
+    }
+    ∷ record { row = startRow cellCount 3; calls = (tickOf 0, tickReply (record { k = 20; answers = replicate 4 idleAnswer })) ∷ [] }
     ∷ []
 
-abbrev asked : List (RackCall × RackReply) → List RackCall
-asked session = map (λ (e : RackCall × RackReply). e .0) session
+sessions : List Session
+sessions = supplySession ∷ overSession ∷ fourSession ∷ idleSession ∷ driverSession ∷ apartSession ∷ startSession ∷ noRackSessions
 
-abbrev told : List (RackCall × RackReply) → List RackReply
-told session = map (λ (e : RackCall × RackReply). e .1) session
+-- ---- tallies
 
-supply-session : answers cellCount (startRow cellCount 3) (asked supplySession) ≡ told supplySession
-unfolding supplySession presetCell presetSource setsFront preset bytesOf ones onesIn withBit wordOf bitAt listed valueBy isDigit digitsOf leads plain numberIn numberAt decimalFrom decimal rowOf slotsOf taken raised workAs workOut stirredAs stirred disagree wakes levelAt readsLevels reads slotsRead mixed view effectiveSample linesOf move setTrigger home currentCell currentConnector putCell putConnectors typed setType configuredState configured setConfig statedAs stated setState wired setSlots setConnectorType setSource configShown stateAs presetTable settingOf offered readNow readLast named turnAt outputsBelow turned tick permittedBase badPlace badCellType badConnectorType badClock badConfig unusedSlot badAddress noConfig badStateAs badState noState frontDriven validSlot validSlots validCell validConnector every valid bigEndian cellField connectorField fieldsFrom encode bigValue cellIn connectorIn normalCell recordOf sameBytes loadNumberAs loadedAs loadNumber loaded isWord isWhole toEnd slotOf gave give pairRead pairsOf writeOf ccaWrite ccaRead ccaForm slotForm ccbForm readOf readForm cardForm plainForm addressed parse alone refusal slotIndex changed changeFor responseTo decision decisionFor lineDecision lineOutcome replyOf kindAt sourceAt withKind withSource each fromEach wellFormed drivenWord levelsFrom pulledWord countOf pulls sharedLevels sharedTick pushes draw sameKinds sumOf over anyLarge startNumber startedRow lowLines ticksFrom tickNumber tickedRow rowAnswers rowOutcome linedRow rowLoadNumber loadedRow rowReply rowSaved afterCall answer answersOf drains lineTo accepted said refused tickOf ran ticked fronts
-supply-session = refl
+-- a rack tick counts; "A load clears them", a start too, and of a row the load of one card leaves the other's
+tallyRows : List (List RackCall × List ℕ)
+tallyRows =
+    (tickOf 0 ∷ tickOf 1 ∷ tickOf 0 ∷ [], 2 ∷ 2 ∷ [])
+    ∷ (tickOf 0 ∷ Calls.RackCall.load 1 (recordWith 0 0 0) ∷ [], 0 ∷ 1 ∷ [])
+    ∷ (tickOf 0 ∷ Calls.RackCall.start ∷ [], 0 ∷ 0 ∷ [])
+    ∷ []
 
-over-session : answers cellCount (replicate 3 (freshOf cellCount)) (asked overSession) ≡ told overSession
-unfolding overSession presetCell presetSource setsFront preset bytesOf ones onesIn withBit wordOf bitAt listed valueBy isDigit digitsOf leads plain numberIn numberAt decimalFrom decimal rowOf slotsOf taken raised workAs workOut stirredAs stirred disagree wakes levelAt readsLevels reads slotsRead mixed view effectiveSample linesOf move setTrigger home currentCell currentConnector putCell putConnectors typed setType configuredState configured setConfig statedAs stated setState wired setSlots setConnectorType setSource configShown stateAs presetTable settingOf offered readNow readLast named turnAt outputsBelow turned tick permittedBase badPlace badCellType badConnectorType badClock badConfig unusedSlot badAddress noConfig badStateAs badState noState frontDriven validSlot validSlots validCell validConnector every valid bigEndian cellField connectorField fieldsFrom encode bigValue cellIn connectorIn normalCell recordOf sameBytes loadNumberAs loadedAs loadNumber loaded isWord isWhole toEnd slotOf gave give pairRead pairsOf writeOf ccaWrite ccaRead ccaForm slotForm ccbForm readOf readForm cardForm plainForm addressed parse alone refusal slotIndex changed changeFor responseTo decision decisionFor lineDecision lineOutcome replyOf kindAt sourceAt withKind withSource each fromEach wellFormed drivenWord levelsFrom pulledWord countOf pulls sharedLevels sharedTick pushes draw sameKinds sumOf over anyLarge startNumber startedRow lowLines ticksFrom tickNumber tickedRow rowAnswers rowOutcome linedRow rowLoadNumber loadedRow rowReply rowSaved afterCall answer answersOf lineTo accepted said refused tickOf ran ticked fronts
-over-session = refl
-
-idle-session : answers cellCount (startRow cellCount 2) (asked idleSession) ≡ told idleSession
-unfolding idleSession bytesOf ones onesIn withBit wordOf bitAt listed valueBy isDigit digitsOf leads plain numberIn numberAt decimalFrom decimal rowOf slotsOf taken raised workAs workOut stirredAs stirred disagree wakes levelAt readsLevels reads slotsRead mixed view effectiveSample linesOf move setTrigger home currentCell currentConnector putCell putConnectors typed setType configuredState configured setConfig statedAs stated setState wired setSlots setConnectorType setSource configShown stateAs presetTable settingOf offered readNow readLast named turnAt outputsBelow turned tick permittedBase badPlace badCellType badConnectorType badClock badConfig unusedSlot badAddress noConfig badStateAs badState noState frontDriven validSlot validSlots validCell validConnector every valid bigEndian cellField connectorField fieldsFrom encode bigValue cellIn connectorIn normalCell recordOf sameBytes loadNumberAs loadedAs loadNumber loaded isWord isWhole toEnd slotOf gave give pairRead pairsOf writeOf ccaWrite ccaRead ccaForm slotForm ccbForm readOf readForm cardForm plainForm addressed parse alone refusal slotIndex changed changeFor responseTo decision decisionFor lineDecision lineOutcome replyOf kindAt sourceAt withKind withSource each fromEach wellFormed drivenWord levelsFrom pulledWord countOf pulls sharedLevels sharedTick pushes draw sameKinds sumOf over anyLarge startNumber startedRow lowLines ticksFrom tickNumber tickedRow rowAnswers rowOutcome linedRow rowLoadNumber loadedRow rowReply rowSaved afterCall answer answersOf lineTo accepted said refused tickOf ran ticked fronts
-idle-session = refl
-
-driver-session : answers cellCount (startRow cellCount 2) (asked driverSession) ≡ told driverSession
-unfolding driverSession bytesOf ones onesIn withBit wordOf bitAt listed valueBy isDigit digitsOf leads plain numberIn numberAt decimalFrom decimal rowOf slotsOf taken raised workAs workOut stirredAs stirred disagree wakes levelAt readsLevels reads slotsRead mixed view effectiveSample linesOf move setTrigger home currentCell currentConnector putCell putConnectors typed setType configuredState configured setConfig statedAs stated setState wired setSlots setConnectorType setSource configShown stateAs presetTable settingOf offered readNow readLast named turnAt outputsBelow turned tick permittedBase badPlace badCellType badConnectorType badClock badConfig unusedSlot badAddress noConfig badStateAs badState noState frontDriven validSlot validSlots validCell validConnector every valid bigEndian cellField connectorField fieldsFrom encode bigValue cellIn connectorIn normalCell recordOf sameBytes loadNumberAs loadedAs loadNumber loaded isWord isWhole toEnd slotOf gave give pairRead pairsOf writeOf ccaWrite ccaRead ccaForm slotForm ccbForm readOf readForm cardForm plainForm addressed parse alone refusal slotIndex changed changeFor responseTo decision decisionFor lineDecision lineOutcome replyOf kindAt sourceAt withKind withSource each fromEach wellFormed drivenWord levelsFrom pulledWord countOf pulls sharedLevels sharedTick pushes draw sameKinds sumOf over anyLarge startNumber startedRow lowLines ticksFrom tickNumber tickedRow rowAnswers rowOutcome linedRow rowLoadNumber loadedRow rowReply rowSaved afterCall answer answersOf lineTo accepted said refused tickOf ran ticked fronts
-driver-session = refl
-
-apart-session : answers cellCount (startRow cellCount 2) (asked apartSession) ≡ told apartSession
-unfolding apartSession bytesOf ones onesIn withBit wordOf bitAt listed valueBy isDigit digitsOf leads plain numberIn numberAt decimalFrom decimal rowOf slotsOf taken raised workAs workOut stirredAs stirred disagree wakes levelAt readsLevels reads slotsRead mixed view effectiveSample linesOf move setTrigger home currentCell currentConnector putCell putConnectors typed setType configuredState configured setConfig statedAs stated setState wired setSlots setConnectorType setSource configShown stateAs presetTable settingOf offered readNow readLast named turnAt outputsBelow turned tick permittedBase badPlace badCellType badConnectorType badClock badConfig unusedSlot badAddress noConfig badStateAs badState noState frontDriven validSlot validSlots validCell validConnector every valid bigEndian cellField connectorField fieldsFrom encode bigValue cellIn connectorIn normalCell recordOf sameBytes loadNumberAs loadedAs loadNumber loaded isWord isWhole toEnd slotOf gave give pairRead pairsOf writeOf ccaWrite ccaRead ccaForm slotForm ccbForm readOf readForm cardForm plainForm addressed parse alone refusal slotIndex changed changeFor responseTo decision decisionFor lineDecision lineOutcome replyOf kindAt sourceAt withKind withSource each fromEach wellFormed drivenWord levelsFrom pulledWord countOf pulls sharedLevels sharedTick pushes draw sameKinds sumOf over anyLarge startNumber startedRow lowLines ticksFrom tickNumber tickedRow rowAnswers rowOutcome linedRow rowLoadNumber loadedRow rowReply rowSaved afterCall answer answersOf startRecord lineTo accepted said refused tickOf ran ticked fronts
-apart-session = refl
-
-no-racks : map (λ (e : List RackReply × List RackReply). e .0) noRackRows ≡ map (λ (e : List RackReply × List RackReply). e .1) noRackRows
-unfolding noRackRows bytesOf ones onesIn withBit wordOf bitAt listed valueBy isDigit digitsOf leads plain numberIn numberAt decimalFrom decimal rowOf slotsOf taken raised workAs workOut stirredAs stirred disagree wakes levelAt readsLevels reads slotsRead mixed view effectiveSample linesOf move setTrigger home currentCell currentConnector putCell putConnectors typed setType configuredState configured setConfig statedAs stated setState wired setSlots setConnectorType setSource configShown stateAs presetTable settingOf offered readNow readLast named turnAt outputsBelow turned tick permittedBase badPlace badCellType badConnectorType badClock badConfig unusedSlot badAddress noConfig badStateAs badState noState frontDriven validSlot validSlots validCell validConnector every valid bigEndian cellField connectorField fieldsFrom encode bigValue cellIn connectorIn normalCell recordOf sameBytes loadNumberAs loadedAs loadNumber loaded isWord isWhole toEnd slotOf gave give pairRead pairsOf writeOf ccaWrite ccaRead ccaForm slotForm ccbForm readOf readForm cardForm plainForm addressed parse alone refusal slotIndex changed changeFor responseTo decision decisionFor lineDecision lineOutcome replyOf kindAt sourceAt withKind withSource each fromEach wellFormed drivenWord levelsFrom pulledWord countOf pulls sharedLevels sharedTick pushes draw sameKinds sumOf over anyLarge startNumber startedRow lowLines ticksFrom tickNumber tickedRow rowAnswers rowOutcome linedRow rowLoadNumber loadedRow rowReply rowSaved afterCall answer answersOf lineTo accepted said refused tickOf ran ticked fronts
-no-racks = refl
+-- each session's answers, and each row's tick totals
+computed :
+    (map (λ (s : Session). answers cellCount (s .row) (map (λ (e : RackCall × RackReply). e .0) (s .calls))) sessions
+    ≡ map (λ (s : Session). map (λ (e : RackCall × RackReply). e .1) (s .calls)) sessions)
+    × (map (λ (e : List RackCall × List ℕ). map totalOf (end cellCount (startRow cellCount 2) (e .0))) tallyRows
+    ≡ map (λ (e : List RackCall × List ℕ). e .1) tallyRows)
+unfolding presetCell presetSource setsFront preset bytesOf ones onesIn withBit wordOf bitAt listed valueBy isDigit digitsOf leads plain numberIn numberAt decimalFrom decimal rowOf slotsOf taken raised workAs workOut stirredAs stirred disagree wakes levelAt readsLevels reads slotsRead mixed view effectiveSample linesOf move setTrigger home currentCell currentConnector putCell putConnectors typed setType configuredState configured setConfig statedAs stated setState wired setSlots setConnectorType setSource configShown stateAs presetTable settingOf offered readNow readLast named turnAt outputsBelow turned tick permittedBase badPlace badCellType badConnectorType badClock badConfig unusedSlot badAddress noConfig badStateAs badState noState frontDriven validSlot validSlots validCell validConnector every valid bigEndian cellField connectorField fieldsFrom encode bigValue cellIn connectorIn normalCell recordOf sameBytes loadNumberAs loadedAs loadNumber loaded isWord isWhole toEnd slotOf gave give pairRead pairsOf writeOf ccaWrite ccaRead ccaForm slotForm ccbForm readOf readForm cardForm plainForm addressed parse alone refusal slotIndex changed changeFor responseTo decision decisionFor lineDecision lineOutcome replyOf kindAt sourceAt withKind withSource each fromEach wellFormed drivenWord levelsFrom pulledWord countOf pulls sharedLevels sharedTick pushes draw sameKinds sumOf over anyLarge startNumber startedRow lowLines ticksFrom tickNumber tickedRow rowAnswers rowOutcome linedRow rowLoadNumber loadedRow rowReply rowSaved afterCall answer answersOf counted talliedBy endOf sessions supplySession overSession fourSession idleSession driverSession apartSession startSession noRackSessions tallyRows lineTo accepted said refused tickOn tickOf ran ticked pair recordWith
+computed = (refl, refl)
