@@ -58,7 +58,7 @@ fn put_reply(reply: &mut [u8], k: u8, r: Response) -> usize
 }
 
 // Saves the record, where that was asked.
-fn save_if(asked: bool, card: Card, store: &mut [u8])
+pub fn save_if(asked: bool, card: Card, store: &mut [u8])
     ensures { λ _. ⌜ now (store .exit) ≡ cond asked (savedTo (cellsFor (card .size)) configWidth card (now (store .entry))) (now (store .entry)) ⌝ }
 {
     if asked {
@@ -67,7 +67,7 @@ fn save_if(asked: bool, card: Card, store: &mut [u8])
 }
 
 // What becomes of a line, by the lengths of the two buffers.
-fn judge(card: Card, text: &[u8], reply: usize, store: usize) -> Decision
+pub fn judge(card: Card, text: &[u8], reply: usize, store: usize) -> Decision
     ensures { λ d. ⌜ d ≡ lineDecision (cellsFor (card .size)) (contextOf (cellsFor (card .size)) card) (now (text .entry)) reply store ⌝ }
 {
     if reply < SHORTEST_REPLY {
@@ -77,29 +77,15 @@ fn judge(card: Card, text: &[u8], reply: usize, store: usize) -> Decision
     decide_for(x, store, parse_line(text, card.size))
 }
 
-// What a line comes to: 0 or the number of its refusal, the card then, and the response. It goes by the lengths of the two buffers.
+// What a line comes to: 0 or the number of its refusal, the card then, and the response. The definitions go by it; the code changes the card last.
 pub struct Outcome {
     pub k: u8,
     pub card: Card,
     pub response: Response,
 }
 
-pub fn outcome_of(card: Card, text: &[u8], reply: usize, store: usize) -> Outcome
-    ensures { λ o. ⌜ o ≡ lineOutcome (cellsFor (card .size)) card (now (text .entry)) reply store ⌝ }
-{
-    let d = judge(card, text, reply, store);
-    let response = d.response;
-    let change = d.change;
-    let next = card::change::apply(card, change);
-    Outcome {
-        k: d.k,
-        card: next,
-        response: response,
-    }
-}
-
 // The reply, where its buffer has room for one.
-fn put_reply_if(reply: &mut [u8], k: u8, r: Response) -> usize
+pub fn put_reply_if(reply: &mut [u8], k: u8, r: Response) -> usize
     ensures { λ n. ⌜ now (reply .exit) ≡ sets (now (reply .entry)) 0 (replyWith (length (now (reply .entry))) k r) ⌝ }
     ensures { λ n. ⌜ n ≡ length (replyWith (length (now (reply .entry))) k r) ⌝ }
     ensures { λ n. ⌜ n ≤ shortestReply ⌝ }
@@ -108,24 +94,6 @@ fn put_reply_if(reply: &mut [u8], k: u8, r: Response) -> usize
         return 0;
     }
     put_reply(reply, k, r)
-}
-
-// The answer to an outcome: the reply is written to the front of its buffer, and a save writes the record of the card to the front of the store; beyond
-// these both are as they were.
-pub fn answer_to(card: Card, o: Outcome, reply: &mut [u8], store: &mut [u8]) -> Answered
-    ensures { λ r. ⌜ resultOf r (now (reply .exit)) (now (store .exit)) ≡ resultFor (cellsFor (card .size)) card o (now (reply .entry)) (now (store .entry)) ⌝ }
-    ensures { λ r. ⌜ r .len ≤ shortestReply ⌝ }
-{
-    let k = o.k;
-    let response = o.response;
-    let len = put_reply_if(reply, k, response);
-    save_if((k == 0) & response.saves, card, store);
-    let next = o.card;
-    Answered {
-        card: next,
-        k: k,
-        len: len,
-    }
 }
 
 // A line to the card: any bytes, without the line's own ending. The reply is written to the front of its buffer, and `36SS Z` writes the record

@@ -14,7 +14,7 @@ use Rattle.lines.specs.declared.line.Outcome.{Outcome}
 use Rattle.lines.specs.Line.{lineOutcome, silent, storeWith}
 use Rattle.calls.proofs.SaveLoad.{save-room}
 use Rattle.rack.specs.Supply.{drawsOf, over}
-use Rattle.rack.specs.Rack.{overSupply, badNumber, cardOf, outcomeIn, rowOutcome, linedRow, rowResult}
+use Rattle.rack.specs.Rack.{overSupply, badNumber, cardOf, outcomeBy, outcomeIn, rowOutcome, linedRow, rowResult}
 use Rattle.rack.specs.Calls.{rowReply, rowSaved, RackBuffers}
 
 module _ (n : ℕ) (cards : List Card) (number : ℕ) (text reply store : List ℕ) where
@@ -41,9 +41,9 @@ module _ (n : ℕ) (cards : List Card) (number : ℕ) (text reply store : List �
 
   stored : (b : Bool) → Stored (outcomeIn b (drawsOf cards) (number - 1) c o)
   stored true = refl
-  stored false = go (eqb (o .k) 0 && over (drawsOf cards) (number - 1) c (o .card))
+  stored false = go (eqb (o .k) 0 && over (drawsOf cards) (number - 1) (c .connectors) (o .card .connectors))
     where
-      go : (b : Bool) → Stored (cond b (record { k = overSupply; card = c; response = silent }) o)
+      go : (b : Bool) → Stored (outcomeBy (cond b overSupply 0) c o)
       go true = refl
       go false = accepted
 

@@ -39,7 +39,7 @@ use Rattle.rack.specs.declared.pass.RackInput.{RackInput}
 use Rattle.rack.specs.Shared.{sharedLines, sharedTick}
 use Rattle.rack.specs.Supply.{mostCards, drawsOf, over}
 use Rattle.rack.specs.Rack.{noRack, overSupply, badLength, badRow, badNumber, badFronts, startCard, startNumber, startedRow, inputFor, lowLines}
-use Rattle.rack.specs.Rack.{ticksFrom, rowTicks, cardsOf, tickNumber, tickedRow, idleAnswer, rowAnswers, cardOf, outcomeIn, rowOutcome, linedRow}
+use Rattle.rack.specs.Rack.{ticksFrom, rowTicks, cardsOf, tickNumber, tickedRow, idleAnswer, rowAnswers, cardOf, outcomeBy, numberBy, outcomeIn, rowOutcome, linedRow}
 use Rattle.rack.specs.Rack.{loadIn, rowLoadNumber, loadedRow}
 use Rattle.rack.specs.Rack
 use Rattle.rack.specs.Calls.{RackCall, RackReply, rowReply, rowSaved, afterCall, answer, end}
@@ -49,7 +49,7 @@ use Rattle.rack.specs.Demand3.{startRow}
 use Rattle.rack.specs.Cards.{Part, goesTo, answerTo, Heard, nothing, heardMore, partOf, heardNext, heard, InRack, IsCard, startLines, callsTo, cardIn}
 use Rattle.rack.specs.Cards.{Reached, RackTallied, RackValid, RackWakes}
 use Rattle.rack.specs.Cards.Part.{none, own, anew}
-use Rattle.rack.proofs.Passes.{or-left, or-right}
+use Rattle.rack.proofs.Orders.{or-left, or-right}
 use Rattle.rack.proofs.Supplies.{call-long}
 use Rattle.rack.proofs.Started.{start-reached}
 
@@ -88,10 +88,7 @@ module _ (n : ℕ) where
       same at .1,
     )
 
-    abbrev over-it : Outcome
-    over-it = record { k = overSupply; card = cardOf n cards number; response = silent }
-
-    by-supply : number - 1 ≡ i → (q : Bool) → let r = cond q over-it o in
+    by-supply : number - 1 ≡ i → (q : Bool) → let r = outcomeBy (cond q overSupply 0) (cardOf n cards number) o in
         Follows (here cards i) (cond (not (eqb (r .k) overSupply || eqb (r .k) noRack)) (own call) none) (here (set cards (number - 1) (r .card)) i) (reply r)
     by-supply at true = stays
     by-supply at false = by-rack at (eqb (o .k) overSupply || eqb (o .k) noRack) refl
@@ -108,7 +105,7 @@ module _ (n : ℕ) where
         getD-set-other cards (number - 1) i _ (startCard n) (λ (e : i ≡ number - 1). eqb-false number (suc i) p (omega (arith, low, e)))
     by-place good true p =
         let e = eqb-true number (suc i) p in
-        by-supply (omega (arith, e)) (eqb (o .k) 0 && over (drawsOf cards) (number - 1) (cardOf n cards number) (o .card))
+        by-supply (omega (arith, e)) (eqb (o .k) 0 && over (drawsOf cards) (number - 1) (cardOf n cards number .connectors) (o .card .connectors))
 
     by-outcome : (b : Bool) → badNumber cards number ≡ b → let r = outcomeIn b (drawsOf cards) (number - 1) (cardOf n cards number) o in
         Follows (here cards i) (goesTo i number (r .k) call) (here (set cards (number - 1) (r .card)) i) (reply r)
@@ -190,10 +187,11 @@ module _ (n : ℕ) where
 
       as-outcome : (b : Bool) → (k′ b ≡ r b .k) × (cond (eqb (k′ b) 0) (loaded n (cardOf n cards number) bytes) (cardOf n cards number) ≡ r b .card)
       as-outcome true = (refl, refl)
-      as-outcome false = go (eqb (loadNumber n bytes) 0 && over (drawsOf cards) (number - 1) (cardOf n cards number) (loaded n (cardOf n cards number) bytes))
+      as-outcome false =
+          go (eqb (loadNumber n bytes) 0 && over (drawsOf cards) (number - 1) (cardOf n cards number .connectors) (loaded n (cardOf n cards number) bytes .connectors))
         where
-          go : (q : Bool) → let k = cond q overSupply (loadNumber n bytes) in
-              let o : Outcome = cond q (record { k = overSupply; card = cardOf n cards number; response = silent })
+          go : (q : Bool) → let k = numberBy (cond q overSupply 0) (loadNumber n bytes) in
+              let o : Outcome = outcomeBy (cond q overSupply 0) (cardOf n cards number)
               (record { k = loadNumber n bytes; card = loaded n (cardOf n cards number) bytes; response = silent }) in
               (k ≡ o .k) × (cond (eqb k 0) (loaded n (cardOf n cards number) bytes) (cardOf n cards number) ≡ o .card)
           go true = (refl, refl)

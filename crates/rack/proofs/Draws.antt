@@ -71,11 +71,11 @@ same-count (suc k) a b e =
     ap₂ (λ (x : ℕ) (m : ℕ). x + bitNumber (eqb m pushPull)) (same-count k a b (and-left _ _ e))
     (eqb-true (kindAt a k) (kindAt b k) (and-right (sameKinds k a b) _ e))
 
-pub same-draw : (c d : Card) → sameFronts c d ≡ true → draw c ≡ draw d
+pub same-draw : (a b : Connectors) → sameFronts a b ≡ true → draw a ≡ draw b
 unfolding draw pushes
-same-draw c d e = ap (λ (m : ℕ). cond (ltb m share) share m) (same-count frontCount (c .connectors) (d .connectors) e)
+same-draw a b e = ap (λ (m : ℕ). cond (ltb m share) share m) (same-count frontCount a b e)
 
-pub tick-draw : (n : ℕ) (full : Bool) (c : Card) (input : Input) (low : ℕ) → draw (sharedTick n full c input low .card) ≡ draw c
+pub tick-draw : (n : ℕ) (full : Bool) (c : Card) (input : Input) (low : ℕ) → draw (sharedTick n full c input low .card .connectors) ≡ draw (c .connectors)
 unfolding sharedTick draw pushes
 tick-draw n full c input low = ap (λ (d : Connectors). let m = countOf (pushAt d) frontCount in cond (ltb m share) share m) (go (eqb (input .code)
     (c .trigger)))
@@ -84,6 +84,6 @@ tick-draw n full c input low = ap (λ (d : Connectors). let m = countOf (pushAt 
     go true = refl
     go false = refl
 
-pub start-draw : (n : ℕ) → draw (startCard n) ≡ share
+pub start-draw : (n : ℕ) → draw (startCard n .connectors) ≡ share
 unfolding draw pushes countOf kindAt bitAt
 start-draw n = refl

@@ -1,17 +1,15 @@
 -- Laws of passes over a list of cards, and the rules of the walks: a slice lent on, a row lent on to any callee, a call on plain values.
 pub mod Walk
 pub mod Rows
-pub mod Passes
+pub mod Orders
 pub mod Takes
 pub mod Again
 pub mod Lent
 pub mod Called
+pub mod Counted
 pub mod Types
-pub mod Plains
-pub mod LendsEach
+pub mod LendsPass
 pub mod LendsSwapAt
-pub mod LendsPasses
-pub mod LendsTake
 pub mod LendsLineIn
 pub mod LendsLoadIn
 pub mod Own

@@ -23,7 +23,7 @@ use Rattle.rack.specs.Shared.{sharedLines, sharedTick}
 use Rattle.rack.specs.Supply.{mostCards, drawsOf, over}
 use Rattle.rack.specs.Rack.{overSupply, badRow, badFronts, badNumber, startCard, startedRow, inputFor, lowLines, ticksFrom, cardsOf}
 use Rattle.rack.specs.Rack.{answersOf, idleAnswer}
-use Rattle.rack.specs.Rack.{tickedRow, rowAnswers, cardOf, outcomeIn, rowOutcome, linedRow, rowLoadNumber, loadedRow}
+use Rattle.rack.specs.Rack.{tickedRow, rowAnswers, cardOf, outcomeBy, outcomeIn, rowOutcome, linedRow, rowLoadNumber, loadedRow}
 use Rattle.rack.specs.Calls.{RackCall, afterCall, answer}
 use Rattle.rack.specs.Calls.RackCall.{start, line, load, tick}
 use Rattle.rack.specs.Demand3.{SameCall, AlikeAnswer, AlikeReply, RackDemand3}
@@ -122,9 +122,9 @@ module _ (n : ℕ) where
   outcome-settled : (bad : Bool) (numbers : List ℕ) (place : ℕ) (c : Card) (o : Outcome) → Settled n c → Settled n (o .card)
       → Settled n (outcomeIn bad numbers place c o .card)
   outcome-settled true numbers place c o p q = p
-  outcome-settled false numbers place c o p q = go (eqb (o .k) 0 && over numbers place c (o .card))
+  outcome-settled false numbers place c o p q = go (eqb (o .k) 0 && over numbers place (c .connectors) (o .card .connectors))
     where
-      go : (b : Bool) → Settled n (cond b (record { k = overSupply; card = c; response = silent }) o .card)
+      go : (b : Bool) → Settled n (outcomeBy (cond b overSupply 0) c o .card)
       go true = p
       go false = q
 

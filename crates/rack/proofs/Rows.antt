@@ -6,8 +6,7 @@ use mathlib.Core.List.{List, [], _∷_, _++_}
 use lib.ListN.{length, set, getD, take, drop, length-set}
 use Rattle.card.specs.declared.card.Card.{Card}
 use Rattle.rack.specs.declared.pass.Pass.{Pass}
-use Rattle.rack.specs.Visit.{visit}
-use Rattle.rack.specs.Visit.{afterRow, visitedRow}
+use Rattle.rack.specs.Passes.{look, visit, lookedAll, afterRow, visitedRow}
 
 -- ---- entry i of a list, and the list with another there
 module _ {A : Type 0} where
@@ -75,3 +74,12 @@ midway-end p₀ xs p ys m =
     let none : drop (length xs) ys ≡ [] = ap (λ (n : ℕ). drop n ys) (sym (m .long)) ∙ drop-all ys in
     let all : take (length xs) ys ≡ ys = ap (λ (n : ℕ). take n ys) (sym (m .long)) ∙ take-all ys in
     (ap (afterRow p) (sym none) ∙ m .after, sym (append-nil ys) ∙ ap₂ (λ (s t : List Card). s ++ visitedRow p t) (sym all) (sym none) ∙ m .visited)
+
+-- ---- cards that are looked at: those from place i on are left
+pub looked-next : (p : Pass) (xs : List Card) (i : ℕ) (d : Card) → i < length xs → lookedAll p (drop i xs) ≡ lookedAll (look p (getD xs i d)) (drop (suc i) xs)
+unfolding lookedAll
+looked-next p xs i d h = ap (lookedAll p) (drop-at i xs d h)
+
+pub looked-end : (p : Pass) (xs : List Card) → lookedAll p (drop (length xs) xs) ≡ p
+unfolding lookedAll
+looked-end p xs = ap (lookedAll p) (drop-all xs)

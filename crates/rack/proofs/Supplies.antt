@@ -9,6 +9,7 @@ use lib.Dec.{eqb, ltb}
 use lib.ListN.{length, getD, set, replicate, length-set, length-replicate}
 use borrow.Author.Tests.{ltb-false, le-ltb}
 use Rattle.card.specs.declared.card.Card.{Card}
+use Rattle.card.specs.declared.card.Connectors.{Connectors}
 use Rattle.saved.specs.Record.{loadNumber, loaded}
 use Rattle.lines.specs.declared.line.Outcome.{Outcome}
 use Rattle.lines.specs.Line.{lineOutcome, silent}
@@ -18,11 +19,11 @@ use Rattle.rack.specs.declared.pass.RackInput.{RackInput}
 use Rattle.rack.specs.Supply.{mostCards, supply, share, pushes, draw, sameFronts, sumOf, drawsOf, draws, over}
 use Rattle.rack.specs.Rack.{noRack, overSupply, badLength, badRow, badFronts, badNumber, startCard, startedRow, inputFor, lowLines}
 use Rattle.rack.specs.Rack.{ticksFrom, cardsOf, tickedRow}
-use Rattle.rack.specs.Rack.{cardOf, outcomeIn, rowOutcome, linedRow, rowLoadNumber, loadedRow}
+use Rattle.rack.specs.Rack.{cardOf, outcomeBy, numberBy, outcomeIn, rowOutcome, linedRow, rowLoadNumber, loadedRow}
 use Rattle.rack.specs.Calls.{RackCall, afterCall, end}
 use Rattle.rack.specs.Calls.RackCall.{start, line, load, tick}
 use Rattle.rack.specs.Demand3.{WithinSupply, GetsItsFour}
-use Rattle.rack.proofs.Passes.{or-left, or-right}
+use Rattle.rack.proofs.Orders.{or-left, or-right}
 use Rattle.rack.proofs.Takes.{in-range}
 use Rattle.rack.proofs.Draws.{same-draw, tick-draw, start-draw}
 
@@ -37,65 +38,68 @@ larger m = go (ltb m share) refl
         let h = ltb-false m share e in
         (h, λ g. omega (arith, h, g))
 
-draw-share : (c : Card) → share ≤ draw c
+draw-share : (a : Connectors) → share ≤ draw a
 unfolding draw
-draw-share c = larger (pushes c) .0
+draw-share a = larger (pushes a) .0
 
-draw-least : (c : Card) → pushes c ≤ share → draw c ≡ share
+draw-least : (a : Connectors) → pushes a ≤ share → draw a ≡ share
 unfolding draw
-draw-least c h = larger (pushes c) .1 h
+draw-least a h = larger (pushes a) .1 h
+
+abbrev drawn : Card → ℕ
+drawn c = draw (c .connectors)
 
 -- ---- the sum with another card in a place
 
-draws-set : (cards : List Card) (i : ℕ) (x d : Card) → i < length cards → sumOf (set (drawsOf cards) i (draw d)) + draw (getD cards i x) ≡ draws cards + draw d
+draws-set : (cards : List Card) (i : ℕ) (x d : Card) → i < length cards → sumOf (set (drawsOf cards) i (drawn d)) + drawn (getD cards i x) ≡ draws cards + drawn d
 unfolding sumOf
 draws-set [] i x d h = absurd (not-suc-le-zero h)
-draws-set (c ∷ cs) zero x d h = swap (draw d) (draws cs) (draw c)
+draws-set (c ∷ cs) zero x d h = swap (drawn d) (draws cs) (drawn c)
   where
     swap : (a b c : ℕ) → (a + b) + c ≡ (c + b) + a
     swap a b c = omega arith
-draws-set (c ∷ cs) (suc i) x d h = under (draw c) _ _ _ _ (draws-set cs i x d (le-of-suc-le-suc h))
+draws-set (c ∷ cs) (suc i) x d h = under (drawn c) _ _ _ _ (draws-set cs i x d (le-of-suc-le-suc h))
   where
     under : (a x y z w : ℕ) → x + y ≡ z + w → (a + x) + y ≡ (a + z) + w
     under a x y z w e = omega (arith, e)
 
-numbers-set : (cards : List Card) (i : ℕ) (d : Card) → drawsOf (set cards i d) ≡ set (drawsOf cards) i (draw d)
+numbers-set : (cards : List Card) (i : ℕ) (d : Card) → drawsOf (set cards i d) ≡ set (drawsOf cards) i (drawn d)
 numbers-set [] i d = refl
 numbers-set (c ∷ cs) zero d = refl
-numbers-set (c ∷ cs) (suc i) d = ap (λ (l : List ℕ). draw c ∷ l) (numbers-set cs i d)
+numbers-set (c ∷ cs) (suc i) d = ap (λ (l : List ℕ). drawn c ∷ l) (numbers-set cs i d)
 
 -- a card that draws no more than the one in its place
-no-more : (cards : List Card) (i : ℕ) (x d : Card) → i < length cards → draw d ≤ draw (getD cards i x) → sumOf (set (drawsOf cards) i (draw d)) ≤ draws cards
-no-more cards i x d h less = below _ _ (draw (getD cards i x)) (draw d) (draws-set cards i x d h) less
+no-more : (cards : List Card) (i : ℕ) (x d : Card) → i < length cards → drawn d ≤ drawn (getD cards i x) → sumOf (set (drawsOf cards) i (drawn d)) ≤ draws cards
+no-more cards i x d h less = below _ _ (drawn (getD cards i x)) (drawn d) (draws-set cards i x d h) less
   where
     below : (x y a b : ℕ) → x + a ≡ y + b → b ≤ a → x ≤ y
     below x y a b e l = omega (arith, e, l)
 
-set-draws : (cards : List Card) (i : ℕ) (d : Card) → sumOf (set (drawsOf cards) i (draw d)) ≤ supply → draws (set cards i d) ≤ supply
+set-draws : (cards : List Card) (i : ℕ) (d : Card) → sumOf (set (drawsOf cards) i (drawn d)) ≤ supply → draws (set cards i d) ≤ supply
 set-draws cards i d h = subst (λ (l : List ℕ). sumOf l ≤ supply) (sym (numbers-set cards i d)) h
 
 -- a change that the supply bears
-not-over : (cards : List Card) (i : ℕ) (x d : Card) → i < length cards → draws cards ≤ supply → over (drawsOf cards) i (getD cards i x) d ≡ false
+not-over : (cards : List Card) (i : ℕ) (x d : Card) → i < length cards → draws cards ≤ supply → over (drawsOf cards) i (getD cards i x .connectors) (d .connectors) ≡ false
     → draws (set cards i d) ≤ supply
 unfolding over
-not-over cards i x d h within e = set-draws cards i d (go (sameFronts (getD cards i x) d) refl e)
+not-over cards i x d h within e = set-draws cards i d (go (sameFronts (getD cards i x .connectors) (d .connectors)) refl e)
   where
-    go : (b : Bool) → sameFronts (getD cards i x) d ≡ b → (not b && ltb supply (sumOf (set (drawsOf cards) i (draw d)))) ≡ false
-        → sumOf (set (drawsOf cards) i (draw d)) ≤ supply
+    go : (b : Bool) → sameFronts (getD cards i x .connectors) (d .connectors) ≡ b → (not b && ltb supply (sumOf (set (drawsOf cards) i (drawn d)))) ≡ false
+        → sumOf (set (drawsOf cards) i (drawn d)) ≤ supply
     go true same z =
-        let l = no-more cards i x d h (subst (λ (m : ℕ). draw d ≤ m) (sym (same-draw (getD cards i x) d same)) (le-refl (draw d))) in
+        let l = no-more cards i x d h (subst (λ (m : ℕ). drawn d ≤ m) (sym (same-draw (getD cards i x .connectors) (d .connectors) same)) (le-refl (drawn d))) in
         omega (arith, l, within)
-    go false same z = ltb-false supply (sumOf (set (drawsOf cards) i (draw d))) z
+    go false same z = ltb-false supply (sumOf (set (drawsOf cards) i (drawn d))) z
 
 -- "each card always gets its four": a change that leaves at most four is not over it
-four-free : (cards : List Card) (i : ℕ) (x d : Card) → i < length cards → draws cards ≤ supply → pushes d ≤ share
-    → over (drawsOf cards) i (getD cards i x) d ≡ false
+four-free : (cards : List Card) (i : ℕ) (x d : Card) → i < length cards → draws cards ≤ supply → pushes (d .connectors) ≤ share
+    → over (drawsOf cards) i (getD cards i x .connectors) (d .connectors) ≡ false
 unfolding over
 four-free cards i x d h within few =
-    let least : draw d ≤ draw (getD cards i x) = subst (λ (m : ℕ). m ≤ draw (getD cards i x)) (sym (draw-least d few)) (draw-share (getD cards i x)) in
+    let least : drawn d ≤ drawn (getD cards i x) = subst (λ (m : ℕ). m ≤ drawn (getD cards i x)) (sym (draw-least (d .connectors) few)) (draw-share (getD cards i x .connectors)) in
     let l = no-more cards i x d h least in
-    let under : sumOf (set (drawsOf cards) i (draw d)) ≤ supply = omega (arith, l, within) in
-    rw (le-ltb supply (sumOf (set (drawsOf cards) i (draw d))) under) (none (not (sameFronts (getD cards i x) d)))
+    let under : sumOf (set (drawsOf cards) i (drawn d)) ≤ supply = omega (arith, l, within) in
+    rw (le-ltb supply (sumOf (set (drawsOf cards) i (drawn d))) under) (none (not (sameFronts (getD cards i x .connectors) (d .connectors))))
   where
     none : (b : Bool) → (b && false) ≡ false
     none true = refl
@@ -148,10 +152,11 @@ module _ (n : ℕ) where
       → (eqb (o .k) 0 ≡ false → o .card ≡ cardOf n cards number)
       → draws (set cards (number - 1) (outcomeIn b (drawsOf cards) (number - 1) (cardOf n cards number) o .card)) ≤ supply
   outcome-within cards number true o e within kept = same-place cards (number - 1) (startCard n) within
-  outcome-within cards number false o e within kept = go (eqb (o .k) 0) refl (over (drawsOf cards) (number - 1) (cardOf n cards number) (o .card)) refl
+  outcome-within cards number false o e within kept = go (eqb (o .k) 0) refl
+      (over (drawsOf cards) (number - 1) (cardOf n cards number .connectors) (o .card .connectors)) refl
     where
-      go : (a : Bool) → eqb (o .k) 0 ≡ a → (b : Bool) → over (drawsOf cards) (number - 1) (cardOf n cards number) (o .card) ≡ b
-          → draws (set cards (number - 1) (cond (a && b) (record { k = overSupply; card = cardOf n cards number; response = silent }) o .card)) ≤ supply
+      go : (a : Bool) → eqb (o .k) 0 ≡ a → (b : Bool) → over (drawsOf cards) (number - 1) (cardOf n cards number .connectors) (o .card .connectors) ≡ b
+          → draws (set cards (number - 1) (outcomeBy (cond (a && b) overSupply 0) (cardOf n cards number) o .card)) ≤ supply
       go true p true q = same-place cards (number - 1) (startCard n) within
       go true p false q = not-over cards (number - 1) (startCard n) (o .card) (in-range cards number e) within q
       go false p b q = rw (kept p) (same-place cards (number - 1) (startCard n) within)
@@ -165,7 +170,8 @@ module _ (n : ℕ) where
 
   load-within : (cards : List Card) (number : ℕ) (bytes : List ℕ) → draws cards ≤ supply → draws (loadedRow n cards number bytes) ≤ supply
   unfolding loadedRow rowLoadNumber
-  load-within cards number bytes within = go (badNumber cards number) refl (eqb (loadNumber n bytes) 0) refl (over (drawsOf cards) (number - 1) c d) refl
+  load-within cards number bytes within = go (badNumber cards number) refl (eqb (loadNumber n bytes) 0) refl
+      (over (drawsOf cards) (number - 1) (c .connectors) (d .connectors)) refl
     where
       c : Card
       c = cardOf n cards number
@@ -176,8 +182,9 @@ module _ (n : ℕ) where
       stays : draws (set cards (number - 1) c) ≤ supply
       stays = same-place cards (number - 1) (startCard n) within
 
-      go : (b : Bool) → badNumber cards number ≡ b → (a : Bool) → eqb (loadNumber n bytes) 0 ≡ a → (v : Bool) → over (drawsOf cards) (number - 1) c d ≡ v
-          → draws (set cards (number - 1) (cond (eqb (cond b noRack (cond (a && v) overSupply (loadNumber n bytes))) 0) d c)) ≤ supply
+      go : (b : Bool) → badNumber cards number ≡ b → (a : Bool) → eqb (loadNumber n bytes) 0 ≡ a → (v : Bool)
+          → over (drawsOf cards) (number - 1) (c .connectors) (d .connectors) ≡ v
+          → draws (set cards (number - 1) (cond (eqb (numberBy (cond b noRack (cond (a && v) overSupply 0)) (loadNumber n bytes)) 0) d c)) ≤ supply
       go true e a f v g = stays
       go false e true f true g = stays
       go false e true f false g = rw f (not-over cards (number - 1) (startCard n) d (in-range cards number e) within g)

@@ -1,4 +1,4 @@
--- A card taken from a row that was looked at: what a line and a load to it come to is what the definitions of the calls say.
+-- A card of a row that was looked at: what a line and a load to it come to is what the definitions of the calls say.
 use Prim.Native.Nat.{ℕ, zero, suc, _+_, _-_, _≤_, _<_}
 use mathlib.Core.Path.{_≡_, refl, sym, ap, _∙_}
 use mathlib.Core.Bool.{Bool, true, false, not, _&&_, _||_, cond}
@@ -10,44 +10,34 @@ use lib.ListN.{length, getD, set, replicate, drop, length-map}
 use lib.Seq.{sets, sets-eq, set-set}
 use borrow.Author.Tests.{ltb-false}
 use Rattle.card.specs.declared.card.Card.{Card}
+use Rattle.card.specs.declared.card.Connectors.{Connectors}
 use Rattle.card.specs.Address.{cellCount, cellsFor}
 use Rattle.saved.specs.Record.{loadNumber, loaded}
 use Rattle.saved.specs.declared.record.Loaded.{Loaded}
 use Rattle.lines.specs.declared.line.Answered.{Answered}
-use Rattle.lines.specs.declared.line.Outcome.{Outcome}
-use Rattle.lines.specs.Line.{lineOutcome, silent, resultFor, resultOf}
-use Rattle.rack.specs.declared.pass.Pass.{Pass}
+use Rattle.lines.specs.Line.{lineOutcome, resultFor, resultOf}
 use Rattle.rack.specs.Supply.{mostCards, supply, draw, drawsOf, sumOf, sameFronts, over}
-use Rattle.rack.specs.Rack.{isLarge, anyLarge, badLength, badRow, badNumber, startCard, cardOf, outcomeIn, rowOutcome, lineIn, loadIn}
+use Rattle.rack.specs.Rack.{noRack, isLarge, anyLarge, badLength, badRow, badNumber, startCard, overSupply, cardOf, outcomeBy, numberBy, outcomeIn, rowOutcome, lineIn, loadIn}
 use Rattle.rack.specs.Rack.{rowLoadNumber, loadedRow, rowResult, rowResultOf}
-use Rattle.rack.specs.Visit.{nothing, noInput, lookOrder, lookedOver, lookedRow, takenFrom, takenRow, replyOf}
-use Rattle.rack.proofs.Passes.{or-left, or-right, small, too-many, few, sees}
+use Rattle.rack.specs.Passes.{looks, noInput, lookOrder, lookedOver, takenFrom, replyOf}
+use Rattle.rack.proofs.Orders.{or-left, or-right, small, sees}
 
 -- ---- the row
 
--- looking leaves it as it is
-pub looked-row : (cards : List Card) → lookedRow lookOrder cards ≡ cards
-looked-row cards = go (badLength (length cards)) refl
-  where
-    go : (b : Bool) → badLength (length cards) ≡ b → lookedRow lookOrder cards ≡ cards
-    go true e = too-many nothing false noInput cards e .1
-    go false e = few nothing false noInput cards e .1
-
-abbrev test : List Card → ℕ → Pass → Bool
-test cards number p = (not (eqb (p .k) 0) || p .large) || (ltb number 1 || ltb (p .at) number)
-
 pub taken-bad : (cards : List Card) (number : ℕ) → takenFrom cards number .bad ≡ badNumber cards number
-taken-bad cards number = go (badLength (length cards)) refl
+taken-bad cards number =
+    (λ i. not (eqb (sees looks false noInput cards .number i) 0) || (ltb number 1 || ltb (lookedOver lookOrder cards .at) number))
+    ∙ go (badLength (length cards)) refl
   where
-    go : (b : Bool) → badLength (length cards) ≡ b → test cards number (lookedOver lookOrder cards) ≡ ((b || anyLarge cards) || (ltb number 1 || ltb
-        (length cards) number))
-    go true e = ap (test cards number) (too-many nothing false noInput cards e .0)
-    go false e =
-        let k = sees nothing false noInput cards e in
-        λ i. (not (eqb (k .number i) 0) || k .large i) || (ltb number 1 || ltb (k .place i) number)
+    flag : (b : Bool) → not (eqb (cond b noRack 0) 0) ≡ b
+    flag true = refl
+    flag false = refl
 
-pub taken-card : (cards : List Card) (number : ℕ) → takenFrom cards number .card ≡ cardOf cellCount cards number
-taken-card cards number = ap (λ (l : List Card). getD l (number - 1) (startCard cellCount)) (looked-row cards)
+    go : (b : Bool) → badLength (length cards) ≡ b
+        → (not (eqb (cond (b || anyLarge cards) noRack 0) 0) || (ltb number 1 || ltb (lookedOver lookOrder cards .at) number))
+        ≡ ((b || anyLarge cards) || (ltb number 1 || ltb (length cards) number))
+    go true e = refl
+    go false e = λ i. flag (anyLarge cards) i || (ltb number 1 || ltb (sees looks false noInput cards .place e i) number)
 
 pub in-range : (cards : List Card) (number : ℕ) → badNumber cards number ≡ false → number - 1 < length cards
 in-range cards number e =
@@ -98,112 +88,82 @@ same-sum ds i v few h =
     let sum = sum-append (set ds i v) rest in
     ap (λ (l : List ℕ). sumOf (set l i v)) spread ∙ ap sumOf (set-append ds rest i v h) ∙ (omega (arith, none, sum))
 
-pub taken-over : (cards : List Card) (number : ℕ) (c d : Card) → badNumber cards number ≡ false
-    → over (takenFrom cards number .draws) (number - 1) c d ≡ over (drawsOf cards) (number - 1) c d
+pub taken-over : (cards : List Card) (number : ℕ) (a b : Connectors) → badNumber cards number ≡ false
+    → over (takenFrom cards number .draws) (number - 1) a b ≡ over (drawsOf cards) (number - 1) a b
 unfolding over
-taken-over cards number c d e =
-    let b = or-left (badLength (length cards)) _ (or-left (badRow cards) _ e) in
-    let k = sees nothing false noInput cards b in
-    let few = ltb-false mostCards (length cards) (or-right (ltb (length cards) 1) _ b) in
-    let long = length-map cards draw in
+taken-over cards number a b e =
+    let short = or-left (badLength (length cards)) _ (or-left (badRow cards) _ e) in
+    let few = ltb-false mostCards (length cards) (or-right (ltb (length cards) 1) _ short) in
+    let long = length-map cards (λ (c : Card). draw (c .connectors)) in
     let inside = in-range cards number e in
-    ap (λ (l : List ℕ). not (sameFronts c d) && ltb supply (sumOf (set l (number - 1) (draw d)))) (k .draws)
-    ∙ ap (λ (m : ℕ). not (sameFronts c d) && ltb supply m) (same-sum (drawsOf cards) (number - 1) (draw d) (omega (arith, few, long)) (omega
+    ap (λ (l : List ℕ). not (sameFronts a b) && ltb supply (sumOf (set l (number - 1) (draw b)))) (sees looks false noInput cards .draws short)
+    ∙ ap (λ (m : ℕ). not (sameFronts a b) && ltb supply m) (same-sum (drawsOf cards) (number - 1) (draw b) (omega (arith, few, long)) (omega
     (arith, inside, long)))
 
 -- ---- a line
 
-pub line-does : (cards : List Card) (number : ℕ) (text reply store : List ℕ) → let t = takenFrom cards number in
-    lineIn (cellsFor (t .card .size)) (t .bad) (t .draws) (t .place) (t .card) text reply store
-    ≡ resultFor cellCount (cardOf cellCount cards number) (rowOutcome cellCount cards number text (length reply) (length store)) reply store
-unfolding rowOutcome
-line-does cards number text reply store =
-    (λ i. lineIn (cellsFor (taken-card cards number i .size)) (taken-bad cards number i) ds (number - 1) (taken-card cards number i) text reply store)
-    ∙ go (badNumber cards number) refl
-  where
-    c : Card
-    c = cardOf cellCount cards number
+-- the row without the card that a line or a load works on: a started one stands in its place
+abbrev pub takenRow : List Card → ℕ → List Card
+takenRow cards number = set cards (number - 1) (startCard cellCount)
 
-    ds : List ℕ
-    ds = takenFrom cards number .draws
+module _ (cards : List Card) (number : ℕ) where
+  abbrev c : Card
+  c = cardOf cellCount cards number
 
-    go : (b : Bool) → badNumber cards number ≡ b
-        → lineIn (cellsFor (c .size)) b ds (number - 1) c text reply store
-        ≡ resultFor cellCount c (outcomeIn b (drawsOf cards) (number - 1) c (lineOutcome cellCount c text (length reply) (length store))) reply store
-    go true e = refl
-    go false e =
-        (λ i. lineIn (taken-size cards number e i) false ds (number - 1) c text reply store)
-        ∙ ap (λ (v : Bool). resultFor cellCount c (cond (eqb (o .k) 0 && v) (record { k = 19; card = c; response = silent }) o) reply store)
-        (taken-over cards number c (o .card) e)
-      where
-        o : Outcome
-        o = lineOutcome cellCount c text (length reply) (length store)
+  abbrev ds : List ℕ
+  ds = takenFrom cards number .draws
 
--- ---- a load
+  line-does : (text reply store : List ℕ)
+      → lineIn (cellsFor (c .size)) (takenFrom cards number .bad) ds (number - 1) c text reply store
+      ≡ resultFor cellCount c (rowOutcome cellCount cards number text (length reply) (length store)) reply store
+  unfolding rowOutcome
+  line-does text reply store =
+      (λ i. lineIn (cellsFor (c .size)) (taken-bad cards number i) ds (number - 1) c text reply store) ∙ go (badNumber cards number) refl
+    where
+      go : (b : Bool) → badNumber cards number ≡ b
+          → lineIn (cellsFor (c .size)) b ds (number - 1) c text reply store
+          ≡ resultFor cellCount c (outcomeIn b (drawsOf cards) (number - 1) c (lineOutcome cellCount c text (length reply) (length store))) reply store
+      go true e = refl
+      go false e =
+          let o = lineOutcome cellCount c text (length reply) (length store) in
+          (λ i. lineIn (taken-size cards number e i) false ds (number - 1) c text reply store)
+          ∙ ap (λ (v : Bool). resultFor cellCount c (outcomeBy (cond (eqb (o .k) 0 && v) overSupply 0) c o) reply store)
+          (taken-over cards number (c .connectors) (o .card .connectors) e)
 
-pub load-does : (cards : List Card) (number : ℕ) (bytes : List ℕ) → let t = takenFrom cards number in let n = cellsFor (t .card .size) in
-    loadIn (t .bad) (t .draws) (t .place) (t .card) (loadNumber n bytes) (loaded n (t .card) bytes) ≡ rowLoadNumber cellCount cards number bytes
-unfolding rowLoadNumber
-load-does cards number bytes =
-    (λ i. let d = taken-card cards number i in let n = cellsFor (d .size) in
-    loadIn (taken-bad cards number i) ds (number - 1) d (loadNumber n bytes) (loaded n d bytes))
-    ∙ go (badNumber cards number) refl
-  where
-    c : Card
-    c = cardOf cellCount cards number
+  -- the whole row, by what the covered function said
+  pub line-row : (text reply store : List ℕ) (r : Answered) (reply′ store′ : List ℕ)
+      → resultOf r reply′ store′ ≡ lineIn (cellsFor (c .size)) (takenFrom cards number .bad) ds (number - 1) c text reply store
+      → rowResultOf (replyOf r) (set (takenRow cards number) (number - 1) (r .card)) reply′ store′ ≡ rowResult cellCount cards number text reply store
+  unfolding rowResult
+  line-row text reply store r reply′ store′ said =
+      let e = said ∙ line-does text reply store in
+      ap (λ (l : List Card). rowResultOf (replyOf r) l reply′ store′) (set-set cards (number - 1) (startCard cellCount) (r .card))
+      ∙ (λ i. record { k = e i .k; len = e i .len; row = set cards (number - 1) (e i .card); reply = e i .reply; store = e i .store })
 
-    ds : List ℕ
-    ds = takenFrom cards number .draws
+  -- ---- a load
 
-    go : (b : Bool) → badNumber cards number ≡ b
-        → loadIn b ds (number - 1) c (loadNumber (cellsFor (c .size)) bytes) (loaded (cellsFor (c .size)) c bytes)
-        ≡ loadIn b (drawsOf cards) (number - 1) c (loadNumber cellCount bytes) (loaded cellCount c bytes)
-    go true e = refl
-    go false e =
-        (λ i. let n = taken-size cards number e i in loadIn false ds (number - 1) c (loadNumber n bytes) (loaded n c bytes))
-        ∙ ap (λ (v : Bool). cond (eqb (loadNumber cellCount bytes) 0 && v) 19 (loadNumber cellCount bytes)) (taken-over cards number c
-        (loaded cellCount c bytes) e)
-
--- the card then
-pub load-card : (cards : List Card) (number : ℕ) (bytes : List ℕ) → let t = takenFrom cards number in let n = cellsFor (t .card .size) in
-    cond (eqb (rowLoadNumber cellCount cards number bytes) 0) (loaded n (t .card) bytes) (t .card)
-    ≡ cond (eqb (rowLoadNumber cellCount cards number bytes) 0) (loaded cellCount (cardOf cellCount cards number) bytes) (cardOf cellCount cards number)
-unfolding rowLoadNumber
-load-card cards number bytes =
-    (λ i. let d = taken-card cards number i in
-    cond (eqb (rowLoadNumber cellCount cards number bytes) 0) (loaded (cellsFor (d .size)) d bytes) d)
-    ∙ go (badNumber cards number) refl
-  where
-    c : Card
-    c = cardOf cellCount cards number
-
-    go : (b : Bool) → badNumber cards number ≡ b
-        → let k = loadIn b (drawsOf cards) (number - 1) c (loadNumber cellCount bytes) (loaded cellCount c bytes) in
-        cond (eqb k 0) (loaded (cellsFor (c .size)) c bytes) c ≡ cond (eqb k 0) (loaded cellCount c bytes) c
-    go true e = refl
-    go false e =
-        ap (λ (n : ℕ). cond (eqb (loadIn false (drawsOf cards) (number - 1) c (loadNumber cellCount bytes) (loaded cellCount c bytes)) 0) (loaded n c bytes) c)
-        (taken-size cards number e)
-
--- ---- the whole row, by what the covered function said
-
-pub line-row : (cards : List Card) (number : ℕ) (text reply store : List ℕ) (r : Answered) (reply′ store′ : List ℕ) → let t = takenFrom cards number in
-    resultOf r reply′ store′ ≡ lineIn (cellsFor (t .card .size)) (t .bad) (t .draws) (t .place) (t .card) text reply store
-    → rowResultOf (replyOf r) (set (takenRow cards number) (number - 1) (r .card)) reply′ store′ ≡ rowResult cellCount cards number text reply store
-unfolding rowResult
-line-row cards number text reply store r reply′ store′ said =
-    let e = said ∙ line-does cards number text reply store in
-    ap (λ (l : List Card). rowResultOf (replyOf r) l reply′ store′) (set-set (lookedRow lookOrder cards) (number - 1) (startCard cellCount) (r .card))
-    ∙ (λ i. record { k = e i .k; len = e i .len; row = set (looked-row cards i) (number - 1) (e i .card); reply = e i .reply; store = e i .store })
-
-pub load-row : (cards : List Card) (number : ℕ) (bytes : List ℕ) (r : Loaded) → let t = takenFrom cards number in let n = cellsFor (t .card .size) in
-    r .k ≡ loadIn (t .bad) (t .draws) (t .place) (t .card) (loadNumber n bytes) (loaded n (t .card) bytes)
-    → r .card ≡ cond (eqb (r .k) 0) (loaded n (t .card) bytes) (t .card)
-    → (r .k ≡ rowLoadNumber cellCount cards number bytes) × (set (takenRow cards number) (number - 1) (r .card) ≡ loadedRow cellCount cards number bytes)
-unfolding loadedRow
-load-row cards number bytes r number-said card-said =
-    let t = takenFrom cards number in
-    let n = cellsFor (t .card .size) in
-    let k = number-said ∙ load-does cards number bytes in
-    let card = card-said ∙ ap (λ (m : ℕ). cond (eqb m 0) (loaded n (t .card) bytes) (t .card)) k ∙ load-card cards number bytes in
-    (k, set-set (lookedRow lookOrder cards) (number - 1) (startCard cellCount) (r .card) ∙ (λ i. set (looked-row cards i) (number - 1) (card i)))
+  pub load-row : (bytes : List ℕ) (r : Loaded) → let n = cellsFor (c .size) in
+      r .k ≡ loadIn (takenFrom cards number .bad) ds (number - 1) c (loadNumber n bytes) (loaded n c bytes)
+      → r .card ≡ cond (eqb (r .k) 0) (loaded n c bytes) c
+      → (r .k ≡ rowLoadNumber cellCount cards number bytes) × (set (takenRow cards number) (number - 1) (r .card) ≡ loadedRow cellCount cards number bytes)
+  unfolding rowLoadNumber loadedRow
+  load-row bytes r number-said card-said =
+      let made = go (badNumber cards number) refl in
+      let k = number-said ∙ ap (λ (b : Bool). loadIn b ds (number - 1) c (loadNumber (cellsFor (c .size)) bytes) (loaded (cellsFor (c .size)) c bytes))
+      (taken-bad cards number) ∙ made .0 in
+      let card = card-said ∙ ap (λ (m : ℕ). cond (eqb m 0) (loaded (cellsFor (c .size)) c bytes) c) k ∙ made .1 in
+      (k, set-set cards (number - 1) (startCard cellCount) (r .card) ∙ ap (set cards (number - 1)) card)
+    where
+      go : (b : Bool) → badNumber cards number ≡ b
+          → let k = loadIn b (drawsOf cards) (number - 1) c (loadNumber cellCount bytes) (loaded cellCount c bytes) in
+          (loadIn b ds (number - 1) c (loadNumber (cellsFor (c .size)) bytes) (loaded (cellsFor (c .size)) c bytes) ≡ k)
+          × (cond (eqb k 0) (loaded (cellsFor (c .size)) c bytes) c ≡ cond (eqb k 0) (loaded cellCount c bytes) c)
+      go true e = (refl, refl)
+      go false e =
+          let k = loadNumber cellCount bytes in
+          let number-in = loadIn false (drawsOf cards) (number - 1) c k (loaded cellCount c bytes) in (
+            (λ i. let n = taken-size cards number e i in loadIn false ds (number - 1) c (loadNumber n bytes) (loaded n c bytes))
+                ∙ ap (λ (v : Bool). numberBy (cond (eqb k 0 && v) overSupply 0) k)
+                (taken-over cards number (c .connectors) (loaded cellCount c bytes .connectors) e),
+            ap (λ (n : ℕ). cond (eqb number-in 0) (loaded n c bytes) c) (taken-size cards number e),
+          )

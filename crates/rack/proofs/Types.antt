@@ -1,9 +1,13 @@
 -- The types of the values that go through the walks: their machine values, and what those are known to be.
-use Rattle.rack.proofs.Walk.{Atoms, Given, Heap, Is, List, Makes, RattleType, T, Tells, Ty, URA, Val, WT, [], _∷_, hasTy, tyBool}
+use Rattle.rack.proofs.Walk.{Atoms, Given, Heap, Is, List, Makes, RattleType, T, Tells, Ty, URA, Val, WT, [], _∷_, hasTy, tyBool, usize, vint}
+use Rattle.rack.proofs.Walk.{w64}
 use denote.Struct.Laws as LL
 use Rattle.rack.specs.declared.pass.Pass.{Pass}
 use Rattle.rack.proofs.pass.Pass as PT
 use Rattle.rack.proofs.pass.Pass.Laws as PL
+use Rattle.rack.specs.declared.pass.Visited.{Visited}
+use Rattle.rack.proofs.pass.Visited as VT
+use Rattle.rack.proofs.pass.Visited.Laws as VL
 use Rattle.rack.specs.declared.job.Taken.{Taken}
 use Rattle.rack.proofs.job.Taken as KT
 use Rattle.rack.proofs.job.Taken.Laws as KL
@@ -26,7 +30,7 @@ use Rattle.saved.specs.declared.record.Loaded.{Loaded}
 use Rattle.saved.proofs.record.Loaded as OT
 use Rattle.saved.proofs.record.Loaded.Laws as OL
 
-abbrev one-ty : List Ty → Ty
+abbrev pub one-ty : List Ty → Ty
 one-ty [] = tyBool
 one-ty (τ ∷ τs) = τ
 
@@ -51,6 +55,25 @@ module _ {M : Type 1} (𝓤 : URA M) (H : Heap 𝓤) (A : Atoms 𝓤) where
   pub p-typed : Given 𝓤 H A → (x : Pass) → Is P′ x (pv x ∷ []) → T (hasTy (one-ty (P′ .mir)) (pv x)) × WT (pv x)
   p-typed W x is = LL.lawful PT.the-type PL.the-laws 𝓤 H A W .typed x _ is .0
 
+-- ---- Visited
+
+abbrev pub V′ : RattleType
+V′ = VT.the-row
+
+abbrev pub vv : Visited → Val
+vv x = LL.val VT.the-type VL.the-laws x
+
+pub v-tells : Tells V′ (Is V′) (λ y. vv y ∷ [])
+v-tells = LL.tells VT.the-type VL.the-laws
+
+-- the machine values of its parts
+pub v-parts : (x : Visited) → Is V′ x (vv x ∷ []) → Is RT.the-row (x .card) (LL.val RT.the-type RL.the-laws (x .card) ∷ []) × Is P′ (x .pass) (pv (x .pass) ∷ [])
+v-parts x is = (LL.owed VT.the-type VL.the-laws x (vv x ∷ []) is .0, LL.owed VT.the-type VL.the-laws x (vv x ∷ []) is .1 .0)
+
+module _ {M : Type 1} (𝓤 : URA M) (H : Heap 𝓤) (A : Atoms 𝓤) where
+  pub v-typed : Given 𝓤 H A → (x : Visited) → Is V′ x (vv x ∷ []) → T (hasTy (one-ty (V′ .mir)) (vv x)) × WT (vv x)
+  v-typed W x is = LL.lawful VT.the-type VL.the-laws 𝓤 H A W .typed x _ is .0
+
 -- ---- Taken
 
 abbrev pub K′ : RattleType
@@ -71,6 +94,10 @@ module _ {M : Type 1} (𝓤 : URA M) (H : Heap 𝓤) (A : Atoms 𝓤) where
 
   pub t-typed : Given 𝓤 H A → (x : Taken) → Is K′ x (tv x ∷ []) → T (hasTy (one-ty (K′ .mir)) (tv x)) × WT (tv x)
   t-typed W x is = LL.lawful KT.the-type KL.the-laws 𝓤 H A W .typed x _ is .0
+
+-- its place
+pub t-place : (x : Taken) → Is K′ x (tv x ∷ []) → Is usize (x .place) (vint w64 (x .place) ∷ [])
+t-place x is = LL.owed KT.the-type KL.the-laws x (tv x ∷ []) is .1 .0
 
 -- ---- RackInput
 

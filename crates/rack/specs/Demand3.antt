@@ -53,5 +53,5 @@ WithinSupply n = (cards : ℕ) (calls : List RackCall) → cards ≤ mostCards �
 
 -- so a change that leaves a card with at most four push-pull front connectors is never 19
 unfoldable pub GetsItsFour : ℕ → Type 0
-GetsItsFour n = (cards : ℕ) (calls : List RackCall) (i : ℕ) (d : Card) → cards ≤ mostCards → i < cards → pushes d ≤ share
-    → let row = end n (startRow n cards) calls in over (drawsOf row) i (getD row i (startCard n)) d ≡ false
+GetsItsFour n = (cards : ℕ) (calls : List RackCall) (i : ℕ) (d : Card) → cards ≤ mostCards → i < cards → pushes (d .connectors) ≤ share
+    → let row = end n (startRow n cards) calls in over (drawsOf row) i (getD row i (startCard n) .connectors) (d .connectors) ≡ false

@@ -5,11 +5,11 @@ use lib.ListN.{take, drop}
 use Rattle.card.specs.declared.card.Card.{Card}
 use Rattle.rack.specs.declared.pass.Pass.{Pass}
 use Rattle.rack.specs.declared.held.Held.{Held}
-use Rattle.rack.specs.Visit.{afterRow, visitedRow}
+use Rattle.rack.specs.Passes.{actedOver, actedRow}
 
 abbrev pub heldOf : List Card → Pass → Held
 heldOf cards pass = record { cards = cards; pass = pass }
 
--- a pass over them; the others stay
+-- an order to them; the others stay
 abbrev pub rowHeld : List Card → ℕ → Pass → Held
-rowHeld cards n pass = heldOf (visitedRow pass (take n cards) ++ drop n cards) (afterRow pass (take n cards))
+rowHeld cards n order = heldOf (actedRow order (take n cards) ++ drop n cards) (actedOver order (take n cards))

@@ -1,4 +1,4 @@
--- What a reader must believe, in the order of the request; Visit is how the code goes over a row.
+-- What a reader must believe, in the order of the request. Passes and Held are the code's own view of a row, which the contracts of its inner functions cite.
 pub mod Shared
 pub mod Supply
 pub mod Rack
@@ -6,6 +6,6 @@ pub mod Calls
 pub mod Demand3
 pub mod Alone
 pub mod Cards
-pub mod Visit
+pub mod Passes
 pub mod Held
 pub mod Examples

@@ -118,11 +118,20 @@ cardOf n cards number = getD cards (number - 1) (startCard n)
 abbrev pub overSupply : ℕ
 overSupply = 19
 
--- by whether the row and the number are a rack's, and the supply bears the outcome
+-- what the rack itself refuses of a call that would give number k and connectors b for a: 20 where row and number are no rack's; 19 where all else is accepted
+-- and the supply does not bear it; 0 where it leaves the call as it is
+abbrev pub refusalIn : (bad : Bool) → (numbers : List ℕ) → (place : ℕ) → (a b : Connectors) → (k : ℕ) → ℕ
+refusalIn bad numbers place a b k = cond bad noRack (cond (eqb k 0 && over numbers place a b) overSupply 0)
+
+-- the outcome of a line, and the number of a load, of which the rack refuses r
+abbrev pub outcomeBy : (r : ℕ) → Card → Outcome → Outcome
+outcomeBy r c o = cond (eqb r 0) o (record { k = r; card = c; response = silent })
+
+abbrev pub numberBy : (r k : ℕ) → ℕ
+numberBy r k = cond (eqb r 0) k r
+
 abbrev pub outcomeIn : (bad : Bool) → (numbers : List ℕ) → (place : ℕ) → Card → Outcome → Outcome
-outcomeIn bad numbers place c o =
-    cond bad (record { k = noRack; card = c; response = silent })
-    (cond (eqb (o .k) 0 && over numbers place c (o .card)) (record { k = overSupply; card = c; response = silent }) o)
+outcomeIn bad numbers place c o = outcomeBy (refusalIn bad numbers place (c .connectors) (o .card .connectors) (o .k)) c o
 
 unfoldable pub rowOutcome : ℕ → List Card → (number : ℕ) → List ℕ → ℕ → ℕ → Outcome
 rowOutcome n cards number text reply store =
@@ -131,9 +140,9 @@ rowOutcome n cards number text reply store =
 unfoldable pub linedRow : ℕ → List Card → (number : ℕ) → List ℕ → ℕ → ℕ → List Card
 linedRow n cards number text reply store = set cards (number - 1) (rowOutcome n cards number text reply store .card)
 
--- the number of a load, and the card then
+-- the number of a load that would give k and card d, and the card then
 abbrev pub loadIn : (bad : Bool) → (numbers : List ℕ) → (place : ℕ) → Card → (k : ℕ) → Card → ℕ
-loadIn bad numbers place c k d = cond bad noRack (cond (eqb k 0 && over numbers place c d) overSupply k)
+loadIn bad numbers place c k d = numberBy (refusalIn bad numbers place (c .connectors) (d .connectors) k) k
 
 unfoldable pub rowLoadNumber : ℕ → List Card → (number : ℕ) → List ℕ → ℕ
 rowLoadNumber n cards number bytes =

@@ -22,20 +22,20 @@ abbrev pub share : ℕ
 share = 4
 
 -- the push-pull front connectors of a card
-unfoldable pub pushes : Card → ℕ
-pushes c = countOf (λ k. eqb (kindAt (c .connectors) k) pushPull) frontCount
+unfoldable pub pushes : Connectors → ℕ
+pushes a = countOf (λ k. eqb (kindAt a k) pushPull) frontCount
 
 -- "the larger of 4 and the card's push-pull front connectors"
-unfoldable pub draw : Card → ℕ
-draw c = cond (ltb (pushes c) share) share (pushes c)
+unfoldable pub draw : Connectors → ℕ
+draw a = cond (ltb (pushes a) share) share (pushes a)
 
 -- no front connector has another type
 unfoldable pub sameKinds : ℕ → Connectors → Connectors → Bool
 sameKinds zero a b = true
 sameKinds (suc k) a b = sameKinds k a b && eqb (kindAt a k) (kindAt b k)
 
-abbrev pub sameFronts : Card → Card → Bool
-sameFronts c d = sameKinds frontCount (c .connectors) (d .connectors)
+abbrev pub sameFronts : Connectors → Connectors → Bool
+sameFronts a b = sameKinds frontCount a b
 
 -- "the sum over the cards": each card's number at its place among four, and their sum
 unfoldable pub sumOf : List ℕ → ℕ
@@ -43,11 +43,12 @@ sumOf [] = 0
 sumOf (x ∷ xs) = x + sumOf xs
 
 abbrev pub drawsOf : List Card → List ℕ
-drawsOf cards = map draw cards
+drawsOf cards = map (λ (c : Card). draw (c .connectors)) cards
 
 abbrev pub draws : List Card → ℕ
 draws cards = sumOf (drawsOf cards)
 
--- 19: "a change of a front connector's type is accepted only if the sum ... is then at most 16": the card c at a place among numbers becomes d
-unfoldable pub over : List ℕ → ℕ → Card → Card → Bool
-over numbers i c d = not (sameFronts c d) && ltb supply (sumOf (set numbers i (draw d)))
+-- 19: "a change of a front connector's type is accepted only if the sum ... is then at most 16": the connectors a of the card at a place among
+-- numbers become b
+unfoldable pub over : List ℕ → ℕ → (a b : Connectors) → Bool
+over numbers i a b = not (sameFronts a b) && ltb supply (sumOf (set numbers i (draw b)))

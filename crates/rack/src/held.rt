@@ -3,7 +3,7 @@ ghost use mathlib.Core.Path.{_≡_};
 ghost use Prim.Native.Nat.{_≤_};
 ghost use Rattle.rack.specs.Held.{heldOf, rowHeld};
 use crate::pass::Pass;
-use crate::row::each;
+use crate::row::passes;
 use card::card::Card;
 
 // One card more than a rack may have.
@@ -24,12 +24,12 @@ pub fn put_by(cards: [Card; HELD], pass: Pass) -> Held
     }
 }
 
-// A pass over the first n cards, which are lent as a row.
-pub fn on_row(cards: [Card; HELD], n: usize, pass: Pass) -> Held
+// An order to the first n cards, which are lent as a row.
+pub fn on_row(cards: [Card; HELD], n: usize, order: Pass) -> Held
     requires { ⌜ n ≤ 5 ⌝ }
-    ensures { λ r. ⌜ r ≡ rowHeld cards n pass ⌝ }
+    ensures { λ r. ⌜ r ≡ rowHeld cards n order ⌝ }
 {
     let mut own = cards;
-    let p = each(&mut own[0..n], pass);
+    let p = passes(&mut own[0..n], order);
     put_by(own, p)
 }

@@ -4,9 +4,9 @@ ghost use Prim.Native.Nat.{_≤_, _-_};
 ghost use Rattle.card.specs.Address.{cellsFor};
 ghost use Rattle.saved.specs.Record.{loadNumber, loaded};
 ghost use Rattle.lines.specs.Line.{shortestReply, resultOf};
-ghost use Rattle.rack.specs.Visit;
+ghost use Rattle.rack.specs.Passes;
 ghost use Rattle.rack.specs.Rack;
-ghost use Rattle.rack.specs.Rack.{outcomeIn, loadIn};
+ghost use Rattle.rack.specs.Rack.{refusalIn, loadIn};
 ghost use lib.ListN.{length};
 ghost use mathlib.Core.Bool.{cond};
 ghost use lib.Dec.{eqb};
@@ -16,20 +16,19 @@ use crate::pass::RackTicked;
 use crate::supply::MOST;
 use crate::supply::over;
 use card::card::Card;
+use card::card::Connectors;
 use lines::decision::SILENT;
 use lines::line::Answered;
-use lines::line::Outcome;
 use saved::record::Loaded;
 
 // The number of a change that the supply does not bear.
 const OVER_SUPPLY: u8 = 19;
 
-// A card taken from a row: whether row and number are no rack's, the card and its place, and what the cards of the row draw.
+// What a line or a load to a card needs of the row: whether row and number are no rack's, the card's place, and what the cards draw.
 pub struct Taken {
     pub bad: bool,
     pub place: usize,
     pub draws: [u8; MOST],
-    pub card: Card,
 }
 
 // What a call on a row answers: 0 or the number of the refusal, and the reply's length.
@@ -46,84 +45,83 @@ pub fn place_of(number: usize) -> usize
     if number == 0 { 0 } else { number - 1 }
 }
 
-// A card of a number, of a row that was looked at.
-pub fn taken_by(p: Pass, number: usize, card: Card) -> Taken
-    ensures { λ t. ⌜ t ≡ Visit.takenBy p number card ⌝ }
+// Of a row that was looked at, for the card of a number.
+pub fn taken_by(p: Pass, number: usize) -> Taken
+    ensures { λ t. ⌜ t ≡ Passes.takenBy p number ⌝ }
 {
-    let bad = ((p.k != 0) | p.large) | ((number < 1) | (p.at < number));
+    let bad = (p.k != 0) | ((number < 1) | (p.at < number));
     let draws = p.draws;
     Taken {
         bad: bad,
         place: place_of(number),
         draws: draws,
-        card: card,
     }
 }
 
-// The outcome of a line by the row: 20 before all, 19 after all.
-fn supplied(t: Taken, o: Outcome) -> Outcome
-    ensures { λ r. ⌜ r ≡ outcomeIn (t .bad) (t .draws) (t .place) (t .card) o ⌝ }
+// What the rack refuses of a call that would give number k, and connectors b for a: 20 before all, 19 after all, or nothing.
+fn refusal_in(t: Taken, a: Connectors, b: Connectors, k: u8) -> u8
+    ensures { λ r. ⌜ r ≡ refusalIn (t .bad) (t .draws) (t .place) a b k ⌝ }
 {
-    let card = t.card;
-    let response = SILENT;
     if t.bad {
-        return Outcome {
-            k: NO_RACK,
-            card: card,
-            response: response,
-        };
+        return NO_RACK;
     }
-    let next = o.card;
     let draws = t.draws;
-    if (o.k == 0) & over(draws, t.place, card, next) {
-        return Outcome {
-            k: OVER_SUPPLY,
-            card: card,
-            response: response,
-        };
+    if (k == 0) & over(draws, t.place, a, b) {
+        return OVER_SUPPLY;
     }
-    o
+    0
 }
 
 // A line to a card of a rack.
-pub fn line_in(t: Taken, text: &[u8], reply: &mut [u8], store: &mut [u8]) -> Answered
-    ensures { λ r. ⌜ (resultOf r (now (reply .exit)) (now (store .exit)) ≡ Rack.lineIn (cellsFor (t .card .size)) (t .bad) (t .draws) (t .place) (t .card) (now (text .entry)) (now (reply .entry)) (now (store .entry))) × (r .len ≤ shortestReply) ⌝ }
+pub fn line_in(t: Taken, card: Card, text: &[u8], reply: &mut [u8], store: &mut [u8]) -> Answered
+    ensures { λ r. ⌜ (resultOf r (now (reply .exit)) (now (store .exit)) ≡ Rack.lineIn (cellsFor (card .size)) (t .bad) (t .draws) (t .place) card (now (text .entry)) (now (reply .entry)) (now (store .entry))) × (r .len ≤ shortestReply) ⌝ }
 {
-    let card = t.card;
-    let o = lines::line::outcome_of(card, text, reply.len(), store.len());
-    let o = supplied(t, o);
-    lines::line::answer_to(card, o, reply, store)
+    let d = lines::line::judge(card, text, reply.len(), store.len());
+    let change = d.change;
+    let next = card::change::apply(card, change);
+    let before = card.connectors;
+    let after = next.connectors;
+    let r = refusal_in(t, before, after, d.k);
+    if r != 0 {
+        let len = lines::line::put_reply_if(reply, r, SILENT);
+        return Answered {
+            card: card,
+            k: r,
+            len: len,
+        };
+    }
+    let k = d.k;
+    let response = d.response;
+    let len = lines::line::put_reply_if(reply, k, response);
+    lines::line::save_if((k == 0) & response.saves, card, store);
+    Answered {
+        card: next,
+        k: k,
+        len: len,
+    }
 }
 
 // A load to a card of a rack.
-pub fn load_in(t: Taken, bytes: &[u8]) -> Loaded
-    ensures { λ r. ⌜ (r .k ≡ loadIn (t .bad) (t .draws) (t .place) (t .card) (loadNumber (cellsFor (t .card .size)) (now (bytes .entry))) (loaded (cellsFor (t .card .size)) (t .card) (now (bytes .entry)))) × (r .card ≡ cond (eqb (r .k) 0) (loaded (cellsFor (t .card .size)) (t .card) (now (bytes .entry))) (t .card)) ⌝ }
+pub fn load_in(t: Taken, card: Card, bytes: &[u8]) -> Loaded
+    ensures { λ r. ⌜ (r .k ≡ loadIn (t .bad) (t .draws) (t .place) card (loadNumber (cellsFor (card .size)) (now (bytes .entry))) (loaded (cellsFor (card .size)) card (now (bytes .entry)))) × (r .card ≡ cond (eqb (r .k) 0) (loaded (cellsFor (card .size)) card (now (bytes .entry))) card) ⌝ }
 {
-    let card = t.card;
-    if t.bad {
-        return Loaded {
-            card: card,
-            k: NO_RACK,
-        };
+    let l = saved::record::load(card, bytes);
+    let next = l.card;
+    let before = card.connectors;
+    let after = next.connectors;
+    let r = refusal_in(t, before, after, l.k);
+    if r != 0 {
+        return Loaded { card: card, k: r };
     }
-    let r = saved::record::load(card, bytes);
-    let next = r.card;
-    let draws = t.draws;
-    if (r.k == 0) & over(draws, t.place, card, next) {
-        return Loaded {
-            card: card,
-            k: OVER_SUPPLY,
-        };
+    if l.k == 0 {
+        return l;
     }
-    if r.k == 0 {
-        return r;
-    }
-    Loaded { card: card, k: r.k }
+    Loaded { card: card, k: l.k }
 }
 
 // What is left of an answer: the card went back to the row.
 pub fn reply_of(a: Answered) -> Replied
-    ensures { λ r. ⌜ r ≡ Visit.replyOf a ⌝ }
+    ensures { λ r. ⌜ r ≡ Passes.replyOf a ⌝ }
 {
     Replied { k: a.k, len: a.len }
 }
@@ -137,7 +135,7 @@ pub fn number_of(p: Pass) -> u8
 
 // What a rack tick gives, of the pass that it ended with.
 pub fn answers_of(p: Pass) -> RackTicked
-    ensures { λ r. ⌜ r ≡ Visit.answersOf p ⌝ }
+    ensures { λ r. ⌜ r ≡ Passes.answersOf p ⌝ }
 {
     let answers = p.answers;
     RackTicked {

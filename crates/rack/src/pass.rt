@@ -1,8 +1,9 @@
 // A pass over the row: what goes from card to card, and what is done to one card. No card is inside it.
+ghost use mathlib.Core.Bool.{cond};
 ghost use mathlib.Core.Path.{_≡_};
 ghost use lib.ListN.{getD, set};
-ghost use Rattle.rack.specs.Visit;
-ghost use Rattle.rack.specs.Rack.{startCard, noFront, inputFor};
+ghost use Rattle.rack.specs.Passes;
+ghost use Rattle.rack.specs.Rack.{noRack, startCard, noFront, inputFor};
 ghost use Rattle.card.specs.Address.{cellCount};
 use crate::shared;
 use crate::supply::MOST;
@@ -40,27 +41,22 @@ pub struct RackTicked {
     pub answers: [Answer; MOST],
 }
 
-// What is done to each card: nothing, the card is looked at, it starts, or it ticks.
-const NOTHING: u8 = 0;
+// What is done to each card once all are looked at: nothing more, it starts, or it ticks.
+const LOOK: u8 = 0;
 
-const LOOK: u8 = 1;
+const START: u8 = 1;
 
-const START: u8 = 2;
-
-const TICK: u8 = 3;
+const TICK: u8 = 2;
 
 // The number of a row that is no rack.
 pub const NO_RACK: u8 = 20;
 
-// What goes from card to card: what is done to each now (`job`) and what is to be done to each then (`act`), with its input; the number of the refusal; how
-// many cards are done; of the cards looked at whether one has thirty-two cells, the backplane lines that some pull low, and what each draws; and the
-// answers of those that ticked.
+// What goes from card to card: what is done to each (`act`), with its input; the number of the refusal, which leaves the cards as they are; how many cards
+// are done; of the cards looked at the backplane lines that some pull low, and what each draws; and the answers of those that ticked.
 pub struct Pass {
-    pub job: u8,
     pub act: u8,
     pub full: bool,
     pub k: u8,
-    pub large: bool,
     pub low: u16,
     pub at: usize,
     pub input: RackInput,
@@ -91,14 +87,12 @@ const IDLE: Answer = Answer {
 
 // Before the first card.
 fn order(act: u8, full: bool, input: RackInput) -> Pass
-    ensures { λ p. ⌜ p ≡ Visit.order act full input ⌝ }
+    ensures { λ p. ⌜ p ≡ Passes.order act full input ⌝ }
 {
     Pass {
-        job: NOTHING,
         act: act,
         full: full,
         k: 0,
-        large: false,
         low: 0,
         at: 0,
         input: input,
@@ -108,7 +102,7 @@ fn order(act: u8, full: bool, input: RackInput) -> Pass
 }
 
 fn no_input() -> RackInput
-    ensures { λ r. ⌜ r ≡ Visit.noInput ⌝ }
+    ensures { λ r. ⌜ r ≡ Passes.noInput ⌝ }
 {
     RackInput {
         code: 0,
@@ -121,49 +115,56 @@ fn no_input() -> RackInput
 
 // The cards are to be looked at only.
 pub fn look_order() -> Pass
-    ensures { λ p. ⌜ p ≡ Visit.lookOrder ⌝ }
+    ensures { λ p. ⌜ p ≡ Passes.lookOrder ⌝ }
 {
-    order(NOTHING, false, no_input())
+    order(LOOK, false, no_input())
 }
 
 pub fn start_order() -> Pass
-    ensures { λ p. ⌜ p ≡ Visit.startOrder ⌝ }
+    ensures { λ p. ⌜ p ≡ Passes.startOrder ⌝ }
 {
     order(START, false, no_input())
 }
 
 pub fn tick_order(full: bool, input: RackInput) -> Pass
-    ensures { λ p. ⌜ p ≡ Visit.tickOrder full input ⌝ }
+    ensures { λ p. ⌜ p ≡ Passes.tickOrder full input ⌝ }
 {
     order(TICK, full, input)
 }
 
-// The first pass over a row of n cards: it looks at them, where they are 1 to MOST.
-pub fn looking(p: Pass, n: usize) -> Pass
-    ensures { λ r. ⌜ r ≡ Visit.looking p n ⌝ }
+// 20 where a test of the row holds, else the number so far.
+fn refused_if(bad: bool, k: u8) -> u8
+    ensures { λ r. ⌜ r ≡ cond bad noRack k ⌝ }
 {
+    if bad { NO_RACK } else { k }
+}
+
+// Before a row of n cards is looked at: 20 where they are not 1 to MOST.
+pub fn looking(p: Pass, n: usize) -> Pass
+    ensures { λ r. ⌜ r ≡ Passes.looking p n ⌝ }
+{
+    let k = refused_if((n < 1) | (MOST < n), p.k);
     let mut next = p;
-    if (n < 1) | (MOST < n) {
-        next.k = NO_RACK;
-        return next;
-    }
-    next.job = LOOK;
+    next.k = k;
     next
 }
 
-// The second pass, by what the first one saw: it does what was ordered, where the row is a rack and the samples are one for each card.
+// The same where the cards are to be looked at only.
+pub fn look_pass(n: usize) -> Pass
+    ensures { λ p. ⌜ p ≡ Passes.looking Passes.lookOrder n ⌝ }
+{
+    looking(look_order(), n)
+}
+
+// Before what was ordered is done to the row: 20 where a tick's samples are not one for each card.
 pub fn acting(p: Pass) -> Pass
-    ensures { λ r. ⌜ r ≡ Visit.acting p ⌝ }
+    ensures { λ r. ⌜ r ≡ Passes.acting p ⌝ }
 {
     let input = p.input;
+    let k = refused_if((p.act == TICK) & (input.count as usize != p.at), p.k);
     let mut next = p;
+    next.k = k;
     next.at = 0;
-    if ((p.k != 0) | p.large) | ((p.act == TICK) & (input.count as usize != p.at)) {
-        next.job = NOTHING;
-        next.k = NO_RACK;
-        return next;
-    }
-    next.job = p.act;
     next
 }
 
@@ -216,25 +217,27 @@ fn input_for(input: RackInput, at: usize) -> Input
     }
 }
 
-// The place of the next card; there is none behind the last.
+// The place of the next card; there is none after the last.
 fn next_at(at: usize) -> usize
-    ensures { λ r. ⌜ r ≡ Visit.next at ⌝ }
+    ensures { λ r. ⌜ r ≡ Passes.next at ⌝ }
 {
     if at < MOST { at + 1 } else { at }
 }
 
 // A card is looked at.
-fn looked(p: Pass, card: Card) -> Pass
-    ensures { λ r. ⌜ r ≡ Visit.looked p card ⌝ }
+pub fn look(p: Pass, card: Card) -> Pass
+    ensures { λ r. ⌜ r ≡ Passes.look p card ⌝ }
 {
     let input = p.input;
     let before = p.draws;
-    let v = draw(card);
+    let connectors = card.connectors;
+    let v = draw(connectors);
     let draws = put_draw(before, p.at, v);
     let low = shared::pulled(card, input.code);
     let at = next_at(p.at);
+    let k = refused_if(card.size == LARGE, p.k);
     let mut next = p;
-    next.large = p.large | (card.size == LARGE);
+    next.k = k;
     next.low = p.low | low;
     next.at = at;
     next.draws = draws;
@@ -243,7 +246,7 @@ fn looked(p: Pass, card: Card) -> Pass
 
 // A card ticks.
 fn ticked(p: Pass, card: Card) -> Visited
-    ensures { λ v. ⌜ v ≡ Visit.ticked p card ⌝ }
+    ensures { λ v. ⌜ v ≡ Passes.ticked p card ⌝ }
 {
     let all = p.input;
     let input = input_for(all, p.at);
@@ -262,25 +265,18 @@ fn ticked(p: Pass, card: Card) -> Visited
     }
 }
 
-// What a pass does to the card that it has come to.
+// What is done to the card that a pass has come to.
 pub fn visit(pass: Pass, card: Card) -> Visited
-    ensures { λ v. ⌜ v ≡ Visit.visit pass card ⌝ }
+    ensures { λ v. ⌜ v ≡ Passes.visit pass card ⌝ }
 {
-    if pass.job == LOOK {
-        let next = looked(pass, card);
-        return Visited {
-            card: card,
-            pass: next,
-        };
-    }
-    if pass.job == START {
+    if (pass.k == 0) & (pass.act == START) {
         let c = start_card();
         return Visited {
             card: c,
             pass: pass,
         };
     }
-    if pass.job == TICK {
+    if (pass.k == 0) & (pass.act == TICK) {
         return ticked(pass, card);
     }
     Visited {

@@ -9,15 +9,17 @@ use crate::job::answers_of;
 use crate::job::line_in;
 use crate::job::load_in;
 use crate::job::number_of;
-use crate::job::place_of;
 use crate::job::reply_of;
+use crate::job::taken_by;
 use crate::pass::RackInput;
 use crate::pass::RackTicked;
+use crate::pass::look_pass;
+use crate::pass::start_card;
 use crate::pass::start_order;
 use crate::pass::tick_order;
+use crate::row::look_each;
 use crate::row::passes;
 use crate::row::swap_at;
-use crate::row::take;
 use card::card::Card;
 
 // Every card of the row fresh, but with all connectors as inputs.
@@ -52,11 +54,16 @@ pub extern "C" fn rack_line(
 ) -> Replied
     ensures { λ r. ⌜ (rowResultOf r (now (row .exit)) (now (reply .exit)) (now (store .exit)) ≡ rowResult cellCount (now (row .entry)) number (now (text .entry)) (now (reply .entry)) (now (store .entry))) × (r .len ≤ shortestReply) ⌝ }
 {
-    let t = take(row, number);
-    let a = line_in(t, text, reply, store);
-    let i = place_of(number);
-    let c = a.card;
-    swap_at(row, i, c);
+    let n = row.len();
+    let p = look_pass(n);
+    let q = look_each(row, p);
+    let t = taken_by(q, number);
+    let i = t.place;
+    let other = start_card();
+    let c = swap_at(row, i, other);
+    let a = line_in(t, c, text, reply, store);
+    let d = a.card;
+    swap_at(row, i, d);
     reply_of(a)
 }
 
@@ -65,10 +72,15 @@ pub extern "C" fn rack_line(
 pub extern "C" fn rack_load(row: &mut [Card], number: usize, bytes: &[u8]) -> u8
     ensures { λ k. ⌜ (k ≡ rowLoadNumber cellCount (now (row .entry)) number (now (bytes .entry))) × (now (row .exit) ≡ loadedRow cellCount (now (row .entry)) number (now (bytes .entry))) ⌝ }
 {
-    let t = take(row, number);
-    let r = load_in(t, bytes);
-    let i = place_of(number);
-    let c = r.card;
-    swap_at(row, i, c);
+    let n = row.len();
+    let p = look_pass(n);
+    let q = look_each(row, p);
+    let t = taken_by(q, number);
+    let i = t.place;
+    let other = start_card();
+    let c = swap_at(row, i, other);
+    let r = load_in(t, c, bytes);
+    let d = r.card;
+    swap_at(row, i, d);
     r.k
 }

@@ -1,17 +1,26 @@
 // A lent row of cards, each read and changed where it sits. Proved by a walk of the code.
 ghost use mathlib.Core.Path.{_≡_};
 ghost use lib.ListN.{getD, set};
-ghost use Rattle.rack.specs.Visit.{afterRow, visitedRow, actedOver, actedRow, takenFrom, takenRow};
-use crate::job::Taken;
-use crate::job::place_of;
-use crate::job::taken_by;
+ghost use Rattle.rack.specs.Passes.{lookedAll, afterRow, visitedRow, actedOver, actedRow};
 use crate::pass::Pass;
 use crate::pass::acting;
-use crate::pass::look_order;
+use crate::pass::look;
 use crate::pass::looking;
-use crate::pass::start_card;
 use crate::pass::visit;
 use card::card::Card;
+
+// Each card of the row is looked at; the row stays as it is.
+pub fn look_each(row: &mut [Card], pass: Pass) -> Pass
+    ensures { λ p. ⌜ (p ≡ lookedAll pass (now (row .entry))) × (now (row .exit) ≡ now (row .entry)) ⌝ }
+{
+    let mut p = pass;
+    let mut i: usize = 0;
+    while i < row.len() {
+        p = look(p, row[i]);
+        i = i + 1;
+    }
+    p
+}
 
 // A pass over the row: each card is handed by value to `visit`, and what that gives takes its place.
 pub fn each(row: &mut [Card], pass: Pass) -> Pass
@@ -41,27 +50,13 @@ pub fn swap_at(row: &mut [Card], i: usize, card: Card) -> Card
     }
 }
 
-// Both passes of an order: the cards are looked at, and then it is done.
+// An order: the cards are looked at, and then it is done.
 pub fn passes(row: &mut [Card], order: Pass) -> Pass
     ensures { λ p. ⌜ (p ≡ actedOver order (now (row .entry))) × (now (row .exit) ≡ actedRow order (now (row .entry))) ⌝ }
 {
     let n = row.len();
     let p = looking(order, n);
-    let q = each(row, p);
+    let q = look_each(row, p);
     let s = acting(q);
     each(row, s)
-}
-
-// The card of a number, with what the cards of the row draw. A started card stands in its place until it is put back.
-pub fn take(row: &mut [Card], number: usize) -> Taken
-    ensures { λ t. ⌜ (t ≡ takenFrom (now (row .entry)) number) × (now (row .exit) ≡ takenRow (now (row .entry)) number) ⌝ }
-{
-    let n = row.len();
-    let o = look_order();
-    let p = looking(o, n);
-    let q = each(row, p);
-    let i = place_of(number);
-    let other = start_card();
-    let c = swap_at(row, i, other);
-    taken_by(q, number, c)
 }

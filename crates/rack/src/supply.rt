@@ -4,7 +4,7 @@ ghost use Rattle.rack.specs.Supply;
 ghost use Rattle.rack.specs.Supply.{sumOf};
 ghost use mathlib.Core.List.{[], _∷_};
 ghost use lib.ListN.{set};
-use card::card::Card;
+use card::card::Connectors;
 use card::connectors::kind_at;
 use card::limits::FRONT;
 use card::limits::FRONT_WORD;
@@ -18,27 +18,24 @@ const SUPPLY: u32 = 16;
 const SHARE: u8 = 4;
 
 // The push-pull front connectors of a card.
-fn pushes(card: Card) -> u8
-    ensures { λ r. ⌜ r ≡ Supply.pushes card ⌝ }
+fn pushes(c: Connectors) -> u8
+    ensures { λ r. ⌜ r ≡ Supply.pushes c ⌝ }
 {
-    let c = card.connectors;
     u16::count_ones(c.push_pull & FRONT_WORD) as u8
 }
 
 // What a card draws: the larger of its share and the number of its push-pull front connectors.
-pub fn draw(card: Card) -> u8
-    ensures { λ r. ⌜ r ≡ Supply.draw card ⌝ }
+pub fn draw(c: Connectors) -> u8
+    ensures { λ r. ⌜ r ≡ Supply.draw c ⌝ }
 {
-    let m = pushes(card);
+    let m = pushes(c);
     if m < SHARE { SHARE } else { m }
 }
 
-// Whether no front connector of a card has another type.
-fn same_fronts(c: Card, d: Card) -> bool
-    ensures { λ q. ⌜ q ≡ Supply.sameFronts c d ⌝ }
+// Whether no front connector has another type.
+fn same_fronts(a: Connectors, b: Connectors) -> bool
+    ensures { λ q. ⌜ q ≡ Supply.sameFronts a b ⌝ }
 {
-    let a = c.connectors;
-    let b = d.connectors;
     let mut same = true;
     for k in 0..FRONT as u32 {
         let x = kind_at(a, k);
@@ -72,14 +69,14 @@ pub fn put_draw(draws: [u8; MOST], at: usize, v: u8) -> [u8; MOST]
     next
 }
 
-// Whether a card would be more than the supply bears: the type of a front connector changed, and the sum with it in its place is over the supply.
-pub fn over(draws: [u8; MOST], at: usize, c: Card, d: Card) -> bool
-    ensures { λ q. ⌜ q ≡ Supply.over draws at c d ⌝ }
+// Whether a card with other connectors is more than the supply bears: the type of a front one changed, and the sum with them in its place is over it.
+pub fn over(draws: [u8; MOST], at: usize, a: Connectors, b: Connectors) -> bool
+    ensures { λ q. ⌜ q ≡ Supply.over draws at a b ⌝ }
 {
-    if same_fronts(c, d) {
+    if same_fronts(a, b) {
         return false;
     }
-    let v = draw(d);
+    let v = draw(b);
     let next = put_draw(draws, at, v);
     SUPPLY < sum(next)
 }

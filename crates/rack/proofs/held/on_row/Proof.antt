@@ -1,12 +1,12 @@
--- `rack::held::on_row` meets its contract: a walk of its code. The first n cards of the array are lent to `each` as a row.
+-- `rack::held::on_row` meets its contract: a walk of its code. The first n cards of the array are lent to `passes` as a row.
 use Rattle.rack.proofs.Walk.{ !, Atoms, Calls, FmC, Fun, Given, Heap, Is, List, Loops, Meets, Memory, Room, Routine, SProp, Stays, Tables}
-use Rattle.rack.proofs.Walk.{Triple, Ty, URA, Val, Walks, WpFn, WpFn-mono, [], _$_, _++_, _-_, _<_, _^_, _∙_, _∵_, _∷_, _≡_, _≤_, _⊛_, addr}
-use Rattle.rack.proofs.Walk.{agg, alloc0, alloc1, and-then, ap, arith, assigns, bin, by, cells, cited, done, emp, ends-at, ent, enter, entered}
-use Rattle.rack.proofs.Walk.{fact, fat, fjoin, fld, fmOf, forget, frame, free0, free1, from, fsplit, fst∗, ftrue, fullShare, given, givenOf}
-use Rattle.rack.proofs.Walk.{goes-dropped, hop, init, join, keep, land, learn, length, lit, load, look, look-in, mem, move, no-more, nothing}
-use Rattle.rack.proofs.Walk.{of-opd, onEntry, owned, owns, params1, pass0, pass1, place, plain, qed, refl, returns, rewrite, says, snd∗, split}
-use Rattle.rack.proofs.Walk.{stay-dropped, stop, sub, subst, suffices, sym, tables, take, tripleOf, tyArray, tyInt, uint-tells, uint-vals}
-use Rattle.rack.proofs.Walk.{use1, use2, usize, via, vint, w64, walk-meets, walkOf, walked, whole, yes, ‵, ℕ, ⋆}
+use Rattle.rack.proofs.Walk.{Triple, Ty, URA, Val, Walks, WpFn, WpFn-mono, [], _$_, _++_, _-_, _<_, _^_, _∵_, _∷_, _≡_, _≤_, _⊛_, addr, agg}
+use Rattle.rack.proofs.Walk.{alloc0, alloc1, and-then, arith, assigns, bin, by, cells, cited, done, emp, ends-at, ent, enter, entered, fact}
+use Rattle.rack.proofs.Walk.{fat, fjoin, fmOf, forget, free0, free1, from, fst∗, ftrue, fullShare, given, givenOf, goes-dropped, hop, init}
+use Rattle.rack.proofs.Walk.{keep, land, learn, length, lit, load, look, mem, move, no-more, nothing, of-opd, onEntry, owned, owns, params1}
+use Rattle.rack.proofs.Walk.{pass0, pass1, place, plain, qed, refl, returns, rewrite, says, snd∗, split, stay-dropped, stop, suffices, tables}
+use Rattle.rack.proofs.Walk.{take, tripleOf, tyArray, tyInt, uint-tells, uint-vals, use1, use2, usize, via, vint, w64, walk-meets, walkOf}
+use Rattle.rack.proofs.Walk.{walked, yes, ‵, ℕ}
 use Prim.Native.Nat.{zero-le}
 use lib.ListN.{drop, length-append, length-drop}
 use lib.Seq.{length-take-le}
@@ -19,16 +19,16 @@ use Rattle.card.specs.declared.card.Card.{Card}
 use Rattle.rack.specs.declared.pass.Pass.{Pass}
 use Rattle.rack.specs.declared.held.Held.{Held}
 use Rattle.rack.specs.Held.{heldOf, rowHeld}
-use Rattle.rack.specs.Visit as S
+use Rattle.rack.specs.Passes as S
 use Rattle.rack.proofs.Types.{R′, P′, pv, p-vals, p-tells, p-typed}
 use Rattle.rack.proofs.Own.{A′, rv, cardTy, r-tells, r-typed, array-lent, array-back, calls-own}
-use Rattle.rack.proofs.LendsEach.{Each, to-each, goes, gives}
+use Rattle.rack.proofs.LendsPass.{Passing, to-pass, goes, gives}
 use Rattle.rack.proofs.PlainsHeld.{H′, hv, h-tells, h-makes, h-typed, MakesHeld, calls-held}
 use Rattle.rack.proofs.held.Held as HT
 use Rattle.rack.proofs.held.Held.Laws as HL
-use Rattle.rack.proofs.row.each.Symbol as each-def
-use Rattle.rack.proofs.row.each.Symbol.{name as #each}
-use Rattle.rack.proofs.row.each.Met as each-thm
+use Rattle.rack.proofs.row.passes.Symbol as passes-def
+use Rattle.rack.proofs.row.passes.Symbol.{name as #passes}
+use Rattle.rack.proofs.row.passes.Met as passes-thm
 use Rattle.rack.proofs.held.put_by.Symbol as held-def
 use Rattle.rack.proofs.held.put_by.Symbol.{name as #held}
 use Rattle.rack.proofs.held.put_by.Met as held-thm
@@ -56,10 +56,10 @@ module _ {M : Type 1} (𝓤 : URA M) (H : Heap 𝓤) (A : Atoms 𝓤) (W : Given
   tail = drop n xs
 
   abbrev e₁ : Pass
-  e₁ = S.afterRow order ys
+  e₁ = S.actedOver order ys
 
   abbrev zs : List Card
-  zs = S.visitedRow order ys
+  zs = S.actedRow order ys
 
   abbrev ws : List Card
   ws = zs ++ tail
@@ -84,7 +84,7 @@ module _ {M : Type 1} (𝓤 : URA M) (H : Heap 𝓤) (A : Atoms 𝓤) (W : Given
       owned ! H′ (Is H′) (h-makes 𝓤 H A) e₂ _ is $ nothing ! $ nothing ! $ fjoin ! $ nothing ! $ fjoin ! $ nothing ! $ fjoin ! $ nothing ! $ done !
 
   module _ (C : Calls 𝓤 H) (Λ : Loops 𝓤 H) (fm : FmC 𝓤 H (W .laws) C)
-      (known-each : Triple 𝓤 (C #each) (Each 𝓤 H A at-mem run))
+      (known-passes : Triple 𝓤 (C #passes) (Passing 𝓤 H A S.actedOver S.actedRow))
       (known-held : Triple 𝓤 (C #held) (MakesHeld 𝓤 H A at-mem run))
       (is : Is (A′ 5) xs (rv xs ∷ [])) (n-fits : n < 2 ^ 64) (is-order : Is P′ order (pv order ∷ [])) (small : n ≤ 5) where
     five : length xs ≡ 5
@@ -127,9 +127,9 @@ module _ {M : Type 1} (𝓤 : URA M) (H : Heap 𝓤) (A : Atoms 𝓤) (W : Given
         -- the array goes: [the row; the other cards; _11; …; _5; _4's end; _3; …]
         move ! (14 ∷ []) $ use1 W (‵ (cells (mem R′) ys l₄ 0) ⊛ ‵ (cells (mem R′) tail l₄ (place (mem R′ .size) 0 (length ys))))
         (array-lent 𝓤 H A W 5 n xs l₄ 0 is) $ split ! $
-        calls-own 𝓤 H A l₄ 0 ys ! fm (Each 𝓤 H A at-mem run) known-each (λ ν δ. to-each 𝓤 H A at-mem run (ν ∷ []) fullShare l₄ 0 δ ys order ν δ)
-        P′ pv p-tells e₁ zs room (λ ν δ. goes 𝓤 H A at-mem run (ν ∷ []) fullShare l₄ 0 δ ys order W is-order ν δ)
-        (λ ν δ. gives 𝓤 H A at-mem run (ν ∷ []) fullShare l₄ 0 δ ys order W ν δ)
+        calls-own 𝓤 H A l₄ 0 ys ! fm (Passing 𝓤 H A S.actedOver S.actedRow) known-passes (λ ν δ. to-pass 𝓤 H A S.actedOver S.actedRow (ν ∷ []) fullShare l₄ 0 δ ys order ν δ)
+        P′ pv p-tells e₁ zs room (λ ν δ. goes 𝓤 H A S.actedOver S.actedRow (ν ∷ []) fullShare l₄ 0 δ ys order W is-order ν δ)
+        (λ ν δ. gives 𝓤 H A S.actedOver S.actedRow (ν ∷ []) fullShare l₄ 0 δ ys order W ν δ)
         (λ ν δ. (and-then ! (load ! (from ! (stop !)) (look ! 5 refl)) (and-then ! (load ! (from ! (stop !)) (look ! 18 refl)) (no-more !)))) (λ is₁ long₁.
         land ! (from ! (stop !)) (init ! 14 refl (p-typed 𝓤 H A W e₁ is₁)) $
         -- it comes back: [_4; _11; …; _5; _4's end; _3; …]
@@ -147,7 +147,7 @@ module _ {M : Type 1} (𝓤 : URA M) (H : Heap 𝓤) (A : Atoms 𝓤) (W : Given
         keep ! [] $ by ! (exits is₃))))))))))))))))
 
 module _ {M : Type 1} (𝓤 : URA M) (H : Heap 𝓤) (A : Atoms 𝓤) (W : Given 𝓤 H A) (at-mem : Memory → SProp 𝓤) (run : Routine → Fun 𝓤) (𝓣 : Tables 𝓤 H)
-    (known-each : Triple 𝓤 (𝓣 .C #each) (Each 𝓤 H A at-mem run))
+    (known-passes : Triple 𝓤 (𝓣 .C #passes) (Passing 𝓤 H A S.actedOver S.actedRow))
     (known-held : Triple 𝓤 (𝓣 .C #held) (MakesHeld 𝓤 H A at-mem run)) where
   on-row-walks : Walks 𝓤 H A f.ended stayed (WpFn 𝓤 H (𝓣 .C) (𝓣 .Λ) code.function) (f.clauses 𝓤 H A at-mem run)
   on-row-walks =
@@ -164,7 +164,7 @@ module _ {M : Type 1} (𝓤 : URA M) (H : Heap 𝓤) (A : Atoms 𝓤) (W : Given
           ),
         ),
       )) (fact 𝓤 (a .1 .0 ≤ 5))) (λ small. via 𝓤 _ (fst∗ 𝓤 _ (fact 𝓤 (a .1 .0 ≤ 5)))
-      (walk 𝓤 H A W at-mem run (a .0) (a .1 .0) (a .1 .1 .0) (𝓣 .C) (𝓣 .Λ) (fmOf 𝓤 H (W .laws) 𝓣) known-each known-held (are .0) (are .1 .0 .1)
+      (walk 𝓤 H A W at-mem run (a .0) (a .1 .0) (a .1 .1 .0) (𝓣 .C) (𝓣 .Λ) (fmOf 𝓤 H (W .laws) 𝓣) known-passes known-held (are .0) (are .1 .0 .1)
       (are .1 .1 .0) small)))
 
   on-row-meets : Meets 𝓤 H A f.signature (WpFn 𝓤 H (𝓣 .C) (𝓣 .Λ) code.function) (f.spec 𝓤 H A at-mem run)
@@ -181,7 +181,7 @@ on-row-spec 𝓤 H 𝓜 𝓖 𝓡 =
     entered 𝓤 H (tripleOf 𝓤 H (𝓖 .A) f.signature (f.spec 𝓤 H (𝓖 .A) (𝓜 .mem) (𝓡 .run)))
     (tables 𝓤 H 𝓜 𝓡 code.env .C) (tables 𝓤 H 𝓜 𝓡 code.env .Λ) #on-row code.function (code.unfolded 𝓤 H 𝓜 𝓡)
     (on-row-meets 𝓤 H (𝓖 .A) (givenOf 𝓤 H 𝓜 𝓖) (𝓜 .mem) (𝓡 .run) (tablesOf 𝓤 H 𝓜 (tables 𝓤 H 𝓜 𝓡 code.env))
-    (cited 𝓤 H (Each 𝓤 H (𝓖 .A) (𝓜 .mem) (𝓡 .run)) 𝓜 𝓡 code.env #each each-def.routine code.calls-rack·row·each
-    (each-thm.met 𝓤 H 𝓜 𝓖 𝓡))
+    (cited 𝓤 H (Passing 𝓤 H (𝓖 .A) S.actedOver S.actedRow) 𝓜 𝓡 code.env #passes passes-def.routine code.calls-rack·row·passes
+    (passes-thm.met 𝓤 H 𝓜 𝓖 𝓡))
     (cited 𝓤 H (MakesHeld 𝓤 H (𝓖 .A) (𝓜 .mem) (𝓡 .run)) 𝓜 𝓡 code.env #held held-def.routine code.calls-rack·held·put-by
     (held-thm.met 𝓤 H 𝓜 𝓖 𝓡)))

@@ -10,12 +10,11 @@ place-of-requires c κs = search needs
 
 returns : tie.Need-returns
 returns c =
-    let a = c .before .before .before .before .before .args in
+    let a = c .before .before .before .before .args in
     λ i. record {
-      bad = (not (eqb (a .p .k) 0) || a .p .large) || (ltb (a .number) 1 || ltb (a .p .at) (a .number));
+      bad = not (eqb (a .p .k) 0) || (ltb (a .number) 1 || ltb (a .p .at) (a .number));
       place = c .place-of .ensures i;
       draws = a .p .draws;
-      card = a .card;
     }
 
 pub taken-by-spec : {M : Type 1} → statement M

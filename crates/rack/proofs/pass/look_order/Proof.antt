@@ -1,7 +1,7 @@
 -- `rack::pass::look_order` meets its contract: an order with no input.
 use mathlib.Core.Path.{ap, _∙_}
 use mathlib.Core.Bool.{false}
-use Rattle.rack.specs.Visit.{nothing, order}
+use Rattle.rack.specs.Passes.{looks, order}
 use borrow.Author.Needs.{needs}
 use Rattle.rack.proofs.pass.look_order.Statement.{statement}
 use Rattle.rack.proofs.pass.look_order.Tie as tie
@@ -13,7 +13,7 @@ order-requires : tie.Need-order-requires
 order-requires c κs = search needs
 
 returns : tie.Need-returns
-returns c = c .order .ensures ∙ ap (order nothing false) (c .before .no-input .ensures)
+returns c = c .order .ensures ∙ ap (order looks false) (c .before .no-input .ensures)
 
 pub look-order-spec : {M : Type 1} → statement M
 look-order-spec = tie.close (tie.spec no-input-requires order-requires returns)

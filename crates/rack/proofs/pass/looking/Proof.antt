@@ -1,15 +1,17 @@
--- `rack::pass::looking` meets its contract: the test of the definition.
-use Rattle.rack.specs.Visit.{looking}
+-- `rack::pass::looking` meets its contract: the number by `refused_if`.
+use Rattle.rack.specs.Passes.{numbered, looking}
+use borrow.Author.Needs.{needs}
 use Rattle.rack.proofs.pass.looking.Statement.{statement}
 use Rattle.rack.proofs.pass.looking.Tie as tie
 
+refused-if-requires : tie.Need-refused-if-requires
+refused-if-requires c κs = search needs
+
 returns : tie.Need-returns
 unfolding looking
-returns c = rw (c .if1 .taken)
-
-returns-2 : tie.Need-returns-2
-unfolding looking
-returns-2 c = rw (c .if1 .left)
+returns c =
+    let p = c .before .args .p in
+    λ i. numbered p (c .refused-if .ensures i) (p .at)
 
 pub looking-spec : {M : Type 1} → statement M
-looking-spec = tie.close (tie.spec returns returns-2)
+looking-spec = tie.close (tie.spec refused-if-requires returns)

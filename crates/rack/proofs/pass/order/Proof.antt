@@ -1,6 +1,6 @@
 -- `rack::pass::order` meets its contract: as the definition has it.
 use mathlib.Core.Path.{refl}
-use Rattle.rack.specs.Visit.{order}
+use Rattle.rack.specs.Passes.{order}
 use Rattle.rack.proofs.pass.order.Statement.{statement}
 use Rattle.rack.proofs.pass.order.Tie as tie
 

@@ -5,7 +5,7 @@ use Rattle.card.specs.Address.{cellsFor}
 use Rattle.ticks.specs.declared.view.Input.{Input}
 use Rattle.ticks.specs.declared.tick.Ticked.{Ticked}
 use Rattle.rack.specs.Shared.{sharedTick}
-use Rattle.rack.specs.Visit.{ticked}
+use Rattle.rack.specs.Passes.{ticked}
 use borrow.Author.Needs.{needs}
 use Rattle.rack.proofs.pass.ticked.Statement.{statement}
 use Rattle.rack.proofs.pass.ticked.Tie as tie
@@ -36,11 +36,9 @@ returns c =
     λ i. record {
       card = t i .card;
       pass = record {
-        job = p .job;
         act = p .act;
         full = p .full;
         k = p .k;
-        large = p .large;
         low = p .low;
         at = n .next-at .ensures i;
         input = p .input;

@@ -1,46 +1,35 @@
 -- `rack::row::each` meets its contract: a walk of its code. The borrow is opened once, before the loop. A turn takes card i out of the row, calls `visit` on it
 -- by value, and puts the card that it gives in its place.
 use Rattle.rack.proofs.Walk.{ !, Atoms, Bool, Calls, Code, Contract, Env, Fun, GName, Given, Heap, Held, Is, Item, Lft, List, Loops, Meets}
-use Rattle.rack.proofs.Walk.{Memory, MutSlice, RattleType, RefT, Room, Routine, SProp, Share, Stays, T, Tables, Triple, Ty, URA, Val, WT}
-use Rattle.rack.proofs.Walk.{Walks, WpFn, WpFn-mono, [], _$_, _*_, _+_, _<_, _^_, _∙_, _∵_, _∷_, _≡_, _≤_, _⊛_, alloc0, alloc1, and-then, ap}
-use Rattle.rack.proofs.Walk.{arith, assign, assigns, assigns-last, at-slice, atRet, await, bin, by, calls-at, cited, closes-slice, codedHoleys}
-use Rattle.rack.proofs.Walk.{copy, done, drop′, elem-out, elem-put, emp, ends-at, ensured, ent, enter, entered, ex, exE, exec, fact, false}
-use Rattle.rack.proofs.Walk.{fat, fauth, fbor, fjoin, fld, flft, fmOf, fobor, fobs, forget, frame, free0, free1, from, fsplit, fst∗, ftrue}
-use Rattle.rack.proofs.Walk.{fullShare, getD, givenOf, goes-none, goes-slice, guard, hasTy, heard, heres, hop, id⊢, init, join, keep, land}
-use Rattle.rack.proofs.Walk.{lasts, later, le-of-lt, le-refl, length, lit, load, local-place, look, look-in, look-raw, lt-of-le-of-lt}
-use Rattle.rack.proofs.Walk.{lt-of-lt-of-le, ltb, ltb→lt, mem, move, mul-le-mul, mut, mut-slice-tells, named, no-more, nothing, now, of-opd}
-use Rattle.rack.proofs.Walk.{onEntry, only, opens-slice, owned, owns, params1, pass0, pass1, peeks, pick, place, place-is, plain, pointee}
-use Rattle.rack.proofs.Walk.{pureI, qed, raw, refl, return, returns, rewrite, row, rvOpd, says, sem, seq, set, shows, slice-vals, sliceTy}
-use Rattle.rack.proofs.Walk.{sliceVal, snd∗, some, split, stay-none, stay-slice, stop, store-raw, sub, subst, suc, suffices, sym, tables}
-use Rattle.rack.proofs.Walk.{tripleOf, true, tyBool, tyInt, tyPtr, tyRef, use1, vbool, via, vint, vptr, w64, walk-meets, walkOf, walked, whole}
-use Rattle.rack.proofs.Walk.{yes, zero, ‵, ℕ, ⋆}
-use native.Mathlib.Nat.{add-zero, add-suc, zero-add, suc-add, lt-irrefl, lt-suc-self}
-use lib.WfN.{Nat·lt-wfRel}
+use Rattle.rack.proofs.Walk.{Memory, MutSlice, RefT, Room, Routine, SProp, Share, Stays, T, Tables, Triple, Ty, URA, Val, Walks, WpFn}
+use Rattle.rack.proofs.Walk.{WpFn-mono, [], _$_, _*_, _+_, _<_, _^_, _∙_, _∵_, _∷_, _≡_, _≤_, _⊛_, alloc0, alloc1, and-then, ap, arith, assign}
+use Rattle.rack.proofs.Walk.{assigns, assigns-last, at-slice, atRet, bin, by, cited, closes-slice, codedHoleys, copy, done, drop′, elem-out}
+use Rattle.rack.proofs.Walk.{elem-put, emp, ends-at, ent, enter, entered, exec, false, fat, fauth, fbor, fjoin, fld, flft, fmOf, fobor, fobs}
+use Rattle.rack.proofs.Walk.{forget, frame, free0, free1, from, fsplit, fst∗, ftrue, fullShare, getD, givenOf, goes-none, goes-slice, heres}
+use Rattle.rack.proofs.Walk.{hop, init, join, keep, land, le-of-lt, le-refl, length, lit, load, local-place, look, look-in, look-raw}
+use Rattle.rack.proofs.Walk.{lt-of-le-of-lt, lt-of-lt-of-le, ltb, ltb→lt, mem, move, mul-le-mul, mut, mut-slice-tells, named, no-more, nothing}
+use Rattle.rack.proofs.Walk.{now, of-opd, onEntry, opens-slice, owned, owns, params1, pass0, pass1, place-is, plain, pointee, pureI, qed, refl}
+use Rattle.rack.proofs.Walk.{return, returns, rewrite, row, rvOpd, says, seq, set, shows, slice-vals, sliceTy, sliceVal, split, stay-none}
+use Rattle.rack.proofs.Walk.{stay-slice, stop, store-raw, sub, subst, suc, suffices, sym, tables, tripleOf, true, tyBool, tyInt, tyPtr, tyRef}
+use Rattle.rack.proofs.Walk.{vbool, via, vint, vptr, w64, walk-meets, walkOf, walked, whole, yes, zero, ‵, ℕ, ⋆}
+use native.Mathlib.Nat.{add-zero, add-suc, lt-irrefl}
 use lib.Dec.{lt→ltb, lit<}
 use mir.Syntax.{loop}
-use base.Logic.{exI, guardI, guardE}
 use base.Fml.{froom, fdies}
 use prog.Wp.{Out, afterSeq, afterBlock, afterTurn, Wp, atReturn}
 use contract.Running.{tablesOf}
 use types.Kit.{anyQ}
-use types.Run.{store}
-use types.Run.{stays, leaves-loop}
-use sound.Loop.{loop-rule}
-use denote.Struct.Laws as LL
+use types.Run.{store, stays, leaves-loop}
 use Rattle.card.specs.declared.card.Card.{Card}
-use Rattle.card.proofs.card.Card as CT
-use Rattle.card.proofs.card.Card.Laws as CL
 use Rattle.rack.specs.declared.pass.Pass.{Pass}
-use Rattle.rack.specs.declared.pass.Visited.{Visited}
-use Rattle.rack.specs.Visit as S
-use Rattle.rack.specs.Visit.{afterRow, visitedRow}
+use Rattle.rack.specs.Passes as S
 use Rattle.card.specs.Fresh.{fresh}
+use Rattle.rack.proofs.Counted.{counts-up}
+use Rattle.rack.specs.declared.pass.Visited.{Visited}
+use Rattle.rack.specs.Passes.{afterRow, visitedRow}
+use Rattle.rack.proofs.Called.{Plain2, calls2}
 use Rattle.rack.proofs.Rows.{Midway, midway-start, midway-next, midway-end}
-use Rattle.rack.proofs.pass.Pass as PT
-use Rattle.rack.proofs.pass.Pass.Laws as PL
-use Rattle.rack.proofs.pass.Visited as VT
-use Rattle.rack.proofs.pass.Visited.Laws as VL
-use Rattle.rack.proofs.pass.visit as visit
+use Rattle.rack.proofs.Types.{R′, P′, V′, one-ty, cv, c-vals, c-tells, c-makes, c-typed, pv, p-vals, p-tells, p-makes, p-typed, vv, v-tells, v-typed, v-parts}
 use Rattle.rack.proofs.pass.visit.Symbol as visit-def
 use Rattle.rack.proofs.pass.visit.Symbol.{name as #rack·visit}
 use Rattle.rack.proofs.pass.visit.Met as visit-thm
@@ -50,34 +39,11 @@ use Rattle.rack.proofs.row.each.Statement as stated
 use Rattle.rack.proofs.row.each.Code as code
 use Rattle.rack.proofs.row.each.Code.Mir as em
 
-abbrev R′ : RattleType
-R′ = CT.the-row
-
-abbrev P′ : RattleType
-P′ = PT.the-row
-
-abbrev V′ : RattleType
-V′ = VT.the-row
-
--- the machine values of a card and of a pass
-abbrev cv : Card → Val
-cv c = LL.val CT.the-type CL.the-laws c
-
-abbrev pv : Pass → Val
-pv p = LL.val PT.the-type PL.the-laws p
-
-abbrev vv : Visited → Val
-vv v = LL.val VT.the-type VL.the-laws v
-
 abbrev Z : ℕ
 Z = mem R′ .size
 
 abbrev word : Ty
 word = tyInt w64
-
-abbrev one-ty : List Ty → Ty
-one-ty [] = tyBool
-one-ty (τ ∷ τs) = τ
 
 abbrev cardTy : Ty
 cardTy = one-ty (R′ .mir)
@@ -108,14 +74,9 @@ one-more i = add-suc i zero ∙ ap suc (add-zero i)
 abbrev stayed : Stays (f.ended .signature .params) (f.ended .kept)
 stayed = (stay-slice (0 ∷ []) tt (plain (λ _. R′)), (stay-none (λ _. P′) yes, tt))
 
-module _ {M : Type 1} (𝓤 : URA M) (H : Heap 𝓤) (A : Atoms 𝓤) (at-mem : Memory → SProp 𝓤) (run : Routine → Fun 𝓤) where
-  -- the contract that the proof cites, and of its `ensured` the clause alone
-  abbrev Visit : Contract 𝓤
-  Visit = tripleOf 𝓤 H A visit.signature (visit.spec 𝓤 H A at-mem run)
-
-  seen-of : (p : Pass) (c : Card) (r : Visited) → ent 𝓤 (ensured 𝓤 H A visit.ended (visit.clauses 𝓤 H A at-mem run) tt (p, (c, tt)) tt r) (fact 𝓤
-      (r ≡ S.visit p c))
-  seen-of p c r = exE 𝓤 _ (λ ws. snd∗ 𝓤 (sem 𝓤 H A (lasts visit.ended tt (p, (c, tt)) ws)) (fact 𝓤 (r ≡ S.visit p c)))
+-- what is called
+abbrev Visit : {M : Type 1} (𝓤 : URA M) → Heap 𝓤 → Atoms 𝓤 → Contract 𝓤
+Visit 𝓤 H A = Plain2 𝓤 H A P′ R′ V′ S.visit
 
 module _ {M : Type 1} (𝓤 : URA M) (H : Heap 𝓤) (A : Atoms 𝓤) (W : Given 𝓤 H A) (at-mem : Memory → SProp 𝓤) (run : Routine
     → Fun 𝓤) (κ : Lft) (q : Share) (b o : ℕ) (γ : GName) (xs : List Card) (p₀ : Pass) (is₀ : Is P′ p₀ (pv p₀ ∷ [])) where
@@ -131,12 +92,6 @@ module _ {M : Type 1} (𝓤 : URA M) (H : Heap 𝓤) (A : Atoms 𝓤) (W : Given
   abbrev Post : Val → SProp 𝓤
   Post = walkOf 𝓤 H A f.ended stayed (f.clauses 𝓤 H A at-mem run) .post (((κ, tt), (q, tt), tt, x, at), tt)
 
-  pass-typed : (p : Pass) → Is P′ p (pv p ∷ []) → T (hasTy passTy (pv p)) × WT (pv p)
-  pass-typed p is = LL.lawful PT.the-type PL.the-laws 𝓤 H A W .typed p _ is .0
-
-  card-typed : (c : Card) → Is R′ c (cv c ∷ []) → T (hasTy cardTy (cv c)) × WT (cv c)
-  card-typed c is = LL.lawful CT.the-type CL.the-laws 𝓤 H A W .typed c _ is .0
-
   exits : (p : Pass) (ys : List Card) → Is P′ p (pv p ∷ []) → Room R′ n → length ys ≡ n → (p ≡ afterRow p₀ xs) × (ys ≡ visitedRow p₀ xs)
       → ent 𝓤 (⋆ 𝓤 H A (‵ (fobs γ (codedHoleys R′ .code (heres R′ ys))) ∷ ‵ (fbor κ (Held R′ (length ys) b o γ)) ∷ ‵ (flft κ q) ∷ [])) (Post (pv p))
   exits p ys is room e said =
@@ -151,19 +106,10 @@ module _ {M : Type 1} (𝓤 : URA M) (H : Heap 𝓤) (A : Atoms 𝓤) (W : Given
             (sym e),
         subst (Room R′) (sym e) room,
       ) $ fjoin ! $
-      nothing ! $ owned ! P′ (Is P′) ((LL.makes PT.the-type PL.the-plain) 𝓤 H A) p₀ _ is₀ $ fjoin ! $ move ! (1 ∷ 0 ∷ []) $ fjoin ! $
-      owned ! P′ (Is P′) ((LL.makes PT.the-type PL.the-plain) 𝓤 H A) p _ is $ move ! (1 ∷ 0 ∷ []) $ done !
+      nothing ! $ owned ! P′ (Is P′) (p-makes 𝓤 H A) p₀ _ is₀ $ fjoin ! $ move ! (1 ∷ 0 ∷ []) $ fjoin ! $
+      owned ! P′ (Is P′) (p-makes 𝓤 H A) p _ is $ move ! (1 ∷ 0 ∷ []) $ done !
 
-  abbrev to-visit : Pass → Card → Visit 𝓤 H A at-mem run .Ghost
-  to-visit p c = ((tt, tt, tt, (p, (c, tt)), (pv p ∷ [], (cv c ∷ [], tt))), tt)
-
-  goes-visit : (p : Pass) (c : Card) → Is P′ p (pv p ∷ []) → ent 𝓤 (sem 𝓤 H A (R′ .own c (cv c ∷ []))) (Visit 𝓤 H A at-mem run .pre (to-visit p c))
-  goes-visit p c is =
-      qed W (‵ (R′ .own c (cv c ∷ [])) ∷ []) ∵ nothing ! $ move ! (1 ∷ 0 ∷ []) $ fjoin ! $
-      owned ! P′ (Is P′) ((LL.makes PT.the-type PL.the-plain) 𝓤 H A) p _ is $ fjoin ! $
-      nothing ! $ join ! $ nothing ! $ move ! (1 ∷ 0 ∷ []) $ join ! $ done !
-
-  module _ (𝓣 : Tables 𝓤 H) (known : Triple 𝓤 (𝓣 .C #rack·visit) (Visit 𝓤 H A at-mem run)) (room : Room R′ n) (l₀ l₁ l₂ l₃ l₄ l₅ l₆ l₇ l₈ l₉ l₁₀ : ℕ) where
+  module _ (𝓣 : Tables 𝓤 H) (known : Triple 𝓤 (𝓣 .C #rack·visit) (Visit 𝓤 H A)) (room : Room R′ n) (l₀ l₁ l₂ l₃ l₄ l₅ l₆ l₇ l₈ l₉ l₁₀ : ℕ) where
     abbrev C : Calls 𝓤 H
     C = 𝓣 .C
 
@@ -186,17 +132,8 @@ module _ {M : Type 1} (𝓤 : URA M) (H : Heap 𝓤) (A : Atoms 𝓤) (W : Given
     At i p ys = ‵ (row R′ fullShare ys b o) ∷ ‵ (fat fullShare passTy l₃ 0 (pv p)) ∷ ‵ (fat fullShare word l₄ 0 (vint w64 i)) ∷ ‵ (froom seenTy l₅ 0)
         ∷ ‵ (froom word l₆ 0) ∷ ‵ (froom tyBool l₇ 0) ∷ ‵ (froom tyPtr l₈ 0) ∷ ‵ (froom cardTy l₉ 0) ∷ ‵ (froom tyPtr l₁₀ 0) ∷ Frame
 
-    abbrev Facts : ℕ → ℕ → Pass → List Card → Type 0
-    Facts t i p ys = (i + t ≡ n) × (Is P′ p (pv p ∷ []) × Midway p₀ xs i p ys)
-
-    abbrev InvAt : ℕ → ℕ → Pass → List Card → SProp 𝓤
-    InvAt t i p ys = guard 𝓤 (Facts t i p ys) (⋆ 𝓤 H A (At i p ys))
-
-    abbrev Inv : ℕ → SProp 𝓤
-    Inv t = ex 𝓤 (λ (i : ℕ). ex 𝓤 (λ (p : Pass). ex 𝓤 (λ (ys : List Card). InvAt t i p ys)))
-
-    abbrev Below : ℕ → SProp 𝓤
-    Below t = ex 𝓤 (λ (t′ : ℕ). guard 𝓤 (t′ < t) (Inv t′))
+    abbrev Mid : ℕ → Pass × List Card → Type 0
+    Mid i s = Is P′ (s .0) (pv (s .0) ∷ []) × Midway p₀ xs i (s .0) (s .1)
 
     abbrev Left : Out → SProp 𝓤
     Left = afterBlock 𝓤 H (afterSeq 𝓤 H (Wp 𝓤 H C Λ En rest (atReturn 𝓤 H En Post)) (atReturn 𝓤 H En Post))
@@ -209,14 +146,18 @@ module _ {M : Type 1} (𝓤 : URA M) (H : Heap 𝓤) (A : Atoms 𝓤) (W : Given
     offset-fits i small = lt-of-le-of-lt (mul-le-mul (le-of-lt small) (le-refl Z)) (lt-of-lt-of-le (room .1) small-power)
 
     -- a turn that visits card i
-    more : (i : ℕ) (p : Pass) (ys : List Card) (X : SProp 𝓤) → i < n → length ys ≡ n → Is P′ p (pv p ∷ [])
-        → (let v = S.visit p (getD ys i fresh) in Is P′ (v .pass) (pv (v .pass) ∷ []) → ent 𝓤 (⋆ 𝓤 H A (At (suc i) (v .pass) (set ys i (v .card)))) X)
-        → ent 𝓤 (⋆ 𝓤 H A (At i p ys)) (Wp 𝓤 H C Λ En em.turn-1 (afterTurn 𝓤 H X Left))
+    more : (i : ℕ) (s : Pass × List Card) (X : SProp 𝓤) → i < n → Mid i s
+        → ((s′ : Pass × List Card) → Mid (suc i) s′ → ent 𝓤 (⋆ 𝓤 H A (At (suc i) (s′ .0) (s′ .1))) X)
+        → ent 𝓤 (⋆ 𝓤 H A (At i (s .0) (s .1))) (Wp 𝓤 H C Λ En em.turn-1 (afterTurn 𝓤 H X Left))
     unfolding afterTurn
-    more i p ys X small long is k =
+    more i s X small h k =
+        let p = s .0 in
+        let ys = s .1 in
+        let is = h .0 in
+        let m = h .1 in
         let c = getD ys i fresh in
         let v = S.visit p c in
-        let inside : i < length ys = subst (λ (m : ℕ). i < m) (sym long) small in
+        let inside : i < length ys = subst (λ (m : ℕ). i < m) (sym (m .long)) small in
         qed W (At i p ys) ∵ exec ! C Λ En em.turn-1 (anyQ (afterTurn 𝓤 H X Left)) $
         assigns ! (of-opd ! (load ! (from ! (fld ! refl (stop !))) (look-in ! 9 (sub ! 1 refl (whole !))))) (from ! (stop !)) (init ! 4 refl
         (tt, record { fits = room .0 })) $
@@ -228,19 +169,12 @@ module _ {M : Type 1} (𝓤 : URA M) (H : Heap 𝓤) (A : Atoms 𝓤) (W : Given
         assigns ! (bin ! (load ! (from ! (fld ! refl (stop !))) (look-in ! 9 (sub ! 0 refl (whole !)))) (load ! (from ! (stop !))
         (look ! 4 refl)) tt) (from ! (stop !)) (init ! 6 refl (tt, tt)) $
         rewrite ! 6 (λ (a : ℕ). ‵ (fat fullShare tyPtr l₈ 0 (vptr b a))) (sym (place-is Z o i)) refl $
-        elem-out ! R′ (Is R′) (shows 𝓤 H A R′) (LL.vals CT.the-type CL.the-laws) (LL.tells CT.the-type CL.the-laws) fullShare ys i fresh b o inside (λ was.
+        elem-out ! R′ (Is R′) (shows 𝓤 H A R′) c-vals c-tells fullShare ys i fresh b o inside (λ was.
         -- [card i; what it owns; the others; p; i; _5; _6; _7; _8; _9; _10; the frame]
-        assigns ! (of-opd ! (load ! (from ! (hop ! (look ! 8 refl) (stop !))) (look-raw ! 0 refl))) (from ! (stop !)) (init ! 9 refl (card-typed c was)) $
-        move ! (1 ∷ []) $ use1 W (raw (Visit 𝓤 H A at-mem run .pre (to-visit p c))) (goes-visit p c is) $
-        calls-at ! (fmOf 𝓤 H (W .laws) 𝓣) (Visit 𝓤 H A at-mem run) known (to-visit p c) (and-then ! (load ! (from ! (stop !)) (look ! 3 refl))
-        (and-then ! (load ! (from ! (stop !)) (look ! 9 refl)) (no-more !))) (λ w.
-        use1 W (later (some (λ (r : Visited). (‵ ftrue ⊛ ‵ (V′ .own r (w ∷ []))) ⊛ raw (ensured 𝓤 H A visit.ended (visit.clauses 𝓤 H A at-mem run) tt
-        (p, (c, tt)) tt r)))) (id⊢ 𝓤 _) $ await ! tt $ pick ! (λ r.
-        split ! $ move ! (1 ∷ []) $ use1 W (raw (fact 𝓤 (r ≡ v))) (seen-of 𝓤 H A at-mem run p c r) $ heard ! (r ≡ v) (λ e. split ! $ drop′ ! $
-        rewrite ! 0 (λ (s : Visited). ‵ (V′ .own s (w ∷ []))) e refl $
-        peeks ! V′ (Is V′) (shows 𝓤 H A V′) v (w ∷ []) (λ got.
-        land ! (from ! (stop !)) (init ! 5 refl (LL.lawful VT.the-type VL.the-laws 𝓤 H A W .typed v _ got .0)) $
-        rewrite ! 5 (λ (u : Val). ‵ (fat fullShare seenTy l₅ 0 u)) (ap only (LL.tells VT.the-type VL.the-laws v (w ∷ []) got)) refl $ drop′ ! $
+        assigns ! (of-opd ! (load ! (from ! (hop ! (look ! 8 refl) (stop !))) (look-raw ! 0 refl))) (from ! (stop !)) (init ! 9 refl (c-typed 𝓤 H A W c was)) $
+        calls2 𝓤 H A P′ (p-makes 𝓤 H A) R′ (c-makes 𝓤 H A) V′ vv v-tells S.visit p (pv p) is c (cv c) was ! (fmOf 𝓤 H (W .laws) 𝓣) known
+        (and-then ! (load ! (from ! (stop !)) (look ! 4 refl)) (and-then ! (load ! (from ! (stop !)) (look ! 10 refl)) (no-more !))) (λ got.
+        land ! (from ! (stop !)) (init ! 5 refl (v-typed 𝓤 H A W v got)) $ move ! (1 ∷ []) $ drop′ ! $
         -- [card i; the others; p; i; _5; _6; _7; _8; _9; _10; the frame]
         assigns ! (bin ! (load ! (from ! (stop !)) (look ! 3 refl)) (lit ! tt) (record { fits = offset-fits i small })) (from ! (stop !))
         (store ! 5 refl (tt, record { fits = offset-fits i small })) $
@@ -248,38 +182,35 @@ module _ {M : Type 1} (𝓤 : URA M) (H : Heap 𝓤) (A : Atoms 𝓤) (W : Given
         (look ! 5 refl)) tt) (from ! (stop !)) (init ! 9 refl (tt, tt)) $
         rewrite ! 9 (λ (a : ℕ). ‵ (fat fullShare tyPtr l₁₀ 0 (vptr b a))) (sym (place-is Z o i)) refl $
         assigns ! (of-opd ! (load ! (from ! (fld ! refl (stop !))) (look-in ! 4 (sub ! 0 refl (whole !))))) (from ! (hop ! (look ! 9 refl) (stop !)))
-        (store-raw ! 0 refl (card-typed (v .card) (seen-card v w got))) $
+        (store-raw ! 0 refl (c-typed 𝓤 H A W (v .card) (v-parts v got .0))) $
         assigns ! (of-opd ! (load ! (from ! (fld ! refl (stop !))) (look-in ! 4 (sub ! 1 refl (whole !))))) (from ! (stop !)) (store ! 2 refl
-        (pass-typed (v .pass) (seen-pass v w got))) $
-        owned ! R′ (Is R′) ((LL.makes CT.the-type CL.the-plain) 𝓤 H A) (v .card) _ (seen-card v w got) $ move ! (1 ∷ 0 ∷ []) $
+        (p-typed 𝓤 H A W (v .pass) (v-parts v got .1))) $
+        owned ! R′ (Is R′) (c-makes 𝓤 H A) (v .card) _ (v-parts v got .0) $ move ! (1 ∷ 0 ∷ []) $
         elem-put ! R′ fullShare ys i (v .card) (cv (v .card) ∷ []) b o inside $
         -- [the row; p; i; _5; _6; _7; _8; _9; _10; the frame]
         assigns-last ! (bin ! (load ! (from ! (stop !)) (look ! 2 refl)) (lit ! tt) (record { fits = next-fits })) (from ! (stop !)) (store ! 2 refl
         (tt, record { fits = next-fits })) $
         forget ! 3 refl $ forget ! 4 refl $ forget ! 5 refl $ forget ! 6 refl $ forget ! 7 refl $ forget ! 8 refl $
-        rewrite ! 2 (λ (j : ℕ). ‵ (fat fullShare word l₄ 0 (vint w64 j))) (one-more i) refl $ by ! (k (seen-pass v w got)))))))
+        rewrite ! 2 (λ (j : ℕ). ‵ (fat fullShare word l₄ 0 (vint w64 j))) (one-more i) refl $ by ! (k (v .pass, set ys i (v .card)) (v-parts v got .1, midway-next p₀ xs i p ys fresh inside m))))
       where
         next-fits : i + 1 < 2 ^ 64
         next-fits = subst (λ (j : ℕ). j < 2 ^ 64) (sym (one-more i)) (lt-of-le-of-lt small (room .0))
 
-        seen-card : (v : Visited) (w : Val) → Is V′ v (w ∷ []) → Is R′ (v .card) (cv (v .card) ∷ [])
-        seen-card v w got = LL.owed VT.the-type VL.the-laws v (w ∷ []) got .0
-
-        seen-pass : (v : Visited) (w : Val) → Is V′ v (w ∷ []) → Is P′ (v .pass) (pv (v .pass) ∷ [])
-        seen-pass v w got = LL.owed VT.the-type VL.the-laws v (w ∷ []) got .1 .0
-
     -- the turn that leaves the loop, and the rest of the body: the borrow is closed at the row as it is now
-    ends : (p : Pass) (ys : List Card) (X : SProp 𝓤) → Is P′ p (pv p ∷ []) → Midway p₀ xs n p ys
-        → ent 𝓤 (⋆ 𝓤 H A (At n p ys)) (Wp 𝓤 H C Λ En em.turn-1 (afterTurn 𝓤 H X Left))
+    ends : (s : Pass × List Card) (X : SProp 𝓤) → Mid n s → ent 𝓤 (⋆ 𝓤 H A (At n (s .0) (s .1))) (Wp 𝓤 H C Λ En em.turn-1 (afterTurn 𝓤 H X Left))
     unfolding afterTurn
-    ends p ys X is m =
+    ends s X h =
+        let p = s .0 in
+        let ys = s .1 in
+        let is = h .0 in
+        let m = h .1 in
         qed W (At n p ys) ∵ exec ! C Λ En em.turn-1 (anyQ (afterTurn 𝓤 H X Left)) $
         assigns ! (of-opd ! (load ! (from ! (fld ! refl (stop !))) (look-in ! 9 (sub ! 1 refl (whole !))))) (from ! (stop !)) (init ! 4 refl
         (tt, record { fits = room .0 })) $
         assigns ! (bin ! (load ! (from ! (stop !)) (look ! 2 refl)) (load ! (from ! (stop !)) (look ! 4 refl)) tt) (from ! (stop !)) (init ! 5 refl (tt, tt)) $
         rewrite ! 5 (λ (t : Bool). ‵ (fat fullShare tyBool l₇ 0 (vbool t))) (fails (ltb n n) (λ a. lt-irrefl n (ltb→lt n n a))) refl $
         leaves-loop ! (load ! (from ! (stop !)) (look ! 5 refl)) $ exec ! C Λ En rest (atRet En Post) $
-        assigns ! (of-opd ! (load ! (from ! (stop !)) (look ! 1 refl))) (from ! (stop !)) (init ! 11 refl (pass-typed p is)) $
+        assigns ! (of-opd ! (load ! (from ! (stop !)) (look ! 1 refl))) (from ! (stop !)) (init ! 11 refl (p-typed 𝓤 H A W p is)) $
         move ! (0 ∷ 12 ∷ 13 ∷ 14 ∷ []) $ closes-slice ! tt R′ xs ys (m .long) b o $
         -- [obs; the borrow; the token; p; i; _5; _6; _7; _8; _9; _10; _1; _2; _0; and that each local dies]
         returns ! (look ! 13 refl) $ forget ! 3 refl $ forget ! 4 refl $ forget ! 6 refl $ forget ! 7 refl $ forget ! 11 refl $ forget ! 12 refl $
@@ -290,68 +221,34 @@ module _ {M : Type 1} (𝓤 : URA M) (H : Heap 𝓤) (A : Atoms 𝓤) (W : Given
         move ! (3 ∷ 5 ∷ []) $ free1 ! $ move ! (3 ∷ 4 ∷ []) $ free1 ! $ free0 ! $
         keep ! (0 ∷ 1 ∷ 2 ∷ []) $ by ! (exits p ys is room (m .long) (midway-end p₀ xs p ys m))
 
-    inv-in : (t i : ℕ) (p : Pass) (ys : List Card) → Facts t i p ys → ent 𝓤 (⋆ 𝓤 H A (At i p ys)) (Inv t)
-    inv-in t i p ys e =
-        via 𝓤 (InvAt t i p ys) (guardI 𝓤 (Facts t i p ys) (⋆ 𝓤 H A (At i p ys)) e)
-        (via 𝓤 (ex 𝓤 (λ (zs : List Card). InvAt t i p zs)) (exI 𝓤 (λ (zs : List Card). InvAt t i p zs) ys)
-        (via 𝓤 (ex 𝓤 (λ (r : Pass). ex 𝓤 (λ (zs : List Card). InvAt t i r zs))) (exI 𝓤 (λ (r : Pass). ex 𝓤 (λ (zs : List Card). InvAt t i r zs)) p)
-        (exI 𝓤 (λ (j : ℕ). ex 𝓤 (λ (r : Pass). ex 𝓤 (λ (zs : List Card). InvAt t j r zs))) i)))
-
-    below : (t i : ℕ) (p : Pass) (ys : List Card) → Facts t i p ys → ent 𝓤 (⋆ 𝓤 H A (At i p ys)) (Below (suc t))
-    below t i p ys e =
-        via 𝓤 (Inv t) (inv-in t i p ys e)
-        (via 𝓤 (guard 𝓤 (t < suc t) (Inv t)) (guardI 𝓤 (t < suc t) (Inv t) (lt-suc-self t)) (exI 𝓤 (λ (u : ℕ). guard 𝓤 (u < suc t) (Inv u)) t))
-
-    turn-at : (t i : ℕ) (p : Pass) (ys : List Card) → Facts t i p ys → ent 𝓤 (⋆ 𝓤 H A (At i p ys)) (Wp 𝓤 H C Λ En em.turn-1 (afterTurn 𝓤 H (Below t) Left))
-    turn-at zero i p ys e =
-        subst (λ (j : ℕ). Midway p₀ xs j p ys → ent 𝓤 (⋆ 𝓤 H A (At j p ys)) (Wp 𝓤 H C Λ En em.turn-1 (afterTurn 𝓤 H (Below zero) Left)))
-        (sym (e .0) ∙ add-zero i) (λ m. ends p ys (Below zero) (e .1 .0) m) (e .1 .1)
-    turn-at (suc t) i p ys e =
-        let m = e .1 .1 in
-        let small : i < n = subst (λ (k : ℕ). i < k) (e .0) (less i t) in
-        more i p ys (Below (suc t)) small (m .long) (e .1 .0)
-        (λ is. below t (suc i) _ _ (
-          sym (add-suc i t ∙ sym (suc-add i t))
-              ∙ e .0,
-          (is, midway-next p₀ xs i p ys fresh (subst (λ (k : ℕ). i < k) (sym (m .long)) small) m),
-        ))
-      where
-        less : (i t : ℕ) → i < i + suc t
-        less i t = omega arith
-
-    turns : (t : ℕ) → ent 𝓤 (Inv t) (Wp 𝓤 H C Λ En em.turn-1 (afterTurn 𝓤 H (Below t) Left))
-    turns t = exE 𝓤 (λ (i : ℕ). ex 𝓤 (λ (p : Pass). ex 𝓤 (λ (ys : List Card). InvAt t i p ys))) (λ i.
-        exE 𝓤 (λ (p : Pass). ex 𝓤 (λ (ys : List Card). InvAt t i p ys)) (λ p.
-        exE 𝓤 (λ (ys : List Card). InvAt t i p ys) (λ ys. guardE 𝓤 (Facts t i p ys) (⋆ 𝓤 H A (At i p ys)) (λ e. turn-at t i p ys e))))
-
     loops : ent 𝓤 (⋆ 𝓤 H A (At 0 p₀ xs)) (Wp 𝓤 H C Λ En (loop em.turn-1) Left)
-    loops = via 𝓤 (Inv n) (inv-in n 0 p₀ xs (zero-add n, (is₀, midway-start p₀ xs))) (loop-rule 𝓤 H (W .laws) 𝓣 _<_
-        (Nat·lt-wfRel .wf) En em.turn-1 Left Inv turns n)
+    loops =
+        counts-up 𝓤 H A W 𝓣 En em.turn-1 Left n (Pass × List Card) (λ i s. At i (s .0) (s .1)) Mid more ends (p₀, xs) (is₀, midway-start p₀ xs)
 
-  walk : (𝓣 : Tables 𝓤 H) → Triple 𝓤 (𝓣 .C #rack·visit) (Visit 𝓤 H A at-mem run) → Room R′ n → ent 𝓤 (onEntry 𝓤 H A f.signature (κ, tt) (q, tt) x at)
+  walk : (𝓣 : Tables 𝓤 H) → Triple 𝓤 (𝓣 .C #rack·visit) (Visit 𝓤 H A) → Room R′ n → ent 𝓤 (onEntry 𝓤 H A f.signature (κ, tt) (q, tt) x at)
       (WpFn 𝓤 H (𝓣 .C) (𝓣 .Λ) code.function (sliceVal (b, o) n ∷ pv p₀ ∷ []) Post)
   walk 𝓣 known room =
       qed W ((‵ (flft κ q) ⊛ ‵ ftrue) ∷ ‵ (owns (MutSlice (named 0) κ R′ ∷ P′ ∷ []) x at) ∷ []) ∵
       enter ! (𝓣 .C) (𝓣 .Λ) code.function (sliceVal (b, o) n ∷ pv p₀ ∷ []) _ $
       alloc1 ! (λ l₀. alloc1 ! (λ l₁. alloc1 ! (λ l₂. alloc1 ! (λ l₃. alloc1 ! (λ l₄. alloc1 ! (λ l₅. alloc1 ! (λ l₆. alloc1 ! (λ l₇. alloc1 !
       (λ l₈. alloc1 ! (λ l₉. alloc1 ! (λ l₁₀. alloc0 ! $ params1 ! $
-      pass1 ! (init ! 18 refl (tt, (tt, (record { fits = room .0 }, tt)))) $ pass1 ! (init ! 16 refl (pass-typed p₀ is₀)) $ pass0 ! $
-      assigns ! (of-opd ! (load ! (from ! (stop !)) (look ! 16 refl))) (from ! (stop !)) (init ! 14 refl (pass-typed p₀ is₀)) $
+      pass1 ! (init ! 18 refl (tt, (tt, (record { fits = room .0 }, tt)))) $ pass1 ! (init ! 16 refl (p-typed 𝓤 H A W p₀ is₀)) $ pass0 ! $
+      assigns ! (of-opd ! (load ! (from ! (stop !)) (look ! 16 refl))) (from ! (stop !)) (init ! 14 refl (p-typed 𝓤 H A W p₀ is₀)) $
       assigns ! (of-opd ! (lit ! tt)) (from ! (stop !)) (init ! 12 refl (tt, record { fits = lit< tt })) $
       move ! (23 ∷ []) $ fsplit ! $ fsplit ! $ move ! (1 ∷ []) $ fsplit ! $ move ! (26 ∷ []) $ split ! $ move ! (2 ∷ 3 ∷ 0 ∷ []) $ opens-slice ! tt R′ xs b o $
       keep ! (0 ∷ 21 ∷ 19 ∷ 17 ∷ 15 ∷ 13 ∷ 11 ∷ 9 ∷ 7 ∷ 25 ∷ 23 ∷ 27 ∷ 1 ∷ 2 ∷ 3 ∷ 28 ∷ 26 ∷ 24 ∷ 22 ∷ 20 ∷ 18 ∷ 16 ∷ 14 ∷ 12 ∷ 10 ∷ 8 ∷ []) $
       by ! (loops 𝓣 known room l₀ l₁ l₂ l₃ l₄ l₅ l₆ l₇ l₈ l₉ l₁₀))))))))))))
 
 module _ {M : Type 1} (𝓤 : URA M) (H : Heap 𝓤) (A : Atoms 𝓤) (W : Given 𝓤 H A) (at-mem : Memory → SProp 𝓤) (run : Routine → Fun 𝓤) where
-  each-walks : (𝓣 : Tables 𝓤 H) → Triple 𝓤 (𝓣 .C #rack·visit) (Visit 𝓤 H A at-mem run)
+  each-walks : (𝓣 : Tables 𝓤 H) → Triple 𝓤 (𝓣 .C #rack·visit) (Visit 𝓤 H A)
       → Walks 𝓤 H A f.ended stayed (WpFn 𝓤 H (𝓣 .C) (𝓣 .Λ) code.function) (f.clauses 𝓤 H A at-mem run)
   each-walks 𝓣 known = walked 𝓤 H A f.ended stayed (f.clauses 𝓤 H A at-mem run) (WpFn 𝓤 H (𝓣 .C) (𝓣 .Λ) code.function)
-      (λ κs. (slice-vals, (LL.vals PT.the-type PL.the-laws, tt))) (λ κs. (mut-slice-tells (named 0) (κs .0) R′, (LL.tells PT.the-type PL.the-laws, tt)))
+      (λ κs. (slice-vals, (p-vals, tt))) (λ κs. (mut-slice-tells (named 0) (κs .0) R′, (p-tells, tt)))
       (λ κs qs bounds a g are. via 𝓤 _ (fst∗ 𝓤 _ (emp 𝓤))
       (walk 𝓤 H A W at-mem run (κs .0) (qs .0) (a .0 .ptr .0) (a .0 .ptr .1) (a .0 .name) (a .0 .now) (a .1 .0) (are .1 .0) 𝓣 known (are .0 .0 .1)))
 
 each-meets : {M : Type 1} (𝓤 : URA M) (H : Heap 𝓤) (A : Atoms 𝓤) → Given 𝓤 H A → (at-mem : Memory → SProp 𝓤) (run : Routine → Fun 𝓤) (𝓣 : Tables 𝓤 H)
-    → Triple 𝓤 (𝓣 .C #rack·visit) (Visit 𝓤 H A at-mem run)
+    → Triple 𝓤 (𝓣 .C #rack·visit) (Visit 𝓤 H A)
     → Meets 𝓤 H A f.signature (WpFn 𝓤 H (𝓣 .C) (𝓣 .Λ) code.function) (f.spec 𝓤 H A at-mem run)
 each-meets 𝓤 H A W at-mem run 𝓣 known =
     walk-meets 𝓤 H A f.ended stayed W (goes-slice 𝓤 H A W 1 0 tt (plain (λ _. R′)), (goes-none 𝓤 H A W 1 (λ _. P′) yes (λ κs x f. refl), tt))
@@ -364,4 +261,4 @@ each-spec 𝓤 H 𝓜 𝓖 𝓡 =
     entered 𝓤 H (tripleOf 𝓤 H (𝓖 .A) f.signature (f.spec 𝓤 H (𝓖 .A) (𝓜 .mem) (𝓡 .run)))
     (tables 𝓤 H 𝓜 𝓡 code.env .C) (tables 𝓤 H 𝓜 𝓡 code.env .Λ) #rack·each code.function (code.unfolded 𝓤 H 𝓜 𝓡)
     (each-meets 𝓤 H (𝓖 .A) (givenOf 𝓤 H 𝓜 𝓖) (𝓜 .mem) (𝓡 .run) (tablesOf 𝓤 H 𝓜 (tables 𝓤 H 𝓜 𝓡 code.env))
-    (cited 𝓤 H (Visit 𝓤 H (𝓖 .A) (𝓜 .mem) (𝓡 .run)) 𝓜 𝓡 code.env #rack·visit visit-def.routine code.calls-rack·pass·visit (visit-thm.met 𝓤 H 𝓜 𝓖 𝓡)))
+    (cited 𝓤 H (Visit 𝓤 H (𝓖 .A)) 𝓜 𝓡 code.env #rack·visit visit-def.routine code.calls-rack·pass·visit (visit-thm.met 𝓤 H 𝓜 𝓖 𝓡)))

@@ -7,12 +7,12 @@ use Rattle.rack.proofs.supply.pushes.Tie as tie
 
 cast-result : tie.Need-cast-result
 cast-result c =
-    let few = front-few (c .before .before .args .card .connectors) in
+    let few = front-few (c .before .args .c) in
     record { fits = omega (arith, few) }
 
 returns : tie.Need-returns
 unfolding pushes
-returns c = front-ones (c .before .before .args .card .connectors)
+returns c = front-ones (c .before .args .c)
 
 pub pushes-spec : {M : Type 1} → statement M
 pushes-spec = tie.close (tie.spec cast-result returns)

@@ -42,18 +42,18 @@ loop-less c = search needs
 loop-again : tie.Need-loop-again Inv-loop μ-loop
 loop-again c =
     let l = c .before .before .before .loop in
-    let args = c .before .before .before .before .before .before .args in (
+    let args = c .before .before .before .before .args in (
       omega arith,
       ap₂ _&&_ (l .inv .1) (ap₂ eqb (c .before .kind-at .ensures) (c .kind-at2 .ensures))
-          ∙ sym (same-next (l .k) (args .c .connectors) (args .d .connectors)),
+          ∙ sym (same-next (l .k) (args .a) (args .b)),
     )
 
 returns : tie.Need-returns Inv-loop μ-loop
 returns c =
     let l = c .before .loop in
-    let args = c .before .before .before .before .args in
+    let args = c .before .before .args in
     let end : l .k ≡ frontCount = omega arith in
-    l .inv .1 ∙ ap (λ (m : ℕ). sameKinds m (args .c .connectors) (args .d .connectors)) end
+    l .inv .1 ∙ ap (λ (m : ℕ). sameKinds m (args .a) (args .b)) end
 
 pub same-fronts-spec : {M : Type 1} → statement M
 same-fronts-spec =
