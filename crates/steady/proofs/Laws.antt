@@ -1,22 +1,29 @@
--- A card at rest is steady for ever; what is asked for is made.
+-- In steady ticks nothing but counts changes; a card at rest is steady for ever; what is asked for is made.
 use Prim.Native.Nat.{ℕ, zero, suc, _≤_, _<_}
-use mathlib.Core.Path.{_≡_, refl, sym, ap, _∙_}
-use mathlib.Core.Bool.{Bool, true, false, not, _||_, Bool·beq, cond}
+use mathlib.Core.Path.{_≡_, refl, sym, ap, subst, _∙_}
+use mathlib.Core.Bool.{Bool, true, false, not, _||_, Bool·beq, cond, false≢true}
 use mathlib.Core.List.{List}
 use native.Mathlib.Omega.{arith}
 use lib.Dec.{eqb, ltb}
 use lib.ListN.{getD}
 use borrow.Author.Tests.{eq-eqb, lt-ltb, le-ltb}
 use Rattle.words.proofs.Bools.{and-both}
+use Rattle.words.proofs.Listed.{front-at}
 use Rattle.cells.specs.declared.cell.Cell.{Cell}
+use Rattle.cells.specs.State.{state, withState}
 use Rattle.card.specs.declared.card.Card.{Card}
+use Rattle.card.specs.declared.card.Memory.{Memory}
 use Rattle.card.specs.Fresh.{noCell}
 use Rattle.card.proofs.TallyLaws.{by-less}
 use Rattle.ticks.specs.declared.view.Input.{Input}
+use Rattle.ticks.specs.declared.tick.Ticked.{Ticked}
+use Rattle.ticks.specs.Tick.{tick}
 use Rattle.ticks.specs.Rest.{AtRest, withTotal, restTotal}
 use Rattle.ticks.proofs.AtRest.{rest-card}
-use Rattle.steady.specs.Steady.{forever, countHolds, stateHolds, cellHolds, least, leastHolds, sameBut, steadyFrom, steadyFor, madeOf, advanced}
-use Rattle.steady.specs.Laws.{RestsForever, MakesAll, MakesSome}
+use Rattle.ticks.proofs.Cases.{by-tick}
+use Rattle.steady.specs.Steady.{forever, quickTicks, countHolds, stateHolds, cellHolds, cellThrough, least, leastHolds, sameBut, steadyFrom, steadyFor, cardThrough, madeOf, advanced}
+use Rattle.steady.specs.Laws.{KeepsAll, RestsForever, MakesAll, MakesSome}
+use Rattle.steady.proofs.Cards.{steady-ticks}
 use Rattle.steady.proofs.Made.{made-some}
 
 beq-self : (b : Bool) → not (Bool·beq b b) ≡ false
@@ -40,6 +47,52 @@ same-self c total =
     and-both _ _ (e (c .edited))
     (and-both _ _ (and-both _ _ (and-both _ _ (e (m .driven)) (e (m .pulled))) (and-both _ _ (e (m .levels)) (e (m .levels2))))
     (and-both _ _ (and-both _ _ (e (m .outputs)) (e (m .outputs2))) (e (m .outputs3))))
+
+-- ---- nothing but counts
+
+-- a tick that runs answers the word that it drives
+drives : (n : ℕ) (c : Card) (input : Input) → let t = tick n false c input in t .answer .ran ≡ true → t .answer .driven ≡ t .card .memory .driven
+drives n c input = by-tick n false c input (λ t. t .answer .ran ≡ true → t .answer .driven ≡ t .card .memory .driven) (λ _ _. refl) (λ _ e. absurd (false≢true e))
+
+through-cells : (n : ℕ) (c : Card) (t : Ticked) (m i : ℕ) → i < n
+    → let a = getD (c .cells) i noCell in
+    let b = getD (cardThrough n c t m .cells) i noCell in
+    b ≡ withState a (state (b .count) (a .bit) (a .pulse))
+unfolding cardThrough
+through-cells n c t m i h =
+    let a = getD (c .cells) i noCell in
+    let e = front-at (λ j. cellThrough (getD (c .cells) j noCell) (getD (t .card .cells) j noCell) m) n (c .cells) i noCell h in
+    e ∙ ap (λ (b : Cell). withState a (state (b .count) (a .bit) (a .pulse))) (sym e)
+
+through-memory : (n : ℕ) (c : Card) (t : Ticked) (m : ℕ) → cardThrough n c t m .memory ≡ c .memory
+unfolding cardThrough
+through-memory n c t m = refl
+
+through-edited : (n : ℕ) (c : Card) (t : Ticked) (m : ℕ) → cardThrough n c t m .edited ≡ c .edited
+unfolding cardThrough
+through-edited n c t m = refl
+
+through-connectors : (n : ℕ) (c : Card) (t : Ticked) (m : ℕ) → cardThrough n c t m .connectors ≡ c .connectors
+unfolding cardThrough
+through-connectors n c t m = refl
+
+pub keeps-all : (n : ℕ) → KeepsAll n
+unfolding KeepsAll quickTicks
+keeps-all n c input zero hc ht h =
+    record { edited = refl; memory = refl; connectors = refl; cells = λ i _. refl; driven = λ e. absurd (false≢true e) }
+keeps-all n c input (suc m) hc ht h =
+    let e = ap (λ (t : Ticked). t .card) (steady-ticks n c hc input ht m h) in
+    let kept : quickTicks n c input (suc m) .card .memory ≡ c .memory = ap (λ (d : Card). d .memory) e ∙ through-memory n c (tick n false c input) (suc m) in
+    record {
+      edited = ap (λ (d : Card). d .edited) e ∙ through-edited n c (tick n false c input) (suc m);
+      memory = kept;
+      connectors = ap (λ (d : Card). d .connectors) e ∙ through-connectors n c (tick n false c input) (suc m);
+      cells = λ i less. subst
+          (λ (d : Card). getD (d .cells) i noCell
+          ≡ withState (getD (c .cells) i noCell) (state (getD (d .cells) i noCell .count) (getD (c .cells) i noCell .bit) (getD (c .cells) i noCell .pulse)))
+          (sym e) (through-cells n c (tick n false c input) (suc m) i less);
+      driven = λ ran. drives n (quickTicks n c input m .card) input ran ∙ ap (λ (m : Memory). m .driven) kept;
+    }
 
 pub rests-forever : (n : ℕ) → RestsForever n
 unfolding RestsForever steadyFor steadyFrom

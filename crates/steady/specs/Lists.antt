@@ -14,7 +14,7 @@ use Rattle.calls.specs.Demand3.{AlikeReplies}
 use Rattle.calls.specs.Rest.{ticksWith}
 use Rattle.steady.specs.Steady.{advanced}
 
--- behind any list of calls from a fresh card, and before any other: the card is the same, so all calls behind it answer the same and end in the same card
+-- after any list of calls from a fresh card, and before any other: the card is the same, so all later calls answer the same and end in the same card
 unfoldable pub StandsForTicks : ℕ → Type 0
 StandsForTicks n = (calls behind : List Call) (input : Input) (k : ℕ) (kinds : List Bool)
     → let c = end n (freshOf n) calls in

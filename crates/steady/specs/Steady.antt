@@ -1,5 +1,5 @@
--- Many ticks at once. Where a quick tick changes nothing but counts, and no count comes to its end, the ticks behind it do the same again: the definition of
--- such a stretch, and the card behind any number of its ticks. No rule of document 01 stands here; the law is that this card is the one that so many quick
+-- Many ticks at once. Where a quick tick changes nothing but counts, and no count comes to its end, the ticks after it do the same again: the definition of
+-- such a stretch, and the card after any number of its ticks. No rule of document 01 is defined here; the law is that this card is the one that so many quick
 -- ticks leave, one after the other.
 use Prim.Native.Nat.{ℕ, zero, suc, _+_, _-_}
 use mathlib.Core.Bool.{Bool, false, not, _&&_, _||_, Bool·beq, cond}

@@ -1,5 +1,6 @@
-// Many ticks at once. Where a quick tick changes nothing but counts, the ticks behind it with the same input do the same again until a count comes to its end;
-// so they are made in one step, and a processor may sleep until then or until an input changes.
+// Many ticks at once. Where a quick tick changes nothing but counts, the ticks after it with the same
+// input do the same again until a count comes to its end. So they are made in one step, and a
+// processor may sleep until then, or until an input changes.
 ghost use mathlib.Core.Path.{_≡_};
 ghost use mathlib.Core.Bool.{_&&_};
 ghost use Prim.Native.Nat.{_+_, _-_, _≤_, _<_};
@@ -30,7 +31,7 @@ use ticks::view::Input;
 // No more ticks can be asked for; and no tally goes beyond it.
 const FOREVER: u32 = 4294967295;
 
-// What comes of ticks at once: how many were made, the card after them, and the answer of the last.
+// Ticks made at once: the card after them, the answer of the last, and how many were made.
 #[repr(C)]
 pub struct Advanced {
     pub card: Card,
@@ -106,7 +107,8 @@ fn same_memory(a: Memory, b: Memory) -> bool
         & (((a.outputs == b.outputs) & (a.outputs2 == b.outputs2)) & (a.outputs3 == b.outputs3))
 }
 
-// Of a card and the card after one tick: for how many ticks, that one among them, nothing but counts changes.
+// Of a card and the card after one tick: for how many ticks, that one among them, nothing but counts
+// changes.
 fn steady_from(c: Card, d: Card, n: u8) -> u32
     requires { ⌜ n ≤ cellRoom ⌝ }
     ensures { λ r. ⌜ r ≡ steadyFrom n c d ⌝ }
@@ -123,6 +125,7 @@ fn steady_from(c: Card, d: Card, n: u8) -> u32
 }
 
 // For how many quick ticks with the input nothing but counts changes, and no count comes to its end.
+// A card at rest is steady for ever.
 pub fn steady_for(card: Card, input: Input) -> u32
     ensures { λ r. ⌜ r ≡ steadyFor (cellsFor (card .size)) card input ⌝ }
 {
@@ -248,7 +251,8 @@ fn made_of(k: u32, steady: u32) -> u32
     }
 }
 
-// Up to k quick ticks with one input: one of them, and the others as long as nothing but counts changes.
+// Up to k quick ticks with one input: the first of them, and the others as long as nothing but counts
+// changes.
 pub fn advance(card: Card, input: Input, k: u32) -> Advanced
     ensures { λ a. ⌜ a ≡ advanced (cellsFor (card .size)) card input k ⌝ }
 {

@@ -67,8 +67,9 @@ pub extern "C" fn trigger_at_rest(card: Card, input: Input) -> bool
     ticks::rest::at_rest(card, input)
 }
 
-// For how many quick ticks with the input nothing but counts changes, that are the counts of cells, the tallies and the tick total, and no count comes to its
-// end. A processor may sleep so long, or until an input changes, and then make the ticks at once.
+// For how many quick ticks with the input nothing changes but the counts of cells, the tallies and
+// the tick total, and no count comes to its end. A processor may sleep so long, or until an input
+// changes, and then make the ticks at once.
 #[no_mangle]
 pub extern "C" fn trigger_steady_for(card: Card, input: Input) -> u32
     ensures { λ r. ⌜ r ≡ steadyFor (cellsFor (card .size)) card input ⌝ }
@@ -76,7 +77,8 @@ pub extern "C" fn trigger_steady_for(card: Card, input: Input) -> u32
     steady::steady_for(card, input)
 }
 
-// Up to k quick ticks with one input at once: one, and more as long as nothing but counts changes. The card and the answer are those of so many quick ticks.
+// Up to k quick ticks with one input at once: one, and more as long as nothing but counts changes.
+// The card and the answer are those of so many quick ticks.
 #[no_mangle]
 pub extern "C" fn trigger_advance(card: Card, input: Input, k: u32) -> Advanced
     ensures { λ a. ⌜ a ≡ advanced (cellsFor (card .size)) card input k ⌝ }
