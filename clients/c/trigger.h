@@ -32,7 +32,7 @@
  * The version that this header belongs to: a hundred times the number of the last change request that the card meets, and a count. The library has its own
  * (trigger_version), and with TRIGGER_LAYOUT below one can tell at start whether the two belong together: see trigger_matches.
  */
-#define TRIGGER_VERSION 1401
+#define TRIGGER_VERSION 1402
 
 /* A card has sixteen cells or thirty-two, and always room for thirty-two. */
 #define TRIGGER_SMALL 16
@@ -219,6 +219,16 @@ typedef struct {
     trigger_answer answer;
 } trigger_ticked;
 
+/* How many ticks for trigger_steady_for to say that they never end, and the most that one call makes. */
+#define TRIGGER_FOREVER UINT32_C(4294967295)
+
+/* The card after ticks that were made at once, the answer of the last of them, and how many were made. */
+typedef struct {
+    trigger_card card;
+    trigger_answer answer;
+    uint32_t made;
+} trigger_advanced;
+
 /* The card after a line, the number of the refusal, and the length of the reply. */
 typedef struct {
     trigger_card card;
@@ -312,6 +322,10 @@ void trigger_quick_tick_at(trigger_card *card, const trigger_input *input, trigg
 /* Whether the clock may stop. */
 bool trigger_at_rest_at(const trigger_card *card, const trigger_input *input);
 
+/* For how many ticks the processor may sleep, and up to k of them at once: how many were made, and the answer of the last. */
+uint32_t trigger_steady_for_at(const trigger_card *card, const trigger_input *input);
+uint32_t trigger_advance_at(trigger_card *card, const trigger_input *input, uint32_t k, trigger_answer *answer);
+
 /* These give the number of the refusal. `len` is the length of what was written: of the reply, of the wiring, of the converted record. */
 uint8_t trigger_line_at(trigger_card *card, const uint8_t *text, size_t text_len, uint8_t *reply, size_t reply_len, uint8_t *store, size_t store_len,
                         size_t *len);
@@ -362,6 +376,20 @@ trigger_ticked trigger_quick_tick(trigger_card card, trigger_input input);
  * else comes in.
  */
 bool trigger_at_rest(trigger_card card, trigger_input input);
+
+/*
+ * For how many quick ticks with this input nothing changes but the counts of cells, the tallies and the count of ticks, and no count comes to its end: the processor
+ * may sleep through so many ticks, with the outputs as they are, unless a line, a load or another input comes. Then it makes the ticks that have passed with
+ * trigger_advance and the same input. A card at rest is steady for ever (TRIGGER_FOREVER); a float asks this and not trigger_at_rest, for its tallies and
+ * its count of ticks stay true to time, and it sleeps through delays as well.
+ */
+uint32_t trigger_steady_for(trigger_card card, trigger_input input);
+
+/*
+ * Up to k quick ticks with one input at once: one, and more as long as the card is steady. `made` says how many, at least 1 where k is; card and answer are those
+ * that so many quick ticks leave, one after the other. With k = 0 the card is as it was, and the answer that of a tick that did not run.
+ */
+trigger_advanced trigger_advance(trigger_card card, trigger_input input, uint32_t k);
 
 /*
  * One line, without an ending. The reply is written to the front of its buffer, with CR LF: `:A`, `:A n` or `:N-k`. A reply buffer of fewer than
@@ -513,6 +541,11 @@ TRIGGER_AT(trigger_answer, count, 12);
 TRIGGER_SIZE(trigger_ticked, 720);
 TRIGGER_AT(trigger_ticked, card, 0);
 TRIGGER_AT(trigger_ticked, answer, 704);
+
+TRIGGER_SIZE(trigger_advanced, 728);
+TRIGGER_AT(trigger_advanced, card, 0);
+TRIGGER_AT(trigger_advanced, answer, 704);
+TRIGGER_AT(trigger_advanced, made, 720);
 
 TRIGGER_SIZE(trigger_loaded, 712);
 TRIGGER_AT(trigger_loaded, card, 0);

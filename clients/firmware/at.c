@@ -18,6 +18,8 @@ void trigger_inner_fresh_large(trigger_card *card);
 void trigger_inner_full_tick(trigger_ticked *ticked, const trigger_card *card, const trigger_input *input);
 void trigger_inner_quick_tick(trigger_ticked *ticked, const trigger_card *card, const trigger_input *input);
 bool trigger_inner_at_rest(const trigger_card *card, const trigger_input *input);
+uint32_t trigger_inner_steady_for(const trigger_card *card, const trigger_input *input);
+void trigger_inner_advance(trigger_advanced *advanced, const trigger_card *card, const trigger_input *input, uint32_t k);
 void trigger_inner_line(line_result *result, const trigger_card *card, const slice *text, const slice *reply, const slice *store);
 void trigger_inner_load(trigger_loaded *loaded, const trigger_card *card, const slice *bytes);
 void trigger_inner_print(length_result *result, const trigger_card *card, const slice *buffer);
@@ -35,6 +37,11 @@ SAME(trigger_card, MODULE_trigger_quick_tick_1);
 SAME(trigger_input, MODULE_trigger_quick_tick_2);
 SAME(trigger_card, MODULE_trigger_at_rest_0);
 SAME(trigger_input, MODULE_trigger_at_rest_1);
+SAME(trigger_card, MODULE_trigger_steady_for_0);
+SAME(trigger_input, MODULE_trigger_steady_for_1);
+SAME(trigger_advanced, MODULE_trigger_advance_0);
+SAME(trigger_card, MODULE_trigger_advance_1);
+SAME(trigger_input, MODULE_trigger_advance_2);
 SAME(line_result, MODULE_trigger_line_0);
 SAME(trigger_card, MODULE_trigger_line_1);
 SAME(slice, MODULE_trigger_line_2);
@@ -98,6 +105,20 @@ void trigger_quick_tick_at(trigger_card *card, const trigger_input *input, trigg
 bool trigger_at_rest_at(const trigger_card *card, const trigger_input *input)
 {
     return trigger_inner_at_rest(card, input);
+}
+
+uint32_t trigger_steady_for_at(const trigger_card *card, const trigger_input *input)
+{
+    return trigger_inner_steady_for(card, input);
+}
+
+uint32_t trigger_advance_at(trigger_card *card, const trigger_input *input, uint32_t k, trigger_answer *answer)
+{
+    trigger_advanced advanced;
+    trigger_inner_advance(&advanced, card, input, k);
+    *card = advanced.card;
+    *answer = advanced.answer;
+    return advanced.made;
 }
 
 uint8_t trigger_line_at(trigger_card *card, const uint8_t *text, size_t text_len, uint8_t *reply, size_t reply_len, uint8_t *store, size_t store_len,

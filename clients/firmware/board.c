@@ -1,15 +1,15 @@
 /*
  * A board on Linux, for float.c: the standard input is a script. A row `N w a` lets N ticks of the clock pass with levels w and attached word a, hex; any other row
- * is a line that comes in. For each tick it prints `T` and the driven word; where the clock was off, the same with `-`. Replies are printed as they come.
+ * is a line that comes in. It prints what was driven, tick by tick: `N T` and the driven word for N ticks in a row. Replies are printed as they come. The last row
+ * says how often the processor woke, and in how many ticks; what wakes it is a tick that it waited for, a row of ticks with other levels, and a line.
  */
 #include "bare/bare.h"
 #include "board.h"
 
 static uint8_t row[128];
 static size_t row_len;
-static uint32_t ticks_left;
-static uint16_t levels, attached, driven;
-static bool clock = true;
+static uint32_t ticks_left, run, wakings, all_ticks;
+static uint16_t levels, attached, driven, run_driven;
 
 static bool number(const char **at, uint32_t base, uint32_t *n)
 {
@@ -51,35 +51,54 @@ static bool take_row(void)
     }
 }
 
-static void put_tick(const char *head)
+static void put_run(void)
 {
-    put_text(head);
-    put_hex(driven, 4);
+    if (run == 0)
+        return;
+    put_decimal(run, 0);
+    put_text(" T ");
+    put_hex(run_driven, 4);
     put_text("\n");
+    run = 0;
 }
 
-board_event board_wait(void)
+/* Ticks have passed that drove the word that is driven now. */
+static void passed(uint32_t ticks)
 {
-    static bool ticking;
-    if (ticking)
-        put_tick("T ");
-    ticking = false;
-    while (ticks_left > 0) {
-        ticks_left--;
-        if (clock) {
-            ticking = true;
-            return BOARD_TICK;
-        }
-        put_tick("- ");
+    if (ticks > 0 && driven != run_driven) {
+        put_run();
+        run_driven = driven;
     }
-    if (!take_row())
-        return BOARD_OFF;
-    return is_ticks() ? BOARD_CHANGE : BOARD_LINE;
+    run += ticks;
+    all_ticks += ticks;
 }
 
-void board_clock(bool on)
+static board_event off(void)
 {
-    clock = on;
+    put_run();
+    put_text("woke ");
+    put_decimal(wakings, 0);
+    put_text(" times in ");
+    put_decimal(all_ticks, 0);
+    put_text(" ticks\n");
+    return BOARD_OFF;
+}
+
+/* The outputs keep their word while the processor sleeps. What the last tick of a wait drives is known at the next. */
+board_event board_wait(uint32_t most, uint32_t *ticks)
+{
+    static bool last;
+    passed(last ? 1 : 0);
+    last = ticks_left >= most;
+    *ticks = last ? most : ticks_left;
+    passed(last ? most - 1 : ticks_left);
+    ticks_left -= *ticks;
+    if (!last && !take_row())
+        return off();
+    wakings++;
+    if (last)
+        return BOARD_TICK;
+    return is_ticks() ? BOARD_CHANGE : BOARD_LINE;
 }
 
 uint16_t board_levels(void)
@@ -107,6 +126,7 @@ size_t board_line(uint8_t *line, size_t room)
 
 void board_reply(const uint8_t *reply, size_t len)
 {
+    put_run();
     put(reply, len < 2 ? 0 : len - 2);
     put_text("\n");
 }

@@ -6,14 +6,17 @@
 #include <stddef.h>
 #include <stdint.h>
 
-/* What woke the processor: a tick of the card's clock, something that came in, or nothing more, where the float is switched off. */
+/*
+ * What woke the processor: the ticks that it waited for, a line that has come in, a change of a level or of a cable, or nothing more, where the float is switched
+ * off.
+ */
 typedef enum { BOARD_TICK, BOARD_LINE, BOARD_CHANGE, BOARD_OFF } board_event;
 
-/* Sleeps until one of them. With the clock stopped no tick comes. */
-board_event board_wait(void);
-
-/* The clock of the ticks: on or off. Where it is off, a change of a level or of a cable wakes the processor in its place. */
-void board_clock(bool on);
+/*
+ * Sleeps until one of them, at the latest until `most` ticks of the card's clock have come, 1 or more. `ticks` is how many have come since the last call: levels and
+ * cables were the same in all of them. A counter that runs on while the processor sleeps gives that number.
+ */
+board_event board_wait(uint32_t most, uint32_t *ticks);
 
 /* The levels at the connectors, bits 0-7 BNC1-8 and 8-15 TTL0-7, and which have something attached. */
 uint16_t board_levels(void);

@@ -1,6 +1,6 @@
 /*
- * The loop of a float: it samples, ticks and drives, obeys lines, and stops the clock where the card is at rest. Its memory is below; the library has none of its
- * own. docs/PERFORMANCE.md has the bytes.
+ * The loop of a float: it samples, asks for how many ticks nothing but counts changes, and sleeps through them; then it makes the ticks that have passed, drives the
+ * outputs, and obeys the line that woke it. Its memory is below; the library has none of its own. docs/PERFORMANCE.md has the bytes.
  */
 #include "board.h"
 #include "trigger.h"
@@ -22,20 +22,25 @@ static void power_up(void)
         trigger_load_at(&card, record, len);
 }
 
-static void sample(void)
+/* The ticks for which the outputs may stay as they are, and the one after them, with the input as it is now. */
+static uint32_t sample(void)
 {
     input.code = CLOCK;
     input.sample = board_levels();
     input.attached = board_attached();
+    uint32_t steady = trigger_steady_for_at(&card, &input);
+    return steady < TRIGGER_FOREVER ? steady + 1 : steady;
 }
 
-static void tick(void)
+/* The ticks that have passed since the input was sampled: they saw that input, whatever has come since. */
+static void catch_up(uint32_t ticks)
 {
     trigger_answer answer;
-    sample();
-    trigger_quick_tick_at(&card, &input, &answer);
-    if (answer.ran)
-        board_drive(answer.driven);
+    while (ticks > 0) {
+        ticks -= trigger_advance_at(&card, &input, ticks, &answer);
+        if (answer.ran)
+            board_drive(answer.driven);
+    }
 }
 
 static bool is_save(const uint8_t *line, size_t len)
@@ -57,31 +62,18 @@ static void obey(void)
         board_write_record(record, sizeof record);
 }
 
-/* While the clock is off the outputs keep what they have. A line gives another card, and a change another input, so each is followed by the question again. */
-static void rest(void)
-{
-    sample();
-    board_clock(!trigger_at_rest_at(&card, &input));
-}
-
 int main(void)
 {
     if (!trigger_matches())
         board_fail();
     power_up();
     for (;;) {
-        switch (board_wait()) {
-        case BOARD_TICK:
-            tick();
-            break;
-        case BOARD_LINE:
+        uint32_t ticks;
+        board_event event = board_wait(sample(), &ticks);
+        catch_up(ticks);
+        if (event == BOARD_LINE)
             obey();
-            break;
-        case BOARD_CHANGE:
-            break;
-        case BOARD_OFF:
+        if (event == BOARD_OFF)
             return 0;
-        }
-        rest();
     }
 }

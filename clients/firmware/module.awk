@@ -15,13 +15,18 @@ $0 ~ "^define .*@" library "_inner_[a-z_]+\\(" {
     next
 }
 
-/^define .*@"rack::row::put_at"\(/ {
+/^define .*@"rack::row::/ {
     row = 1
 }
 
-row && /mul nuw i64 %a1, [0-9]+$/ {
-    print "#define MODULE_" library "_row_step " $NF
+/^}/ {
     row = 0
+}
+
+row && /mul nuw i64 %[a-z0-9]+, [0-9]+$/ {
+    if (step && step != $NF)
+        fault("a row has two steps:" $0)
+    step = $NF
 }
 
 inside && /^}/ {
@@ -56,6 +61,8 @@ inside && /^  ret / {
 }
 
 END {
+    if (step)
+        print "#define MODULE_" library "_row_step " step
     if (!calls) {
         name = "all"
         fault("no call found")

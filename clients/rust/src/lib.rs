@@ -38,6 +38,9 @@ pub const OLD_RECORD: usize = 276;
 /// A buffer of this length has room for the wiring of any card.
 pub const TEXT: usize = 4611;
 
+/// How many ticks [`Card::steady_for`] gives where they never end, and the most that one call makes.
+pub const FOREVER: u32 = u32::MAX;
+
 // The longest reply, which is also the fewest bytes that the library takes for a reply buffer.
 const REPLY: usize = 16;
 
@@ -48,6 +51,15 @@ pub struct Dependents {
     pub cells: u32,
     /// The connectors, in the order of the sample.
     pub connectors: u16,
+}
+
+/// Ticks that were made at once: how many, and the answer of the last.
+#[derive(Clone, Copy, Debug, PartialEq, Eq)]
+pub struct Advance {
+    /// How many were made.
+    pub made: u32,
+    /// What the last of them answered; with none, what a tick answers that did not run.
+    pub answer: Answer,
 }
 
 /// The number of a refusal; docs/MANUAL.md says what each means. It displays as plrun prints it, `:N-9`.
@@ -202,6 +214,27 @@ impl Card {
     #[inline]
     pub fn at_rest(&self, input: Input) -> bool {
         unsafe { raw::trigger_at_rest(self.0.card, input) }
+    }
+
+    /// For how many quick ticks with this input nothing changes but the counts of cells, the tallies and the count of ticks, and no count comes to its end: a
+    /// processor may sleep through so many ticks, with the outputs as they are, unless a line, a load or another input comes, and then make those that have
+    /// passed with [`advance`](Card::advance) and the same input. [`FOREVER`] of a card at rest.
+    #[inline]
+    pub fn steady_for(&self, input: Input) -> u32 {
+        unsafe { raw::trigger_steady_for(self.0.card, input) }
+    }
+
+    /// Up to `k` quick ticks with one input at once: one, and more as long as the card is [steady](Card::steady_for). How many were made, at least 1 where `k`
+    /// is, and the answer of the last; card and answer are those that so many quick ticks leave, one after the other.
+    #[inline]
+    pub fn advance(&mut self, input: Input, k: u32) -> Advance {
+        let mut to = MaybeUninit::uninit();
+        let advanced = unsafe { &*raw::trigger_advance(to.as_mut_ptr(), self.0.card, input, k) };
+        self.0.card = advanced.card;
+        Advance {
+            made: advanced.made,
+            answer: advanced.answer,
+        }
     }
 
     /// One line, without an ending. A refused line leaves card and store as they were. `36SS Z` writes the record to the front of the store, and is

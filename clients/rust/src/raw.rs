@@ -117,6 +117,14 @@ pub struct Ticked {
     pub answer: Answer,
 }
 
+// crates/steady/src/lib.rt
+#[repr(C)]
+pub struct Advanced {
+    pub card: Card,
+    pub answer: Answer,
+    pub made: u32,
+}
+
 // crates/lines/src/line.rt
 #[repr(C)]
 pub struct Answered {
@@ -213,6 +221,8 @@ extern "C" {
     pub fn trigger_full_tick(to: *mut Ticked, card: Card, input: Input) -> *mut Ticked;
     pub fn trigger_quick_tick(to: *mut Ticked, card: Card, input: Input) -> *mut Ticked;
     pub fn trigger_at_rest(card: Card, input: Input) -> bool;
+    pub fn trigger_steady_for(card: Card, input: Input) -> u32;
+    pub fn trigger_advance(to: *mut Advanced, card: Card, input: Input, k: u32) -> *mut Advanced;
     pub fn trigger_load(
         to: *mut Loaded,
         card: Card,
@@ -281,6 +291,7 @@ layout!(Card: 704, cells 0, connectors 512, edited 536, memory 544, pointer 564,
 layout!(Input: 6, code 0, sample 2, attached 4);
 layout!(Answer: 16, ran 0, driven 2, cells 4, woken 8, count 12);
 layout!(Ticked: 720, card 0, answer 704);
+layout!(Advanced: 728, card 0, answer 704, made 720);
 layout!(Loaded: 712, card 0, k 704);
 layout!(Surveyed: 12, k 0, cells 4, connectors 8);
 layout!(Front: 2, sample 0, attached 1);
