@@ -8,4 +8,4 @@ pub mod Rest
 pub mod SaveLoad
 pub mod Sizes
 pub mod Replies
-pub mod Box
+pub mod RequiredExamples

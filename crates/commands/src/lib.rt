@@ -1,3 +1,3 @@
 // The commands that lines say: from the bytes of a line to a command, or to none.
 pub mod grammar;
-pub mod pairs;
+mod pairs;

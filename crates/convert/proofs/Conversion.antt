@@ -395,7 +395,7 @@ module _ (n : ℕ) (some : 0 < n) (few : n ≤ cellCount) (room : ℕ) (bytes : 
       }
 
   -- of either
-  fitting : convertNumber n room bytes ≡ 0 → (length (otherForm n bytes) ≡ recordLength n (otherWidth n bytes)) × (length (otherForm n bytes) ≤ room)
+  pub fitting : convertNumber n room bytes ≡ 0 → (length (otherForm n bytes) ≡ recordLength n (otherWidth n bytes)) × (length (otherForm n bytes) ≤ room)
   fitting e = go (ℕ-discrete (length bytes) largeLength)
     where
       go : Dec (length bytes ≡ largeLength) → (length (otherForm n bytes) ≡ recordLength n (otherWidth n bytes)) × (length (otherForm n bytes) ≤ room)
@@ -453,6 +453,16 @@ only-durations n cell ok long =
     let test = every-row (λ (r : Row). leb (r .largest) largestNarrow || timer (r .kept)) refl (cell .kind) in
     only-timer (row .kept) (rw large at test)
 
+-- by the tests that are left once the loader has none
+others : (n room : ℕ) (bytes : List ℕ) → otherLength n bytes ≡ false → shortFor n room bytes ≡ false → loaderNumber n bytes ≡ 0
+    → (convertNumber n room bytes ≡ 17 → ⊥) → (convertNumber n room bytes ≡ 18 → ⊥) → convertNumber n room bytes ≡ 0
+others n room bytes known roomy loads not17 not18 = go (tooLong n bytes) (aboveSmall n bytes) refl refl
+  where
+    go : (t a : Bool) → tooLong n bytes ≡ t → aboveSmall n bytes ≡ a → convertNumber n room bytes ≡ 0
+    go true a et ea = absurd (not17 (number-is n room bytes false false true a 0 known roomy loads et ea))
+    go false true et ea = absurd (not18 (number-is n room bytes false false false true 0 known roomy loads et ea))
+    go false false et ea = number-is n room bytes false false false false 0 known roomy loads et ea
+
 -- of cards for which there is an old form
 pub conversion : (n : ℕ) → 0 < n → n ≤ cellCount → Conversion n
 conversion n some few =
@@ -462,4 +472,5 @@ conversion n some few =
       kept = kept n some few;
       only-durations = only-durations n;
       only-above = λ bytes large ok d. only-above n 0 bytes few large ok d;
+      others = others n;
     }

@@ -13,7 +13,8 @@ use Rattle.card.specs.Address.{cellRoom}
 use Rattle.card.specs.Fresh.{freshCell}
 use Rattle.card.specs.Valid.{every, validCell, validCard}
 use Rattle.saved.specs.Record.{narrowWidth, recordLength, widthOf, poweredUp, loadNumber, loaded, normalRecord, SmallConstants}
-use Rattle.convert.specs.Convert.{largeLength, otherWidth, narrowCell, isBlank, aboveSmall, convertNumber, otherForm, convertLength, convertedTo}
+use Rattle.convert.specs.Convert.{largeLength, otherWidth, otherLength, shortFor, loaderNumber, narrowCell, isBlank, aboveSmall, convertNumber}
+use Rattle.convert.specs.Convert.{otherForm, convertLength, convertedTo}
 
 -- of a small card's record that a buffer of this room takes
 pub record Converts (n room : ℕ) (bytes : List ℕ) : Type 0 where
@@ -56,3 +57,6 @@ pub record Conversion (n : ℕ) : Type 0 where
   -- 18 is only "where the small card" can not "hold it": another cell than its own is set, or by its own rules the settings are none that lines can set
   pub only-above : (bytes : List ℕ) → length bytes ≡ largeLength → loadNumber cellRoom bytes ≡ 0 → (d : Card) → let large = loaded cellRoom d bytes in
       aboveSmall n bytes ≡ (not (every isBlank (drop n (take cellRoom (large .cells)))) || not (validCard n large))
+  -- every other record that loads converts: of a known length, with room for the result, there is no number but 17 and 18
+  pub others : (room : ℕ) (bytes : List ℕ) → otherLength n bytes ≡ false → shortFor n room bytes ≡ false → loaderNumber n bytes ≡ 0
+      → (convertNumber n room bytes ≡ 17 → ⊥) → (convertNumber n room bytes ≡ 18 → ⊥) → convertNumber n room bytes ≡ 0

@@ -170,10 +170,6 @@ lineReply n c text reply store =
     let o = lineOutcome n c text reply store in
     replyWith reply (o .k) (o .response)
 
--- "at the front of the reply buffer": beyond the reply the buffer is as it was
-unfoldable pub replyAfter : ℕ → Card → List ℕ → List ℕ → ℕ → List ℕ
-replyAfter n c text reply store = sets reply 0 (lineReply n c text (length reply) store)
-
 -- "`36SS Z` writes the record to the front of the store"; a refused line, and any other, leaves the store as it was
 abbrev pub storeWith : ℕ → Card → Outcome → List ℕ → List ℕ
 storeWith n c o store = cond (eqb (o .k) 0 && o .response .saves) (savedTo n configWidth c store) store
@@ -189,7 +185,7 @@ pub record LineResult : Type 0 where
   pub reply : List ℕ
   pub store : List ℕ
 
--- the answer to an outcome of card c, which has n cells
+-- the answer to an outcome of card c, which has n cells: the reply is "at the front of the reply buffer", which is as it was beyond
 abbrev pub resultFor : ℕ → Card → Outcome → (reply store : List ℕ) → LineResult
 resultFor n c o reply store =
     record {
@@ -200,15 +196,8 @@ resultFor n c o reply store =
       store = storeWith n c o store;
     }
 
-abbrev pub lineResult : ℕ → Card → (text reply store : List ℕ) → LineResult
-lineResult n c text reply store =
-    record {
-      k = lineOutcome n c text (length reply) (length store) .k;
-      len = length (lineReply n c text (length reply) (length store));
-      card = lineOutcome n c text (length reply) (length store) .card;
-      reply = replyAfter n c text reply (length store);
-      store = storeAfter n c text (length reply) store;
-    }
+abbrev pub lineResult : (n : ℕ) → Card → (text reply store : List ℕ) → LineResult
+lineResult n c text reply store = resultFor n c (lineOutcome n c text (length reply) (length store)) reply store
 
 -- what the call gave, beside the buffers as it left them
 abbrev pub resultOf : Answered → (reply store : List ℕ) → LineResult

@@ -1,5 +1,5 @@
 // The line reader: refusals, replies, and what a line does to the card.
 pub mod decision;
 pub mod line;
-pub mod reads;
-pub mod writes;
+mod reads;
+mod writes;

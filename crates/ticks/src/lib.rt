@@ -1,6 +1,6 @@
 // Ticks of the card: what a reader sees at an address, the connectors, and the cells in order.
 pub mod connectors;
-pub mod quiet;
+mod quiet;
 pub mod rest;
 pub mod tick;
 pub mod view;

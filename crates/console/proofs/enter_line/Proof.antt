@@ -7,7 +7,7 @@ use lib.ListN.{length, take, replicate}
 use lib.Seq.{sets}
 use Rattle.text.proofs.Stores.{front}
 use Rattle.card.specs.Address.{cellsFor}
-use Rattle.lines.specs.Line.{LineResult, shortestReply, lineReply, replyAfter}
+use Rattle.lines.specs.Line.{LineResult, shortestReply, lineReply, storeAfter}
 use Rattle.console.specs.Console.{plainReply}
 use borrow.Author.Needs.{needs}
 use Rattle.console.proofs.enter_line.Statement.{statement}
@@ -38,7 +38,7 @@ same-length-2 : tie.Need-same-length-2
 same-length-2 c = search needs
 
 returns : tie.Need-returns
-unfolding replyAfter
+unfolding lineReply storeAfter
 returns c =
     let l = c .before .before .before .before .before .before .before .before .before .before in
     let a = l .before .before .before .before .before .before .args in

@@ -2,7 +2,7 @@
 use mathlib.Core.Path.{ap, _∙_}
 use Rattle.card.specs.Address.{cellsFor}
 use Rattle.lines.specs.declared.decision.Decision.{Decision}
-use Rattle.lines.specs.Line.{outcomeOf, resultFor, lineOutcome, lineReply, replyAfter, storeAfter}
+use Rattle.lines.specs.Line.{outcomeOf, resultFor, lineOutcome}
 use borrow.Author.Needs.{needs}
 use Rattle.lines.proofs.line.line.Statement.{statement}
 use Rattle.lines.proofs.line.line.Tie as tie
@@ -26,7 +26,7 @@ same-length-2 : tie.Need-same-length-2
 same-length-2 c = search needs
 
 returns : tie.Need-returns
-unfolding lineOutcome lineReply replyAfter storeAfter
+unfolding lineOutcome
 returns c =
     let saves = c .before .before .before in
     let puts = saves .before .before .before .before .before in

@@ -1,0 +1,2 @@
+-- The one theorem.
+pub mod Demands

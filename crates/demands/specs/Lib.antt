@@ -1,0 +1,2 @@
+-- What a reader must believe: the demands on one page.
+pub mod Demands
