@@ -9,4 +9,7 @@ pub mod Asks
 pub mod Monitor
 pub mod Lists
 pub mod Readings
-pub mod Spread
+pub mod Parts
+pub mod Spoken
+pub mod Pruning
+pub mod Whole

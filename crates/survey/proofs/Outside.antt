@@ -37,7 +37,7 @@ use Rattle.survey.specs.Unreached.{SameBut, CellsOutside, LinesOutside}
 -- ---- readings
 
 -- two views agree at every base outside the set
-abbrev Views : (ℕ → Bool) → (f g : ℕ → Bool) → Type 0
+abbrev pub Views : (ℕ → Bool) → (f g : ℕ → Bool) → Type 0
 Views set f g = (b : ℕ) → set b ≡ false → f b ≡ g b
 
 -- an address whose base is outside reads the same
@@ -52,7 +52,7 @@ slot-outside false i r s e h = refl
 slot-outside true i r s e h = h e
 
 -- so does a cell that reads nothing of the set, in its used slots
-slots-outside : (set now before now′ before′ : ℕ → Bool) → Views set now now′ → Views set before before′ → (cell : Cell) → readsSet set cell ≡ false
+pub slots-outside : (set now before now′ before′ : ℕ → Bool) → Views set now now′ → Views set before before′ → (cell : Cell) → readsSet set cell ≡ false
     → SameUsed (cell .kind) (slotsRead now before (cell .slots)) (slotsRead now′ before′ (cell .slots))
 unfolding slotsRead readsSet
 slots-outside set now before now′ before′ p q cell out =
@@ -70,7 +70,7 @@ slots-outside set now before now′ before′ p q cell out =
 -- ---- what a reader sees
 
 -- cells below i by one pair of words, the others by another
-view-outside : (n i : ℕ) (set : ℕ → Bool) (below others levels below′ others′ levels′ : ℕ)
+pub view-outside : (n i : ℕ) (set : ℕ → Bool) (below others levels below′ others′ levels′ : ℕ)
     → ((j : ℕ) → j < i → j < n → set (firstCell + j) ≡ false → bitAt below j ≡ bitAt below′ j)
     → CellsOutside n set others others′ → LinesOutside set levels levels′
     → Views set (view n i below others levels) (view n i below′ others′ levels′)
@@ -105,7 +105,7 @@ pub in-or-out : (b s : Bool) → (b ≡ true → s ≡ true) → s ≡ false →
 in-or-out false s h out = refl
 in-or-out true s h out = absurd (true≢false (sym (h refl) ∙ out))
 
-driven-outside : (set now before now′ before′ : ℕ → Bool) → Views set now now′ → Views set before before′ → (d : Connectors) (k : ℕ)
+pub driven-outside : (set now before now′ before′ : ℕ → Bool) → Views set now now′ → Views set before before′ → (d : Connectors) (k : ℕ)
     → drivenFrom set (connectorAt d k) ≡ false → drivenAt now before d k ≡ drivenAt now′ before′ d k
 unfolding drivenFrom
 driven-outside set now before now′ before′ p q d k out = go (isOutput (kindAt d k)) out
@@ -117,7 +117,7 @@ driven-outside set now before now′ before′ p q d k out = go (isOutput (kindA
     go false h = refl
     go true h = reads-outside set now before now′ before′ p q a h
 
-level-outside : (push drain s s′ d d′ : Bool) → d ≡ d′ → (push ≡ false → s ≡ s′) → levelBit push drain s d ≡ levelBit push drain s′ d′
+pub level-outside : (push drain s s′ d d′ : Bool) → d ≡ d′ → (push ≡ false → s ≡ s′) → levelBit push drain s d ≡ levelBit push drain s′ d′
 level-outside true drain s s′ d d′ e h = e
 level-outside false drain s s′ d d′ e h = ap₂ (λ (x y : Bool). cond drain (x && y) x) (h refl) e
 
@@ -129,10 +129,10 @@ effective-but k s s′ a a′ torn same j h other =
     ∙ sym (bit-built (effectiveAt s′ a′) connectorCount j h)
 
 -- what connectors are driven from: the last tick's cells and levels, and those of the tick before
-abbrev shows : ℕ → Memory → ℕ → Bool
+abbrev pub shows : ℕ → Memory → ℕ → Bool
 shows n m = view n 0 (m .outputs) (m .outputs) (m .levels)
 
-abbrev showed : ℕ → Memory → ℕ → Bool
+abbrev pub showed : ℕ → Memory → ℕ → Bool
 showed n m = view n 0 (m .outputs2) (m .outputs2) (m .levels2)
 
 -- two cards between ticks

@@ -27,18 +27,18 @@ use Rattle.survey.specs.Rounds.{startOf, readersOf, followersOf, grown, 
 
 -- ---- the set as a word of 64 bits, as the code has it
 
-set-view : (n x y : ℕ) → view n 0 x x y ≡ setOf n x y
+pub set-view : (n x y : ℕ) → view n 0 x x y ≡ setOf n x y
 unfolding view
 set-view n x y = λ k b. levelAt n (λ j. mixed-one 0 x j k) (bitAt y) b
 
-reads-word : (f : ℕ → Bool) (cell : Cell) → readsSet (bitAt (wordOf f 64)) cell ≡ readsSet f cell
+pub reads-word : (f : ℕ → Bool) (cell : Cell) → readsSet (bitAt (wordOf f 64)) cell ≡ readsSet f cell
 unfolding readsSet
 reads-word f cell =
     let at : (a : ℕ) → bitAt (wordOf f 64) (baseOf a) ≡ f (baseOf a) = λ a. bit-built f 64 (baseOf a) (mod-lt a (lit< tt)) in
     let s = cell .slots in
     λ k. anySlot (masked (rowOf (cell .kind) .used) (slots (at (getD s 0 0) k) (at (getD s 1 0) k) (at (getD s 2 0) k) (at (getD s 3 0) k)))
 
-driven-word : (f : ℕ → Bool) (c : Connector) → drivenFrom (bitAt (wordOf f 64)) c ≡ drivenFrom f c
+pub driven-word : (f : ℕ → Bool) (c : Connector) → drivenFrom (bitAt (wordOf f 64)) c ≡ drivenFrom f c
 unfolding drivenFrom
 driven-word f c = ap (λ (b : Bool). isOutput (c .kind) && b) (bit-built f 64 (baseOf (c .source)) (mod-lt (c .source) (lit< tt)))
 

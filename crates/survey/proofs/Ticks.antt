@@ -27,7 +27,7 @@ use Rattle.survey.proofs.Outside.{Between, WiresOutside, lines-driven, 
 
 -- ---- one tick
 
-reads-stays : (set : ℕ → Bool) (n : ℕ) (full : Bool) (cell : Cell) (i edited : ℕ) (w : Wires) (below : ℕ)
+pub reads-stays : (set : ℕ → Bool) (n : ℕ) (full : Bool) (cell : Cell) (i edited : ℕ) (w : Wires) (below : ℕ)
     → readsSet set (turnAt n full cell i edited w below .cell) ≡ readsSet set cell
 unfolding readsSet turnAt
 reads-stays set n full cell i edited w below =

@@ -79,7 +79,7 @@ fn driven_from(c: Connector, set: u64) -> bool
 }
 
 // The cells that read the set, of the first n.
-fn readers(cells: [Cell; CELLS], set: u64, n: u8) -> CellWord
+pub fn readers(cells: [Cell; CELLS], set: u64, n: u8) -> CellWord
     requires { ⌜ n ≤ cellRoom ⌝ }
     ensures { λ r. ⌜ r ≡ wordOf (λ i. readsSet (bitAt set) (getD cells i noCell)) n ⌝ }
 {
@@ -92,7 +92,7 @@ fn readers(cells: [Cell; CELLS], set: u64, n: u8) -> CellWord
 }
 
 // The output connectors that are driven from the set.
-fn followers(connectors: Connectors, set: u64) -> u16
+pub fn followers(connectors: Connectors, set: u64) -> u16
     ensures { λ r. ⌜ r ≡ wordOf (λ j. drivenFrom (bitAt set) (connectorAt connectors j)) connectorCount ⌝ }
 {
     let mut w: u64 = 0;
