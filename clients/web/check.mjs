@@ -1,64 +1,57 @@
-// Checks the page:  node clients/web/check.mjs [PAGE] [--shots DIR] [--firefox] [--no-browser]
+// Checks the page:  node clients/web/check.mjs [PAGE] [--shots DIR] [--firefox] [--no-browser] [--step NAME]
 //
 // 1. its modules give the bytes of target/bin's programs on every stored session and on random wirings, and the stored outputs
 // 2. with the questions that the page puts between the lines, plexplain gives the answers that plrun gives without
-// 3. the page in Chromium: what a person does, and what is shown
+// 3. what a form writes is what the card then reads, on examples and on random wirings
+// 4. the page in Chromium, and with --firefox there too: what a person does, and what is shown. With --step only that step, and none of 1 to 3.
 import fs from 'node:fs';
 import os from 'node:os';
 import path from 'node:path';
 import { pathToFileURL } from 'node:url';
 import { TOP } from './make.mjs';
-import { modulesIn, comparePage, compareModules, compareBytes, compareRandom, compareRecords, compareStored, compareReading } from './compare.mjs';
-import { openBrowser } from './browser.mjs';
-import { openFirefox } from './firefox.mjs';
+import { modulesIn, comparePage, compareModules, compareBytes, compareRandom, compareRecords, compareStored, compareReading, compareForms } from './compare.mjs';
+import { openChromium, openFirefox } from './driver.mjs';
 import { expect, tally } from './expect.mjs';
 import * as walk from './walk.mjs';
+import * as forms from './walk-forms.mjs';
+import * as more from './walk-more.mjs';
 
 const words = process.argv.slice(2);
 const valueOf = (option) => (words.includes(option) ? words[words.indexOf(option) + 1] : null);
 const shots = valueOf('--shots');
+const only = valueOf('--step');
 const file = path.resolve(words[0] && !words[0].startsWith('--') ? words[0] : path.join(TOP, 'docs', 'card.html'));
+
+// Each step, and the program without which it is not there to be walked. Behind a step its picture is taken.
+const STEPS = [
+  [walk.prints], [walk.wiresFirstExample], [walk.looksAtReasons], [walk.predicts], [walk.doesExercise], [walk.keepsRecord, 'plsave'], [walk.findsWiring, 'plcheck'],
+  [walk.callsRack, 'plrack'], [walk.takesHint], [walk.triesLookup], [forms.wiresByForm], [forms.pressesTable], [forms.setsTriggerAndState], [forms.rebuildsExamples],
+  [forms.drawsWirings], [forms.completesNames], [forms.typesFast], [more.asksOfBusyLine, 'plreach'], [more.stopsAsking, 'plreach'], [more.tellsTime], [more.makesManyTicks],
+  [more.readsManual], [more.opensAnything], [more.asksBeforeRecord, 'plsave'], [more.keepsWork], [more.handsIn, 'plcheck'], [walk.labelsByTick], [walk.meetsRefusal],
+  [walk.opensEverything], [walk.opensCarriageReturns], [walk.runsLong], [walk.followsLink], [walk.fits], [more.holdsPhone],
+];
+const ON_PHONE = [[walk.wiresFirstExample], [walk.looksAtReasons]];
 
 async function drive(open, prefix, has) {
   const { page, version, close } = await open();
-  const shot = (name) => shots && page.shot(path.join(shots, `${prefix}${name}.png`));
   const url = pathToFileURL(file).href;
-  const start = async () => page.open(url);
+  const walked = async (steps, where) => {
+    for (const [step, needed] of steps) {
+      if (only && step.name !== only) continue;
+      if (!needed || has(needed)) await step(page, url);
+      if (shots) await page.shot(path.join(shots, `${prefix}${where}${step.name}.png`));
+    }
+  };
   try {
     await page.size(1280, 720);
-    await start();
-    await walk.prints(page);
-    await walk.wiresFirstExample(page);
-    await walk.looksAtReasons(page);
-    await shot('first');
-    await walk.predicts(page);
-    await shot('predicted');
-    await walk.doesExercise(page, url);
-    await shot('exercise');
-    if (has('plsave')) await walk.keepsRecord(page);
-    await shot('record');
-    if (has('plcheck')) await walk.findsWiring(page);
-    await shot('wiring');
-    if (has('plrack')) await walk.callsRack(page);
-    await walk.takesHint(page);
-    await shot('hint');
-    await walk.triesLookup(page);
-    await shot('lookup');
-    await walk.labelsByTick(page);
-    await walk.meetsRefusal(page);
-    await shot('refused');
-    await walk.opensEverything(page);
-    await walk.opensCarriageReturns(page);
-    await walk.runsLong(page, url);
-    await shot('long');
-    await walk.followsLink(page, url);
-    await walk.fits(page);
+    const from = Date.now();
+    await page.open(url);
+    console.log(`start   ${Date.now() - from} ms until the page is ready, with a turn through about:blank`);
+    await walked(STEPS, '');
     await page.size(390, 844, true);
-    await start();
-    await walk.wiresFirstExample(page);
-    await walk.looksAtReasons(page);
-    await shot('narrow');
-    expect('no exceptions', (await page.complaints()).map((c) => JSON.stringify(c.params).slice(0, 300)), []);
+    await page.open(url);
+    await walked(ON_PHONE, 'phone-');
+    expect('no exceptions', await page.complaints(), []);
   } finally {
     await close();
   }
@@ -70,14 +63,17 @@ try {
   const page = fs.readFileSync(file, 'utf8');
   const bytes = modulesIn(page);
   const modules = Object.fromEntries(Object.entries(bytes).map(([name, b]) => [name, new WebAssembly.Module(b)]));
-  comparePage(page, bytes, work);
-  compareModules(bytes);
-  compareBytes(modules);
-  compareRandom(modules);
-  if (modules.plsave) compareRecords(modules);
-  compareStored(modules);
-  compareReading(modules);
-  if (!words.includes('--no-browser')) await drive(openBrowser, '', (name) => name in modules);
+  if (!only) {
+    comparePage(page, bytes, work);
+    compareModules(bytes);
+    compareBytes(modules);
+    compareRandom(modules);
+    if (modules.plsave) compareRecords(modules);
+    compareStored(modules);
+    compareReading(modules);
+    compareForms(modules);
+  }
+  if (!words.includes('--no-browser')) await drive(openChromium, '', (name) => name in modules);
   if (words.includes('--firefox')) await drive(openFirefox, 'firefox-', (name) => name in modules);
 } catch (error) {
   expect(`the check ran to its end (${error.stack})`, false, true);

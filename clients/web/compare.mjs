@@ -4,8 +4,10 @@ import path from 'node:path';
 import { spawnSync } from 'node:child_process';
 import { runBytes, programsOf } from './programs.js';
 import { runSession, cardAfter, splitLines, asInput, truthTable } from './session.js';
+import { told } from './words.js';
 import { TOP, PROGRAMS, makePage } from './make.mjs';
-import { randomLines, randomWiring } from './random.mjs';
+import { catalogueOf, tried, rewired, retriggered, restated } from './wire.js';
+import { randomLines, randomWiring, randomPart, randomSetting } from './random.mjs';
 import { expect } from './expect.mjs';
 
 const NAMES = PROGRAMS.map((p) => p.name);
@@ -129,7 +131,7 @@ export function compareReading(modules) {
     const { lines } = splitLines(fs.readFileSync(file, 'latin1'));
     const session = runSession(programs, lines);
     expect(`probes leave the answers of ${path.basename(file)} as they are`, session.disagreements.slice(0, 5), []);
-    expect(`all words about ticks of ${path.basename(file)} are placed`, session.ticks.flatMap((e) => e.tick.other ?? []).slice(0, 3), []);
+    expect(`all words about ticks of ${path.basename(file)} are placed`, session.ticks.flatMap((e) => told(e.tick).other).slice(0, 3), []);
   }
   // lines that look like plexplain's own words
   const odd = ['    The pointer is at cell 1 (constant).', ':A', 'W E', '    ', '36RDADC X?', '', 'T 0 0000 ffff Q', 'T -'];
@@ -141,4 +143,78 @@ export function compareReading(modules) {
   expect('34953 tried on the card', rows, [0, 3, 7, 11, 15]);
   expect('fresh card', cardAfter(programs, []).connectors.slice(7, 9).map((c) => c.words), ['push-pull from 0, always low', 'input']);
   console.log(`reading ${files.length} stored inputs, 12000 random lines`);
+}
+
+// ---- forms
+
+const FORM_WIRINGS = 40;
+const FORM_CHANGES = 8;
+
+const textOf = (bytes) => Buffer.from(bytes).toString();
+
+// What a change may not touch: every other part as plprint prints it, the ticks, and what is refused.
+function leavesRest(programs, where, lines, end, next, isChanged) {
+  const printed = (all) => textOf(programs.plprint(asInput(all)).output).split(/^(?=M E=|PM E=)/m);
+  const refusals = (all) => textOf(programs.plrun(asInput(all)).output).split('\n').filter((a) => a.startsWith(':N')).length;
+  const [before, after] = [lines.slice(0, end), next.lines.slice(0, next.end)];
+  const then = printed(before);
+  expect(`${where}: nothing else`, printed(after).filter((text, n) => text !== then[n] && !isChanged(text)), []);
+  expect(`${where}: no refusal more`, refusals(after) <= refusals(before), true);
+  expect(`${where}: the same ticks`, next.lines.filter((l) => l.startsWith('T ')), lines.filter((l) => l.startsWith('T ')));
+}
+
+// A form's change gives what was wanted where the card reads it, ticks and all, and leaves everything else as it was.
+export function compareForms(modules) {
+  const programs = programsOf(modules);
+  const catalogue = catalogueOf(programs);
+  const examples = fs.readdirSync(path.join(TOP, 'examples')).filter((f) => f.endsWith('.lines'))
+    .map((f) => splitLines(fs.readFileSync(path.join(TOP, 'examples', f), 'utf8')).lines);
+  const wirings = [...examples, ...Array.from({ length: FORM_WIRINGS }, (_, seed) => randomWiring(seed + 1, 80))];
+  const count = { changes: 0, notWritten: 0 };
+  wirings.forEach((start, wiring) => {
+    let lines = start;
+    for (let i = 0; i < FORM_CHANGES; i += 1) {
+      const seed = wiring * FORM_CHANGES + i + 1;
+      lines = withPart(programs, catalogue, seed, lines, count);
+      lines = withSettings(programs, catalogue, seed, lines, count);
+    }
+  });
+  expect('few are not written', count.notWritten < count.changes / 12, true);
+  console.log(`forms   ${count.changes} changes in ${wirings.length} wirings, ${count.notWritten} not written since the card refuses them, or since something else would change`);
+}
+
+function counted(next, count) {
+  count.changes += 1;
+  if (next.against) count.notWritten += 1;
+  return !next.against;
+}
+
+function withPart(programs, catalogue, seed, lines, count) {
+  const { place, wanted, initial, end } = randomPart(seed, lines, catalogue, (at) => tried(programs, lines, at).parts);
+  const next = rewired(programs, lines, end, place, wanted, initial);
+  if (!counted(next, count)) return lines;
+  const where = `form ${seed}, ${place} as ${JSON.stringify(wanted)}`;
+  const read = tried(programs, next.lines, next.end).parts[place];
+  expect(`${where}: it reads so`, { ...read, configuration: wanted.configuration === null ? null : read.configuration }, wanted);
+  leavesRest(programs, where, lines, end, next, (text) => text.startsWith(`M E=${place}\n`));
+  return next.lines;
+}
+
+// The trigger source, and a state.
+function withSettings(programs, catalogue, seed, lines, count) {
+  const { end, clock, place, value } = randomSetting(seed, lines, catalogue, (at) => tried(programs, lines, at));
+  const next = retriggered(programs, lines, end, clock);
+  if (counted(next, count)) {
+    const printed = textOf(programs.plprint(asInput(next.lines.slice(0, next.end))).output);
+    expect(`form ${seed}, clock ${clock}: it reads so`, printed.match(/^PM E=(\d)$/m)[1], String(clock));
+    leavesRest(programs, `form ${seed}, clock ${clock}`, lines, end, next, (text) => text.startsWith('PM E='));
+  }
+  if (!place) return lines;
+  const kept = restated(programs, lines, end, place, value);
+  if (!counted(kept, count)) return lines;
+  const where = `form ${seed}, state ${value} of ${place}`;
+  const [then, now] = [[lines, end], [kept.lines, kept.end]].map(([all, at]) => tried(programs, all, at, true).states);
+  expect(`${where}: it reads so, and no other`, now, { ...then, [place]: value });
+  leavesRest(programs, where, lines, end, kept, () => false);
+  return kept.lines;
 }

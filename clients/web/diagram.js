@@ -1,13 +1,19 @@
 // The timing diagram: rows of levels, one column for each tick line. It draws what the session holds and decides nothing about the card.
 
 import { bitOf } from './session.js';
+import { countIn, told } from './words.js';
+import { escapeText, msWords } from './dom.js';
 
-const ROW = 24;
 const NARROW = 22;
 const WIDE = 40;
-const HEAD = 30;
-const HIGH = 5;
-const LOW = 19;
+const HEAD = 40;
+const ZOOMS = [1, 2, 3, 4, 6, 8, 11, 15, 22, 30, 40, 60, 80]; // pixels of a tick
+const [GRID_FROM, KINDS_FROM, COUNTS_FROM] = [5, 8, 12]; // and from how many on a column shows these
+// A row's height, and where a high and a low level are in it. With fingers it has to be higher.
+const size = { row: 24, high: 5, low: 19 };
+export const setRowHeight = (row) => Object.assign(size, { row, high: Math.round(row * 0.21), low: Math.round(row * 0.79) });
+export const rowHeight = () => size.row;
+
 const END = 5; // behind the last column, where the mark of other lines may stand
 
 // ---- which rows
@@ -45,28 +51,30 @@ const cellRow = (c) => ({
 // ---- the drawing
 
 export const columnWidthFor = (count, room) => Math.max(NARROW, Math.min(WIDE, Math.floor((room - END - 1) / Math.max(count, 1))));
+export const widthToFit = (count, room) => Math.max(ZOOMS[0], Math.min(WIDE, Math.floor((room - END - 1) / Math.max(count, 1))));
+export const nextZoom = (column, step) => (step > 0 ? ZOOMS.find((z) => z > column) : ZOOMS.findLast((z) => z < column)) ?? column;
+export const nearZoom = (column) => Math.max(ZOOMS[0], Math.min(ZOOMS.at(-1), Math.round(column)));
 export const widthOf = (count, column) => count * column + END;
 export const columnAt = (x, count, column) => Math.max(0, Math.min(count - 1, Math.floor(x / column)));
-export const rowAt = (y) => Math.floor(y / ROW);
-export const ROW_HEIGHT = ROW;
+export const rowAt = (y) => Math.floor(y / size.row);
 export const HEAD_HEIGHT = HEAD;
 
 // Columns are drawn from `from` up to `to`: those in sight, where there are many. The heads of the columns are a drawing of their own, since they stay in
 // sight when the rows are scrolled.
-export function drawWaves(session, rows, column, from, to) {
+export function drawWaves(session, rows, column, from, to, tickMs = 0) {
   const columns = session.ticks.slice(from, to);
-  const height = rows.length * ROW;
+  const height = rows.length * size.row;
   const body = [
     columnBands(columns, height, column),
     rows.map((row, i) => rowGround(row, i, columns, column)).join(''),
-    grid(columns, height, column),
-    rows.map((row, i) => `<path class="wave ${row.group}" d="${wavePath(row, columns, i * ROW, column)}"/>`).join(''),
+    column >= GRID_FROM ? grid(columns, height, column) : '',
+    rows.map((row, i) => `<path class="wave ${row.group}" d="${wavePath(row, columns, i * size.row, column)}"/>`).join(''),
   ];
-  const heads = columnBands(columns, HEAD, column) + columnHeads(columns, column) + editMarks(session, column, from, to);
+  const heads = columnBands(columns, HEAD, column) + columnHeads(columns, column, tickMs) + editMarks(session, column, from, to);
   return { width: widthOf(columns.length, column), height, heads, body: body.join('') };
 }
 
-const rect = (cls, x, y, w, h, more = '') => `<rect class="${cls}" x="${x}" y="${y}" width="${w}" height="${h}" ${more}/>`;
+const rect = (cls, x, y, w, h, more = '') => `<rect class="${cls}" x="${x}" y="${y}" width="${Math.max(1, w)}" height="${h}" ${more}/>`;
 
 function columnBands(columns, height, column) {
   return columns.map((e, i) => {
@@ -78,22 +86,23 @@ function columnBands(columns, height, column) {
 
 // Woken cells are tinted by plrun's woken set. In a full tick every cell is in it; those that the rules name stand out.
 function rowGround(row, i, columns, column) {
-  const y = i * ROW;
-  const line = `<path class="rule" d="M0 ${y + ROW - 0.5}H${columns.length * column}"/>`;
+  const y = i * size.row;
+  const line = `<path class="rule" d="M0 ${y + size.row - 0.5}H${columns.length * column}"/>`;
   if (!row.woken) return line;
   const paths = { woken: '', 'woken-full': '' };
   let counts = '';
   columns.forEach((e, c) => {
     if (e.tick.idle || e.covered || !row.woken(e.tick)) return;
-    paths[e.tick.named?.includes(row.name) ?? true ? 'woken' : 'woken-full'] += `M${c * column} ${y + 1}h${column}v${ROW - 2}h${-column}z`;
-    counts += countText(e.tick.reasons[row.cell], c * column + column / 2, y + ROW / 2 + 3, column);
+    const named = !e.tick.full || (told(e.tick).named?.includes(row.name) ?? true);
+    paths[named ? 'woken' : 'woken-full'] += `M${c * column} ${y + 1}h${column}v${size.row - 2}h${-column}z`;
+    if (column >= COUNTS_FROM) counts += countText(told(e.tick).reasons[row.cell], c * column + column / 2, y + size.row / 2 + 3, column);
   });
   return Object.entries(paths).map(([cls, d]) => (d ? `<path class="${cls}" d="${d}"/>` : '')).join('') + counts + line;
 }
 
 // The count that plexplain gives for a timer or a counter; three dots where it does not fit.
 function countText(reason, x, y, column) {
-  const count = reason?.match(/, count (\d+)\.$/)?.[1];
+  const count = countIn(reason);
   return count ? `<text class="count" x="${x}" y="${y}">${count.length * 6 < column ? count : '…'}</text>` : '';
 }
 
@@ -101,12 +110,23 @@ function grid(columns, height, column) {
   return `<path class="grid" d="${columns.map((_, i) => `M${i * column + 0.5} 0V${height}`).join('')}"/>`;
 }
 
-function columnHeads(columns, column) {
+// Numbers and times as often as there is room for them.
+const STEPS = [1, 2, 5, 10, 20, 50, 100, 200, 500, 1000, 2000, 5000];
+const stepFor = (column, room) => STEPS.find((s) => s * column >= room) ?? STEPS.at(-1);
+const [NUMBER_ROOM, TIME_ROOM] = [28, 50];
+
+function columnHeads(columns, column, tickMs) {
+  const numbers = stepFor(column, NUMBER_ROOM);
+  const times = stepFor(column, TIME_ROOM);
+  // tick 1, and then every so many that are not too near to it
+  const isNth = (n, step, room) => n === 1 || (n % step === 0 && (n - 1) * column >= room);
   return columns.map((e, i) => {
     const x = i * column + column / 2;
-    const kind = e.covered ? '?' : e.tick.idle ? '–' : e.tick.full ? 'F' : '';
-    const every = !e.tick.idle && (column >= 28 || e.tick.number === 1 || e.tick.number % 5 === 0);
-    return (every ? `<text class="number" x="${x}" y="11">${e.tick.number}</text>` : '') + (kind ? `<text class="kind" x="${x}" y="23">${kind}</text>` : '');
+    const { number, idle, full } = e.tick;
+    const kind = e.covered ? '?' : idle ? '–' : full ? 'F' : '';
+    return (!idle && isNth(number, numbers, NUMBER_ROOM - 6) ? `<text class="number" x="${x}" y="11">${number}</text>` : '')
+      + (!idle && tickMs && isNth(number, times, TIME_ROOM) ? `<text class="time" x="${x}" y="22">${msWords((number - 1) * tickMs)}</text>` : '')
+      + (kind && column >= KINDS_FROM ? `<text class="kind" x="${x}" y="33">${kind}</text>` : '');
   }).join('');
 }
 
@@ -132,29 +152,30 @@ function editMark(x, entries) {
 function wavePath(row, columns, top, column) {
   let path = '';
   let level = false;
-  columns.filter((e) => !e.covered).forEach((e, i) => {
+  let last = 0;
+  columns.forEach((e, i) => {
+    if (e.covered) return;
     const now = e.tick.idle ? level : row.level(e.tick);
-    const y = top + (now ? HIGH : LOW);
-    path += i === 0 ? `M0 ${y}` : now !== level ? `V${y}` : '';
-    path += `H${(i + 1) * column}`;
+    const y = top + (now ? size.high : size.low);
+    if (!path) path = `M0 ${y}`;
+    else if (now !== level) path += `H${i * column}V${y}`;
     level = now;
+    last = i + 1;
   });
-  return path;
+  return path && `${path}H${last * column}`;
 }
 
 // What is predicted for the first covered tick. A mark of waking has a frame.
 export function drawGuess(rows, column, left, cover) {
-  return rows.map((r, i) => `<path class="guess" d="M${left + 2} ${i * ROW + (cover.high[r.name] ? HIGH : LOW)}h${column - 4}"/>${
-    cover.wakes[r.name] ? rect('guess-wakes', left + 1, i * ROW + 1, column - 2, ROW - 3, 'rx="4"') : ''}`).join('');
+  return rows.map((r, i) => `<path class="guess" d="M${left + 2} ${i * size.row + (cover.high[r.name] ? size.high : size.low)}h${Math.max(1, column - 4)}"/>${
+    cover.wakes[r.name] ? rect('guess-wakes', left + 1, i * size.row + 1, column - 2, size.row - 3, 'rx="4"') : ''}`).join('');
 }
 
 // Where a tick was not as predicted.
 export function drawMisses(rows, column, left, missed) {
   return missed.map(({ name, kind }) => {
-    const y = rows.findIndex((r) => r.name === name) * ROW;
+    const y = rows.findIndex((r) => r.name === name) * size.row;
     if (y < 0) return '';
-    return kind === 'high' ? rect('miss', left + 1, y + 1, column - 2, ROW - 3, 'rx="4"') : rect('miss wakes', left + 4, y + 4, column - 8, ROW - 9, 'rx="2"');
+    return kind === 'high' ? rect('miss', left + 1, y + 1, column - 2, size.row - 3, 'rx="4"') : rect('miss wakes', left + 4, y + 4, column - 8, size.row - 9, 'rx="2"');
   }).join('');
 }
-
-export const escapeText = (s) => s.replace(/[&<>"]/g, (c) => ({ '&': '&amp;', '<': '&lt;', '>': '&gt;', '"': '&quot;' })[c]);

@@ -2,10 +2,18 @@
 //
 //   #w=CODE        the lines
 //   &l=N           line N is looked at
+//   &q=CODE        questions about the wiring, deflated too
+//   &u=MS          the length of a tick in ms
+//   &n=TITLE       the title
 //   &x=N           an exercise: all lines from N on are covered
-//   &t=CODE        an exercise: ticks with their answers, deflated too, for which a wiring is to be found
+//   &t=CODE        an exercise: ticks with their answers, for which a wiring is to be found
+//   &d=CODE        the text of an exercise
+//
+// What it does not know it passes over, so that an older page takes a newer link as far as it goes.
 
-const FORM = /^#w=([\w-]+)(?:&l=(\d+))?(?:&x=(\d+))?(?:&t=([\w-]+))?$/;
+export const TICK_MS = 0.25; // as the manual has it: 4000 ticks a second
+
+const CODE = /^[\w-]+$/;
 
 async function packed(text) {
   const stream = new Blob([text]).stream().pipeThrough(new CompressionStream('deflate-raw'));
@@ -15,24 +23,38 @@ async function packed(text) {
 }
 
 async function unpacked(code) {
+  if (!CODE.test(code)) throw new Error('damaged');
   const bytes = Uint8Array.from(atob(code.replace(/-/g, '+').replace(/_/g, '/')), (c) => c.charCodeAt(0));
   return new Response(new Blob([bytes]).stream().pipeThrough(new DecompressionStream('deflate-raw'))).text();
 }
 
 // Lines are counted from 1 in an address, as in the page, and from 0 in here.
-export async function hashOf({ text, looksAt = null, coveredFrom = null, task = null }) {
-  if (!text && !task) return '#';
-  const place = looksAt === null ? '' : `&l=${looksAt + 1}`;
-  const cover = coveredFrom === null ? '' : `&x=${coveredFrom + 1}`;
-  const answers = task === null ? '' : `&t=${await packed(task)}`;
-  return `#w=${await packed(text)}${place}${cover}${answers}`;
+export async function hashOf({ text, looksAt = null, coveredFrom = null, task = null, brief = '', questions = [], tickMs = TICK_MS, title = '' }) {
+  if (!text && !task && !questions.length && !title) return '#';
+  const parts = [
+    ['w', await packed(text)], looksAt !== null && ['l', looksAt + 1], questions.length && ['q', await packed(questions.join('\n'))],
+    tickMs !== TICK_MS && ['u', tickMs], title && ['n', encodeURIComponent(title)],
+    coveredFrom !== null && ['x', coveredFrom + 1], task !== null && ['t', await packed(task)], brief && ['d', await packed(brief)],
+  ];
+  return `#${parts.filter(Boolean).map((pair) => pair.join('=')).join('&')}`;
 }
+
+// Where a text has a link of this page in it: from # on.
+export const hashIn = (text) => text.match(/#w=[\w-]+(?:&[a-z]=[\w%.!~*'()-]*)*/)?.[0] ?? null;
 
 // What a link says: none where there is no link, and an error where it is damaged.
 export async function readHash(hash) {
   if (!hash.startsWith('#w=')) return null;
-  const [, code, line, from, answers] = hash.match(FORM) ?? [];
-  if (!code) throw new Error('damaged');
-  const numbers = { looksAt: line ? Number(line) - 1 : null, coveredFrom: from ? Number(from) - 1 : null };
-  return { text: await unpacked(code), ...numbers, task: answers ? await unpacked(answers) : null };
+  const found = Object.fromEntries(hash.slice(1).split('&').map((part) => [part.slice(0, 1), part.slice(2)]));
+  const optional = async (key) => (found[key] ? unpacked(found[key]) : null);
+  const number = (key) => {
+    if (!(key in found)) return null;
+    if (!(Number(found[key]) >= 0)) throw new Error('damaged');
+    return Number(found[key]);
+  };
+  const line = (key) => (number(key) ? number(key) - 1 : null);
+  return {
+    text: await unpacked(found.w), title: decodeURIComponent(found.n ?? ''), questions: (await optional('q'))?.split('\n') ?? [],
+    task: await optional('t'), brief: await optional('d') ?? '', coveredFrom: line('x'), looksAt: line('l'), tickMs: number('u') ?? TICK_MS,
+  };
 }

@@ -1,6 +1,6 @@
 // Puts the page into one file:  node clients/web/make.mjs WASM OUT
 //
-// WASM is the folder of the modules; which ones, programs.json says.
+// WASM is the folder of the modules, or a page that has them; which ones, programs.json says.
 import fs from 'node:fs';
 import path from 'node:path';
 import crypto from 'node:crypto';
@@ -11,8 +11,9 @@ const here = path.dirname(fileURLToPath(import.meta.url));
 export const TOP = path.join(here, '..', '..');
 const read = (name) => fs.readFileSync(path.join(here, name), 'utf8');
 export const PROGRAMS = JSON.parse(read('programs.json'));
-const ENGINE = ['programs.js', 'session.js', 'runs.js'];
-const PAGE = ['diagram.js', 'predict.js', 'link.js', 'dom.js', 'state.js', 'record.js', 'exercise.js', 'rack.js', 'panel.js', 'show.js', 'menus.js', 'sheet.js', 'page.js'];
+const ENGINE = ['programs.js', 'words.js', 'session.js', 'runs.js'];
+const PAGE = ['dom.js', 'keep.js', 'wire.js', 'diagram.js', 'predict.js', 'link.js', 'reach.js', 'state.js', 'form.js', 'layout.js', 'drawing.js', 'complete.js', 'record.js',
+  'exercise.js', 'rack.js', 'questions.js', 'manual.js', 'panel.js', 'timing.js', 'show.js', 'files.js', 'menus.js', 'sheet.js', 'page.js'];
 
 // The modules are written so that their top-level names differ; joined in order they need no imports.
 function joined(names) {
@@ -34,8 +35,16 @@ const safeCode = (text) => {
 
 const named = (names) => `${names.slice(0, -1).join(', ')} and ${names.at(-1)}`;
 
+// From the folder of the modules, or out of a page that has them already.
+function modulesOf(from) {
+  if (!from.endsWith('.html')) return Object.fromEntries(PROGRAMS.map(({ name }) => [name, fs.readFileSync(path.join(from, `${name}.wasm`))]));
+  const [, json] = fs.readFileSync(from, 'utf8').match(/<script type="application\/json" id="wasm">(.*?)<\/script>/s);
+  const inPage = JSON.parse(json);
+  return Object.fromEntries(PROGRAMS.map(({ name }) => [name, Buffer.from(inPage[name], 'base64')]));
+}
+
 export function makePage(wasm) {
-  const bytes = Object.fromEntries(PROGRAMS.map(({ name }) => [name, fs.readFileSync(path.join(wasm, `${name}.wasm`))]));
+  const bytes = modulesOf(wasm);
   const hash = crypto.createHash('sha256');
   Object.values(bytes).forEach((b) => hash.update(b));
   const parts = {

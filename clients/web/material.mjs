@@ -1,39 +1,12 @@
-// What the page takes from the papers: examples, first wiring, classroom errors, presets and the steps of a tick, so that it has no second copy of them.
+// What the page takes from the papers: the manual, examples, first wiring, classroom errors, presets, tables and the steps of a tick, so that it has no second
+// copy of them.
 import fs from 'node:fs';
 import path from 'node:path';
+import { cellsOf, escapeHtml, inline, markdown as asHtml, table } from './markdown.mjs';
 
 const read = (...parts) => fs.readFileSync(path.join(...parts), 'utf8');
 
-// ---- a little Markdown, as much as the examples and the manual use
-
-const escapeHtml = (s) => s.replace(/[&<>]/g, (c) => ({ '&': '&amp;', '<': '&lt;', '>': '&gt;' })[c]);
-
-const inline = (s) => escapeHtml(s)
-  .replace(/!\[[^\]]*\]\([^)]*\)/g, '')
-  .replace(/\[([^\]]*)\]\([^)]*\)/g, '$1')
-  .replace(/`([^`]*)`/g, '<code>$1</code>')
-  .replace(/\*\*([^*]*)\*\*/g, '<strong>$1</strong>');
-
-const cellsOf = (row) => row.replace(/^\||\|$/g, '').split('|').map((c) => c.trim());
-
-function table(rows) {
-  const [head, , ...body] = rows.map(cellsOf);
-  const line = (tag, cells) => `<tr>${cells.map((c) => `<${tag}>${inline(c)}</${tag}>`).join('')}</tr>`;
-  return `<table><thead>${line('th', head)}</thead><tbody>${body.map((r) => line('td', r)).join('')}</tbody></table>`;
-}
-
-const list = (block) => `<ul>${block.slice(2).split('\n- ').map((i) => `<li>${inline(i.replace(/\n/g, ' '))}</li>`).join('')}</ul>`;
-
-function markdown(text) {
-  return text.trim().split(/\n\s*\n/).map((block) => {
-    if (block.startsWith('#')) return '';
-    if (block.startsWith('|')) return table(block.split('\n'));
-    if (block.startsWith('```')) return remarks(block);
-    if (block.startsWith('- ')) return list(block);
-    const html = inline(block.replace(/\n/g, ' ')).trim();
-    return html ? `<p>${html}</p>` : '';
-  }).join('');
-}
+const markdown = (text) => asHtml(text, { fenced: remarks });
 
 // A block of the manual: its lines with their remarks. The answers are left out, since the page shows its own.
 function remarks(block) {
@@ -61,6 +34,13 @@ function section(manual, title) {
   const found = sections.find((text) => text.startsWith(`${title}\n`));
   if (!found) throw new Error(`the manual has no section "${title}"`);
   return found.slice(title.length);
+}
+
+// A section by what it has.
+function sectionWith(manual, words) {
+  const found = manual.split(/^## \d+ /m).find((text) => text.includes(words));
+  if (!found) throw new Error(`no section of the manual has "${words}"`);
+  return found.slice(found.indexOf('\n'));
 }
 
 function firstWiring(manual) {
@@ -102,15 +82,67 @@ function enteredIn(transcript) {
   return entered.map((row) => `${row.replace(/^> /, '')}\n`).join('');
 }
 
-// What a person looks up while wiring: the first tables of these sections, with a heading each.
-const TABLES = [
-  ['Lines', 'Lines'], ['A first wiring', 'The answer of a tick'], ['Cells', 'Cells'], ['Addresses', 'Addresses'], ['Connectors', 'Connectors'],
-  ['Words and their bits', 'Words and their bits'], ['When the card says no', 'When the card says no'],
-];
+// ---- what a person looks up while wiring
+
+const rowsIn = (text, head) => {
+  if (!text.includes(head)) throw new Error(`the manual has no table ${head}`);
+  return text.slice(text.indexOf(head)).split('\n\n')[0].split('\n');
+};
 
 const firstTable = (text) => table(text.match(/^(\|.*\n)+/m)[0].trim().split('\n'));
 
-const wiringTables = (manual) => TABLES.map(([title, heading]) => `<h2>${heading}</h2>${firstTable(section(manual, title))}`).join('');
+// The first column of these tables is a number that a line takes: pressed, it is put into the lines.
+const inserting = (c, i) => (i === 0 && /^\d+$/.test(c) ? `<button data-insert="${c}">${c}</button>` : inline(c));
+const insertTable = (rows) => table(rows, inserting);
+
+const TABLES = [
+  ['Lines', 'Lines', (text) => firstTable(text)],
+  ['Cells', 'Cells', (text) => insertTable(rowsIn(text, '| type | cell |')) + asHtml(text.match(/A slot marked with \^[\s\S]*?\n\n/)[0], {})],
+  ['Cells', 'What each type does', (text) => insertTable(rowsIn(text, '| type | kind |'))],
+  ['How a tick goes', 'Which cells wake in a quick tick', (text) => table(rowsIn(text, '| cell | wakes when |'))],
+  ['Addresses', 'Addresses', () => '<div data-addresses></div>'],
+  ['Connectors', 'Connectors', (text) => insertTable(rowsIn(text, '| type ('))],
+  ['A first wiring', 'The answer of a tick', firstTable],
+  ['Words and their bits', 'Words and their bits', firstTable],
+  ['When the card says no', 'When the card says no', firstTable],
+];
+
+const wiringTables = (manual) => TABLES.map(([title, heading, html]) => ({ heading, html: html(section(manual, title)) }));
+
+// ---- the whole manual
+
+// An example of the manual as it stands, with a button that puts its lines into the editor.
+function tryOut(block) {
+  const lines = runOf(block).map((r) => `${r.line}\n`).join('');
+  const text = block.replace(/^```\n|\n```$/g, '');
+  return `<div class="example"><pre>${escapeHtml(text)}</pre>${lines.includes('T ') ? `<button data-try="${escapeHtml(lines).replace(/"/g, '&quot;')}">Try these lines</button>` : ''}</div>`;
+}
+
+function wholeManual(top, manual) {
+  const [, ...sections] = manual.split(/^## /m);
+  const how = { fenced: tryOut, folder: path.join(top, 'docs') };
+  return sections.map((text) => {
+    const [, number, title] = text.match(/^(\d+) (.*)\n/);
+    const body = text.slice(text.indexOf('\n')).split(/^### (.*)$/m);
+    const html = body.map((part, i) => (i % 2 ? `<h3>${inline(part)}</h3>` : asHtml(part, how))).join('');
+    return { number: Number(number), title, html };
+  });
+}
+
+// "0 is the card's own clock, 1 a clock line of the backplane (C7), 2 TTL5, 3 TTL7 and 4 BNC1."
+function clocksOf(manual) {
+  const found = section(manual, 'How a tick goes').replace(/\s+/g, ' ').match(/ 0 is (.*?), 1 (.*?), 2 (.*?), 3 (.*?) and 4 (.*?)\./);
+  if (!found) throw new Error('the manual does not name the five clocks');
+  return found.slice(1);
+}
+
+// The first example of questions: its wiring, the questions below a blank line, and what they come to.
+function busyLine(manual) {
+  const text = section(manual, 'The card in a browser').split('### The busy line\n')[1].split('\n### ')[0];
+  const [block] = text.match(/(?: {4}.*\n|\n(?= {4}))+/);
+  const [wiring, questions] = block.replace(/^ {4}/gm, '').trim().split('\n\n');
+  return { name: 'busy-line', title: 'The busy line', lines: `${wiring}\n`, questions: questions.split('\n'), html: markdown(text.replace(block, '')) };
+}
 
 // "| 5, 6, 7, 8 | ... |" and "| 37 to 43 | ... |"
 function presetTable(manual) {
@@ -135,10 +167,19 @@ function rackOf(top, manual) {
   return { calls: read(top, 'examples', 'two-cards.rack'), html: markdown(read(top, 'examples', 'two-cards.md')), table: firstTable(section(manual, title)) };
 }
 
+// What each type of a cell does, and the types of connectors.
+function partsOf(manual) {
+  const rows = (title, head) => rowsIn(section(manual, title), head).slice(2).map(cellsOf);
+  const kinds = rows('Cells', '| type | kind |').map(([type, kind, text]) => ({ type: Number(type), kind, text }));
+  const connectors = rows('Connectors', '| type (').map(([type, name, level]) => ({ type: Number(type), name, level }));
+  return { kinds, connectors };
+}
+
 export function materialOf(top) {
   const manual = read(top, 'docs', 'MANUAL.md');
   return {
-    first: [firstWiring(manual)], errors: classroomErrors(manual), examples: exampleWirings(top), exercises: exercises(top),
-    presets: presetTable(manual), steps: tickSteps(manual), tables: wiringTables(manual), record: recordOf(manual), rack: rackOf(top, manual),
+    busy: [busyLine(manual)], first: [firstWiring(manual)], errors: classroomErrors(manual), examples: exampleWirings(top), exercises: exercises(top),
+    presets: presetTable(manual), steps: tickSteps(manual), clocks: clocksOf(manual), tables: wiringTables(manual), record: recordOf(manual),
+    rack: rackOf(top, manual), parts: partsOf(manual), manual: wholeManual(top, manual), reach: markdown(sectionWith(manual, '| question | asks |')),
   };
 }

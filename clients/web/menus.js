@@ -1,25 +1,22 @@
-// The menus: examples, presets, and lines as files and links.
+// The menus: examples, presets, and what a program's output is saved as.
 
 import { decoded } from './programs.js';
-import { splitLines, asInput, runSession } from './session.js';
-import { escapeText } from './diagram.js';
-import { readHash } from './link.js';
-import { describeRecord, refusalWords } from './record.js';
+import { runSession } from './session.js';
+import { describeRecord } from './record.js';
 import { buildRack } from './rack.js';
-import { when } from './runs.js';
-import { state, view, programs, has, openText, addPreset, outputFor, writeAddress } from './state.js';
-import { byId, capital, copied, count, download, notice } from './dom.js';
+import { listenToFiles, saveOutput } from './files.js';
+import { state, programs, openText, addPreset } from './state.js';
+import { byId, capital, escapeText, notice } from './dom.js';
 
 let material = null;
 
 const exampleItem = (group, index, wiring, name) => `<li><button data-group="${group}" data-index="${index}">
   <b>${escapeText(capital(wiring.title))}</b> <span>${escapeText(name)}</span></button></li>`;
 
-// Exercises of the examples need plcheck.
-function exerciseItems(exercises) {
-  if (!exercises.length || !material.programs.some((p) => p.name === 'plcheck')) return '';
-  return `<h2>Exercises: find the wiring</h2><ul>${exercises.map((w, i) => exampleItem('exercises', i, w, '')).join('')}</ul>`;
-}
+// Exercises of the examples need plcheck, questions plreach.
+const needs = (name, html) => (material.programs.some((p) => p.name === name) ? html : '');
+
+const listOf = (title, group, wirings, name = () => '') => (wirings.length ? `<h2>${title}</h2><ul>${wirings.map((w, i) => exampleItem(group, i, w, name(w))).join('')}</ul>` : '');
 
 function presetRow({ numbers, text }) {
   const buttons = numbers.map((n) => `<button data-preset="${n}" aria-label="Preset ${n}">${n}</button>`);
@@ -31,13 +28,11 @@ const closeButton = (id) => `<button class="close" popovertarget="${id}" popover
 
 export function buildMenus(itsMaterial) {
   material = itsMaterial;
-  byId('examples').innerHTML = `<h2>From the manual</h2><ul>${exampleItem('first', 0, material.first[0], '')}</ul>
-    <h2>Classroom errors</h2><ul>${material.errors.map((w, i) => exampleItem('errors', i, w, '')).join('')}</ul>
-    ${exerciseItems(material.exercises)}
-    <h2>Wirings that run</h2><ul>${material.examples.map((w, i) => exampleItem('examples', i, w, w.name)).join('')}</ul>`;
+  byId('examples').innerHTML = listOf('From the manual', 'first', material.first) + needs('plreach', listOf('Never? Always?', 'busy', material.busy))
+    + listOf('Classroom errors', 'errors', material.errors) + needs('plcheck', listOf('Exercises: find the wiring', 'exercises', material.exercises))
+    + listOf('Wirings that run', 'examples', material.examples, (w) => w.name);
   byId('presets').innerHTML = `<h2>Presets</h2><p id="preset-place"></p><table><tbody>${material.presets.map(presetRow).join('')}</tbody></table>`;
-  byId('tables').innerHTML = material.tables;
-  for (const id of ['examples', 'presets', 'tables', 'rack', 'exercise', 'keys']) byId(id).insertAdjacentHTML('afterbegin', closeButton(id));
+  for (const id of ['examples', 'presets', 'manual', 'rack', 'exercise', 'keys']) byId(id).insertAdjacentHTML('afterbegin', closeButton(id));
   byId('build').textContent = material.build;
   describeRecord(material.record);
   buildRack(material.rack);
@@ -46,7 +41,7 @@ export function buildMenus(itsMaterial) {
 export function openExample(group, index) {
   const wiring = material[group][index];
   byId('examples').hidePopover();
-  openText(wiring.lines, { about: wiring, task: wiring.task });
+  openText(wiring.lines, { about: wiring, task: wiring.task ?? null, questions: wiring.questions ?? [] });
 }
 
 // What a preset sets, in plexplain's words, when the pointer rests on its number.
@@ -57,83 +52,26 @@ function namePresets() {
   }
 }
 
-// ---- files
+// ---- saving what programs write
 
-const TAB = 9;
+// plwave has a tick as its unit of time. With a length of a tick the times are those: in the largest unit in which they are whole.
+const UNITS = [['ms', 1], ['us', 1e3], ['ns', 1e6], ['ps', 1e9]];
 
-// A record begins with a byte that no text begins with.
-async function openFile(file) {
-  const bytes = new Uint8Array(await file.arrayBuffer());
-  if (bytes[0] < TAB && has('plload')) openRecord(file.name, bytes);
-  else openLines(file.name, decoded(bytes));
+export function withTimes(bytes, tickMs) {
+  const [unit, per] = UNITS.find(([, n]) => Number.isInteger(Math.round(tickMs * n * 1e6) / 1e6)) ?? UNITS.at(-1);
+  const size = BigInt(Math.round(tickMs * per));
+  return decoded(bytes).replace(/^\$comment .*$/m, `$comment one tick that ran is ${tickMs} ms $end`).replace(/^\$timescale .*$/m, `$timescale 1 ${unit} $end`)
+    .replace(/^#(\d+)$/gm, (_, n) => `#${BigInt(n) * size}`);
 }
 
-function openLines(name, text) {
-  const { lines, carriageReturns, lastLineOpen } = splitLines(text);
-  const notes = [];
-  if (carriageReturns) notes.push(`${name} has CR LF at ${count(carriageReturns, 'line end')}. plrun refuses such lines; the page took the CRs out.`);
-  if (lastLineOpen) notes.push(`The last line of ${name} has no LF. plrun drops such a line; the page put the LF in.`);
-  notice('');
-  openText(asInput(lines), { notes });
-}
+const REWRITES = { plwave: (bytes) => (state.tickMs ? withTimes(bytes, state.tickMs) : bytes) };
 
-function openRecord(name, bytes) {
-  const { output, errors } = programs().plload(bytes);
-  notice(output.length ? '' : `${name} is no text, and as a record plload refuses it. ${refusalWords(errors)}`);
-  if (output.length) openText(decoded(output), { notes: [`These lines are the wiring of ${name}, a record of ${bytes.length} bytes, as plload gives it.`] });
-}
-
-const saveLines = () => download(`${state.about?.name ?? 'wiring'}.lines`, asInput(view.session.lines));
-
-// What a program writes, under its name in the table of programs.
-export function saveOutput(name) {
+export function saveProgram(name) {
   const program = material.programs.find((p) => p.name === name);
-  when(outputFor(program), ({ output }) => download(program.file, output));
-}
-
-// ---- links
-
-async function copyLink() {
-  await writeAddress();
-  if (!(await copied(location.href, 'Link'))) notice('The link is in the address line: copy it from there.');
-}
-
-export async function openAddress() {
-  try {
-    const link = await readHash(location.hash);
-    if (!link) return false;
-    openText(link.text, { select: link.looksAt ?? Infinity, coveredFrom: link.coveredFrom, task: link.task });
-    if (state.cover) notice('Exercise: predict, then uncover.');
-    if (state.task) notice('Exercise: find the wiring.');
-    return true;
-  } catch {
-    notice('The link is damaged: the wiring behind # could not be read.');
-    return false;
-  }
+  return saveOutput({ ...program, rewrite: REWRITES[name] });
 }
 
 // ---- events
-
-function listenToFiles() {
-  byId('new').onclick = () => {
-    notice('');
-    openText('');
-  };
-  byId('open').onclick = () => byId('file').click();
-  byId('file').onchange = async () => {
-    const [file] = byId('file').files;
-    if (file) await openFile(file);
-    byId('file').value = '';
-  };
-  document.addEventListener('dragover', (e) => e.preventDefault());
-  document.addEventListener('drop', (e) => {
-    e.preventDefault();
-    if (e.dataTransfer.files[0]) openFile(e.dataTransfer.files[0]);
-  });
-  byId('save').onclick = saveLines;
-  byId('link').onclick = copyLink;
-  byId('print').onclick = () => window.print();
-}
 
 export function listenToMenus() {
   listenToFiles();

@@ -1,16 +1,20 @@
 // The tabs: what plexplain says of the line that is looked at, the card at that line, what each program makes of all lines, and predictions.
 
 import { decoded } from './programs.js';
-import { truthTable, bitOf } from './session.js';
-import { escapeText } from './diagram.js';
+import { truthTable, bitOf, withEditorNumbers } from './session.js';
+import { isLookup, placeIn, subjectIn, told, typeIn } from './words.js';
 import { foundWords, totals } from './predict.js';
 import { recordHtml } from './record.js';
-import { taskHtml } from './exercise.js';
+import { isExercise, taskHtml } from './exercise.js';
+import { drawingHtml, updateDrawing } from './drawing.js';
+import { reachHtml, updateReach } from './questions.js';
+import { tablesHtml } from './manual.js';
+import { placeOf } from './wire.js';
 import { when } from './runs.js';
-import { state, view, programs, cardAt, outputsFor } from './state.js';
-import { byId, capital, count, failed } from './dom.js';
+import { state, view, programs, has, cardAt, outputsFor } from './state.js';
+import { byId, capital, count, escapeText, failed, msWords, put } from './dom.js';
 
-const panel = { steps: [], tabs: [], asked: 0 };
+const panel = { steps: [], tabs: [], asked: 0, shown: null, scrolled: null };
 
 // ---- which tabs
 
@@ -23,11 +27,14 @@ export function buildTabs(table, steps) {
   panel.steps = steps;
   panel.tabs = [
     { id: 'line', title: 'This line', html: lineHtml },
+    { id: 'drawing', title: 'Drawing', html: drawingHtml, update: updateDrawing },
+    { id: 'reach', title: 'Never? Always?', html: reachHtml, update: updateReach, needs: () => has('plreach'), covers: () => true },
+    { id: 'tables', title: 'Tables', html: tablesHtml, update: () => true },
     { id: 'card', title: 'Card', html: cardHtml, covers: () => state.selected >= state.cover.from },
     ...ofPrograms,
-    { id: 'task', title: 'Exercise', html: taskHtml, needs: () => state.task },
+    { id: 'task', title: 'Exercise', html: taskHtml, needs: isExercise },
     { id: 'score', title: 'Predictions', html: scoreHtml, needs: () => state.score.length },
-    { id: 'about', title: 'About', html: aboutHtml, needs: () => state.about && !state.task },
+    { id: 'about', title: 'About', html: aboutHtml, needs: () => state.about && !state.task && !state.brief },
   ];
   byId('tabs').innerHTML = panel.tabs.map((t) => `<button role="tab" id="tab-${t.id}" aria-controls="panel">${t.title}</button>`).join('');
 }
@@ -48,17 +55,37 @@ export function showTabs() {
   byId('panel').setAttribute('aria-labelledby', `tab-${chosen}`);
 }
 
-// What a worker has yet to give is shown when it comes, unless something else is looked at by then.
+// What a worker has yet to give is shown when it comes, unless something else is looked at by then. A tab that can brings itself up to date.
 export function showPanel(marked = null) {
   const tab = tabsNow().find((t) => t.id === state.tab) ?? panel.tabs[0];
-  const asked = ++panel.asked;
   const covered = state.cover && tab.covers?.();
+  if (!covered && panel.shown === tab.id && tab.update?.()) return;
+  const asked = ++panel.asked;
+  panel.shown = covered ? null : tab.id;
   const html = covered ? '<p class="quiet">Covered until the ticks are uncovered.</p>' : tab.html();
-  if (html instanceof Promise) byId('panel').innerHTML = '<p class="quiet">Running …</p>';
+  if (html instanceof Promise) put(byId('panel'), '<p class="quiet">Running …</p>');
   when(html, (found) => {
-    if (asked === panel.asked) byId('panel').innerHTML = found;
+    if (asked !== panel.asked) return;
+    putPanel(found);
+    if (!covered) tab.update?.();
   })?.catch?.(failed);
   if (marked) byId('panel').querySelector(`[data-mark="${marked}"]`)?.focus();
+}
+
+// A box of the drawing that had the focus has it still, and its list stays open.
+function putPanel(html) {
+  const place = document.activeElement?.closest?.('#panel [data-place]')?.dataset.place;
+  const listed = state.tab === 'drawing' && byId('panel').querySelector('.canvas ~ details')?.open;
+  const { scrolled } = panel;
+  put(byId('panel'), html);
+  if (listed) byId('panel').querySelector('.canvas ~ details')?.setAttribute('open', '');
+  if (place) byId('panel').querySelector(`[data-place="${place}"]`)?.focus({ preventScroll: true });
+  if (scrolled && state.tab === 'drawing') byId('panel').querySelector('.canvas')?.scrollTo(...scrolled);
+}
+
+// How far the drawing is scrolled, so that it still is when it is drawn anew.
+export function panelScrolled({ target }) {
+  if (target.matches?.('.canvas')) panel.scrolled = target.scrollLeft || target.scrollTop ? [target.scrollLeft, target.scrollTop] : null;
 }
 
 export function openTab(id) {
@@ -71,14 +98,15 @@ export function openTab(id) {
 
 // ---- the line that is looked at
 
-// Who a sentence is about stands out: "cell 2 (one-shot)", "BNC1", "Driven high".
-const withSubject = (text) => escapeText(text).replace(/^(cell \d+|BNC\d|TTL\d|Driven high|High cells|The rules name)/, '<b>$1</b>');
+// Who a sentence is about stands out.
+const withSubject = (text) => `<b>${subjectIn(text)}</b>${escapeText(text.slice(subjectIn(text).length))}`;
 const said = (texts) => texts.map((t) => `<p class="said">${withSubject(t)}</p>`).join('');
 
 function lineHtml() {
   const entry = view.session.entries[state.selected];
-  if (!entry) return '<p class="quiet">Type lines, or take an example. The tables say what each line, cell and address means. Then give the card a tick.</p>';
+  if (!entry) return '<p class="quiet">Press <em>New cell</em> or a connector’s name and choose, type lines, or take an example. The tables say what each line, cell and address means. Then give the card a tick.</p>';
   if (entry.covered) return predictionHtml(entry);
+  if (entry.kind === 'remark') return `<h3>Line ${entry.index + 1} <code>${escapeText(entry.line)}</code></h3><p class="quiet">A remark: it is kept, and no program gets it.</p>`;
   const head = `<h3>${headingOf(entry)}</h3>`;
   if (entry.kind === 'tick') return head + verdictHtml(entry) + stepsHtml(entry.tick);
   const words = `${head}<div class="said ${entry.kind}">${escapeText(entry.words.join('\n'))}</div>`;
@@ -87,19 +115,22 @@ function lineHtml() {
 
 // A line at a lookup shows at once what its code does.
 function lookupAt(entry) {
-  const cell = entry.pointer.match(/^cell (\d+) \(lookup/)?.[1];
-  return cell ? when(cardAt(entry.index), (card) => `<div class="card">${lookupHtml(card.cells[cell - 1])}</div>`) : '';
+  if (!isLookup(typeIn(entry.pointer))) return '';
+  return when(cardAt(entry.index), (card) => `<div class="card">${lookupHtml(card.cells[placeOf(placeIn(entry.pointer)) - 1])}</div>`);
 }
 
 function headingOf(entry) {
-  const what = entry.kind === 'tick' ? `Tick ${entry.tick.number}, ${entry.tick.full ? 'full' : 'quick'}` : `Line ${entry.index + 1}`;
+  const { number, full } = entry.tick ?? {};
+  const time = state.tickMs ? `, ${msWords((number - 1) * state.tickMs)}` : '';
+  const what = entry.kind === 'tick' ? `Tick ${number}, ${full ? 'full' : 'quick'}<small>${time}</small>` : `Line ${entry.index + 1}`;
   return `${what} <code>${escapeText(entry.line)}</code> <code class="${entry.kind}">${escapeText(entry.answer)}</code>`;
 }
 
 const pointerHtml = (entry) => (entry.kind === 'idle' ? '' : `<p class="quiet">Pointer after this line: ${escapeText(entry.pointer)}</p>`);
 
 // The manual's three steps, and under each what plexplain says of it. So it is seen that not everything changes together.
-function stepsHtml(t) {
+function stepsHtml(tick) {
+  const t = told(tick);
   const [drive, levels, cells] = panel.steps.map(escapeText);
   const step = (rule, words) => `<li><p class="step">${rule}</p><div>${said(words)}</div></li>`;
   const steps = [step(drive, t.drivenWords), step(levels, t.lineWords), step(cells, [...t.cellWords, ...t.highWords])];
@@ -158,16 +189,16 @@ function cardHtml() {
   });
 }
 
-const cellHtml = (c) => `<tr><th scope="row">${c.name}</th><td>${escapeText(c.typeName)}</td><td>${escapeText(c.words.map(capital).join(' '))}${lookupHtml(c)}</td></tr>`;
+const formButton = (c) => `<button data-place="${placeOf(c.name)}" aria-label="Form of ${c.name}">${c.name}</button>`;
 
-const wireHtml = (c) => `<tr><th scope="row">${c.name}</th><td>${escapeText(c.kind)}</td><td>${
+const cellHtml = (c) => `<tr><th scope="row">${formButton(c)}</th><td>${escapeText(c.typeName)}</td><td>${escapeText(c.words.map(capital).join(' '))}${lookupHtml(c)}</td></tr>`;
+
+const wireHtml = (c) => `<tr><th scope="row">${formButton(c)}</th><td>${escapeText(c.kind)}</td><td>${
   c.isInput ? '' : `from ${c.address}, ${escapeText(c.source)}`}</td></tr>`;
-
-const isLookup = (c) => c.typeName.startsWith('lookup');
 
 // A lookup code is easily copied wrong: every combination is tried on the card, and shown.
 function lookupHtml(c) {
-  if (!isLookup(c)) return '';
+  if (!isLookup(c.typeName)) return '';
   const { slots, rows: tried } = truthTable(programs(), c);
   const line = (name, cell) => `<tr><th scope="row">${name}</th>${tried.map((r) => `<td class="${r.high ? 'high' : ''}">${cell(r)}</td>`).join('')}</tr>`;
   return `<table class="truth"><caption>code ${c.configuration}, tried on the card in every combination</caption><tbody>${line('p', (r) => r.p)}${
@@ -180,16 +211,22 @@ const SHOWN = 200000; // characters of a program's output; the file has all
 
 function programsHtml(table) {
   const shown = table.filter((p) => !p.onlySaved);
-  return when(outputsFor(shown), (found) => `<p class="tools">${table.map(saveHtml).join(' ')}</p>${shown.map((p, i) => outputHtml(p, found[i])).join('')}`);
+  const first = table.some((p) => p.image) ? fromHtml() : '';
+  return when(outputsFor(shown), (found) => `<p class="tools">${first}${table.map(saveHtml).join(' ')}</p>${shown.map((p, i) => outputHtml(p, found[i])).join('')}`);
 }
+
+// The first tick of the picture, as pldraw's word --from has it.
+export const picture = { from: 1 };
+const fromHtml = () => `<label>from tick <input id="picture-from" type="number" min="1" value="${picture.from}"></label> `;
 
 const saveHtml = (p) => `<span><button data-save="${p.name}">Save as ${p.file}</button>
   <span class="quiet">what ${p.name} ${p.does} for these lines</span></span>`;
 
 function outputHtml(p, { output, errors }) {
   const complaint = errors ? `<p class="bad said">${escapeText(errors)}</p>` : '';
-  if (p.image) return complaint + imageHtml(output);
-  const text = decoded(output.subarray(0, SHOWN));
+  if (p.image) return complaint + (output.length ? imageHtml(output) : '');
+  const written = decoded(output.subarray(0, SHOWN));
+  const text = p.numbersLines ? withEditorNumbers(written, view.session.lines) : written;
   return `${complaint}<pre class="${p.name}">${escapeText(text)}</pre>${output.length > SHOWN ? '<p class="quiet">… The saved file has all of it.</p>' : ''}`;
 }
 

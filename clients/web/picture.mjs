@@ -2,9 +2,9 @@
 import path from 'node:path';
 import { pathToFileURL } from 'node:url';
 import { TOP } from './make.mjs';
-import { openBrowser } from './browser.mjs';
+import { openChromium } from './driver.mjs';
 
-const { page, close } = await openBrowser();
+const { page, close } = await openChromium();
 await page.size(1280, 720);
 await page.open(pathToFileURL(path.join(TOP, 'docs', 'card.html')).href);
 await page.press('#tab-line');

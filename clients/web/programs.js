@@ -3,29 +3,41 @@
 const STDOUT = 1;
 const STDERR = 2;
 
-// Lengths are 64 bits wide, so BigInt in JavaScript. A program is given no arguments and no terminal: it reads its standard input to the end.
-export function runBytes(module, input) {
-  let exports;
+// Lengths are 64 bits wide, so BigInt in JavaScript. A program is given the words of its command line and no terminal: it reads its standard input to the
+// end. `onRead` is told how much of the input has been read, `onWrite` what the program writes to its standard output, as it comes.
+export function runBytes(module, input, { words = [], onRead = null, onWrite = null } = {}) {
   let at = 0;
   const written = { [STDOUT]: [], [STDERR]: [] };
   const memory = () => new Uint8Array(exports.memory.buffer);
+  const encoded = words.map((word) => new TextEncoder().encode(word));
   const env = {
     read(_fd, address, length) {
       const count = Math.min(Number(length), input.length - at);
       memory().set(input.subarray(at, at + count), address);
       at += count;
+      onRead?.(at);
       return BigInt(count);
     },
     write(fd, address, length) {
-      written[fd].push(memory().slice(address, address + Number(length)));
+      const bytes = memory().slice(address, address + Number(length));
+      written[fd].push(bytes);
+      if (fd === STDOUT) onWrite?.(bytes);
       return length;
     },
-    rattle_arg_count: () => 0n,
+    // word 0 is the program's own name
+    rattle_arg_count: () => BigInt(words.length && words.length + 1),
+    rattle_arg(index, address, length) {
+      const word = encoded[Number(index) - 1];
+      if (!word) return -1n;
+      memory().set(word.subarray(0, Number(length)), address);
+      return word.length > Number(length) ? -2n : BigInt(word.length);
+    },
+    rattle_set_errno: () => 0n,
     isatty: () => 0,
   };
   const missing = (name) => () => { throw new Error(`a program asked for ${name}, which a page does not have`); };
   for (const { name } of WebAssembly.Module.imports(module)) env[name] ??= missing(name);
-  exports = new WebAssembly.Instance(module, { env }).exports;
+  const { exports } = new WebAssembly.Instance(module, { env });
   (exports.main ?? exports.__main_argc_argv ?? exports.__main_void)(0, 0);
   return { output: joined(written[STDOUT]), errors: decoded(joined(written[STDERR])) };
 }
@@ -50,9 +62,12 @@ export async function compileModules(base64ByName) {
   return Object.fromEntries(await Promise.all(compiled));
 }
 
-// { plrun: module, ... } -> { plrun: input => { output, errors }, ... }, where the input is a text, or bytes
-export function programsOf(modules) {
+// { plrun: module, ... } -> { plrun: (input, words) => { output, errors }, ... }, where the input is a text, or bytes. `hooks` are those of runBytes.
+export function programsOf(modules, hooks = () => ({})) {
   const encoder = new TextEncoder();
   const bytesOf = (input) => (typeof input === 'string' ? encoder.encode(input) : input);
-  return Object.fromEntries(Object.entries(modules).map(([name, module]) => [name, (input) => runBytes(module, bytesOf(input))]));
+  return Object.fromEntries(Object.entries(modules).map(([name, module]) => [name, (input, words = []) => {
+    const bytes = bytesOf(input);
+    return runBytes(module, bytes, { words, ...hooks(name, bytes.length) });
+  }]));
 }

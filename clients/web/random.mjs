@@ -1,4 +1,5 @@
 // Random lines, the same in every run.
+import { PLACES, isCell } from './wire.js';
 
 function numbers(seed) {
   let at = (seed * 2654435761) % 2147483646 + 1;
@@ -34,4 +35,44 @@ export function randomWiring(seed, count) {
   const settings = [() => `M E=${place()}`, () => `36CCA Y=${below(24)}`, () => `36CCA Z=${below(2) ? below(8) : below(65536)}`, slots, slots];
   const KINDS = [...settings, tick, tick, tick, read, rare];
   return Array.from({ length: count }, () => KINDS[below(KINDS.length)]());
+}
+
+// A part as a form might want it: another type, a configuration, a slot, a source, or all as on a fresh card; in front of some tick, or behind all lines.
+export function randomPart(seed, lines, { types, addresses }, partsAt) {
+  const below = numbers(seed);
+  const pick = (from) => from[below(from.length)];
+  const place = pick(PLACES);
+  const ticks = lines.flatMap((line, i) => (line.startsWith('T ') ? [i] : []));
+  const end = below(2) && ticks.length ? pick(ticks) : lines.length;
+  const now = partsAt(end)[place];
+  const slotsOf = (type) => Object.fromEntries(Object.entries(types[type].slots).map(([s, x]) => [s, x.initial]));
+  const fresh = (type) => ({ type, configuration: types[type].configuration ? 0 : null, slots: slotsOf(type) });
+  const address = () => Number(pick(Object.keys(addresses)));
+  if (!isCell(place)) {
+    const wanted = below(2) ? { ...now, type: below(3) } : { ...now, configuration: address() };
+    return { place, end, wanted, initial: { type: wanted.type, configuration: 0, slots: {} } };
+  }
+  const { configuration, slots } = types[now.type];
+  const kept = configuration ? now : { ...now, configuration: null };
+  const kind = below(4);
+  if (kind === 0) {
+    const wanted = fresh(below(types.length));
+    return { place, end, wanted, initial: below(2) ? fresh(wanted.type) : wanted.type ? fresh(wanted.type) : wanted };
+  }
+  if (kind === 1 && configuration) return { place, end, wanted: { ...kept, configuration: below(Math.min(configuration.most, 500) + 1) }, initial: fresh(now.type) };
+  const slot = pick(Object.keys(slots));
+  if (!slot) return { place, end, wanted: { ...kept, configuration: below(2) }, initial: fresh(0) };
+  const found = address();
+  return { place, end, wanted: { ...kept, slots: { ...kept.slots, [slot]: slots[slot].edge && found < 128 ? found + 128 : found } }, initial: fresh(now.type) };
+}
+
+// A trigger source, and a state of a cell that keeps one, as a form might want them.
+export function randomSetting(seed, lines, { types }, readAt) {
+  const below = numbers(seed);
+  const ticks = lines.flatMap((line, i) => (line.startsWith('T ') ? [i] : []));
+  const end = below(2) && ticks.length ? ticks[below(ticks.length)] : lines.length;
+  const { parts } = readAt(end);
+  const keepers = PLACES.filter((p) => isCell(p) && types[parts[p].type].state);
+  const place = keepers[below(Math.max(1, keepers.length))] ?? null;
+  return { end, clock: below(5), place, value: place && below(Math.min(types[parts[place].type].state.most, 9) + 1) };
 }

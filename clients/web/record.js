@@ -1,9 +1,9 @@
 // The tab of the record: its bytes as hex, as files to keep, and a file of one to open. plsave makes it of the lines, plconvert its old form, and plload
 // gives the lines of one; this file only shows bytes.
 
-import { escapeText } from './diagram.js';
 import { when } from './runs.js';
 import { outputsFor } from './state.js';
+import { escapeText } from './dom.js';
 
 const record = { means: '', refusals: {} };
 

@@ -1,58 +1,110 @@
-// Where the programs run: in the page while the lines are few, else in a worker, so that the page does not stand still.
+// Where the programs run: in the page while the lines are few, else in a worker, so that the page does not stand still. A worker says how far it is, and it
+// can be stopped: it is ended then, and the next run starts another.
 
-import { programsOf } from './programs.js';
+import { decoded, programsOf } from './programs.js';
 import { runWithCard, cardAfter, outputOf } from './session.js';
 
-const LINES_IN_PAGE = 3000;
+const LINES_IN_PAGE = 1000;
+const PROGRESS_EVERY = 100; // ms
 
 // What can be asked, each of lines on a fresh card.
 const JOBS = { whole: runWithCard, card: cardAfter, output: outputOf };
 
+export class Stopped extends Error {}
+
 // The answer, or a promise of it where it comes from the worker.
 export function makeRuns(modules, workerSource) {
   const programs = programsOf(modules);
-  const waiting = new Map();
-  let worker = null;
-  let lastId = 0;
-  function inWorker(job, args) {
-    worker ??= startWorker(modules, workerSource, waiting);
-    const id = ++lastId;
-    worker.postMessage({ id, job, args });
-    return new Promise((resolve, reject) => waiting.set(id, { resolve, reject }));
-  }
+  const lines = worker(modules, workerSource);
+  const questions = worker(modules, workerSource);
   return {
     programs,
-    ask: (job, lines, ...rest) => (lines.length <= LINES_IN_PAGE ? JOBS[job](programs, lines, ...rest) : inWorker(job, [lines, ...rest])),
+    ask: (job, given, ...rest) => (given.length <= LINES_IN_PAGE ? JOBS[job](programs, given, ...rest) : lines.ask({ job, args: [given, ...rest] })),
+    onProgress: (told) => { lines.told = told; },
+    stop: lines.stop,
+    // One program on one input, always in a worker of its own; `onText` is told what it has written so far.
+    stream(name, input, onText) {
+      questions.stop();
+      questions.told = onText;
+      return questions.ask({ job: 'stream', args: [name, input] });
+    },
+    stopStream: questions.stop,
   };
 }
 
-function startWorker(modules, source, waiting) {
-  const worker = new Worker(URL.createObjectURL(new Blob([source], { type: 'text/javascript' })));
-  worker.onmessage = ({ data: { id, value, error } }) => {
-    const { resolve, reject } = waiting.get(id);
-    waiting.delete(id);
-    if (error) reject(new Error(error));
-    else resolve(value);
+// A worker that is started when it is first asked.
+function worker(modules, source) {
+  let running = null;
+  let lastId = 0;
+  const waiting = new Map();
+  const settle = (how, value) => {
+    const all = [...waiting.values()];
+    waiting.clear();
+    all.forEach((w) => w[how](value));
   };
-  worker.onerror = (e) => waiting.forEach(({ reject }) => reject(new Error(`the worker failed: ${e.message}`)));
-  worker.postMessage({ modules });
-  return worker;
+  const its = { told: () => {}, ask, stop };
+  function ask(question) {
+    running ??= started();
+    const id = ++lastId;
+    running.postMessage({ id, ...question });
+    return new Promise((resolve, reject) => waiting.set(id, { resolve, reject }));
+  }
+  function started() {
+    const made = new Worker(URL.createObjectURL(new Blob([source], { type: 'text/javascript' })));
+    made.onmessage = ({ data: { id, told, value, error } }) => {
+      if (!waiting.has(id)) return;
+      if (told !== undefined) return its.told(told);
+      const { resolve, reject } = waiting.get(id);
+      waiting.delete(id);
+      if (error) reject(new Error(error));
+      else resolve(value);
+    };
+    made.onerror = (e) => settle('reject', new Error(`the worker failed: ${e.message}`));
+    made.postMessage({ modules });
+    return made;
+  }
+  function stop() {
+    running?.terminate();
+    running = null;
+    settle('reject', new Stopped('stopped'));
+  }
+  return its;
 }
 
-// The worker's side of it.
+// ---- the worker's side of it
+
 export function serveJobs(scope) {
-  let programs = null;
-  scope.onmessage = ({ data: { modules, id, job, args } }) => {
-    if (modules) {
-      programs = programsOf(modules);
+  let modules = null;
+  scope.onmessage = ({ data }) => {
+    if (data.modules) {
+      modules = data.modules;
       return;
     }
+    const { id, job, args } = data;
+    const tell = (told) => scope.postMessage({ id, told });
     try {
-      scope.postMessage({ id, value: JOBS[job](programs, ...args) });
+      scope.postMessage({ id, value: job === 'stream' ? streamed(modules, tell, ...args) : JOBS[job](programsOf(modules, progressHooks(tell)), ...args) });
     } catch (error) {
       scope.postMessage({ id, error: String(error?.message ?? error) });
     }
   };
+}
+
+// How much of its input a program has read, and not more often than it can be shown.
+function progressHooks(tell) {
+  let last = Date.now();
+  return (name, length) => ({
+    onRead: (at) => {
+      if (Date.now() - last < PROGRESS_EVERY || name !== 'plexplain') return;
+      last = Date.now();
+      tell(at / length);
+    },
+  });
+}
+
+function streamed(modules, tell, name, input) {
+  const { output, errors } = programsOf({ [name]: modules[name] }, () => ({ onWrite: (bytes) => tell(decoded(bytes)) }))[name](input);
+  return { text: decoded(output), errors };
 }
 
 // Goes on with a value, at once where it is there.

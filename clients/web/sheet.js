@@ -1,18 +1,28 @@
 // On paper: a handout with the picture, the wiring with a sentence for each line, and the ticks in columns. Covered ticks stay covered.
 
-import { escapeText } from './diagram.js';
 import { imageHtml } from './panel.js';
 import { outputOf } from './session.js';
-import { state, view, programs } from './state.js';
-import { byId, capital } from './dom.js';
+import { isAboutEdits } from './words.js';
+import { svgOf } from './drawing.js';
+import { answersNow } from './questions.js';
+import { state, view, programs, wired } from './state.js';
+import { byId, capital, escapeText } from './dom.js';
 
 export function fillSheet() {
   const { session } = view;
   const firstTick = session.ticks[0]?.index ?? session.entries.length;
   const picture = session.ticks.length && !state.cover ? imageHtml(outputOf(programs(), session.lines, 'pldraw').output) : '';
-  byId('sheet').innerHTML = `<h1>${escapeText(capital(state.about?.title ?? (state.cover ? 'Exercise' : 'Wiring')))}</h1>${picture}
+  byId('sheet').innerHTML = `<h1>${escapeText(capital(state.title || (state.cover ? 'Exercise' : 'Wiring')))}</h1>
+    ${state.brief ? `<p class="said">${escapeText(state.brief)}</p>` : ''}${svgOf(wired().parts, null)}${picture}${questionsHtml()}
     <h2>Wiring</h2><table><tbody>${session.entries.slice(0, firstTick).map(wiringRow).join('')}</tbody></table>
-    <h2>Ticks</h2><div class="ticks">${session.entries.slice(firstTick).map(runRow).join('')}</div>`;
+    <h2>Ticks${state.tickMs ? `, ${state.tickMs} ms each` : ''}</h2><div class="ticks">${session.entries.slice(firstTick).map(runRow).join('')}</div>`;
+}
+
+// The questions of the wiring, with plreach's answers where they have come.
+function questionsHtml() {
+  if (!state.questions.length || state.cover) return '';
+  const answers = answersNow()?.answers ?? [];
+  return `<h2>Never? Always?</h2><table><tbody>${state.questions.map((q, i) => `<tr><td></td><td>${code(q)}</td><td>${escapeText(answers[i]?.said ?? '')}</td></tr>`).join('')}</tbody></table>`;
 }
 
 const code = (text) => `<code>${escapeText(text)}</code>`;
@@ -20,7 +30,8 @@ const code = (text) => `<code>${escapeText(text)}</code>`;
 const answerCode = (e) => (e.covered ? '<i></i>' : code(e.answer));
 
 function wiringRow(e) {
-  const words = e.covered ? '' : e.words.filter((w) => !w.startsWith('Edited')).join('\n');
+  if (e.kind === 'remark') return `<tr class="remark"><td>${e.index + 1}</td><td colspan="3">${escapeText(e.line)}</td></tr>`;
+  const words = e.covered ? '' : e.words.filter((w) => !isAboutEdits(w)).join('\n');
   return `<tr class="${e.covered ? '' : e.kind}"><td>${e.index + 1}</td><td>${code(e.line)}</td><td>${answerCode(e)}</td><td>${escapeText(words)}</td></tr>`;
 }
 

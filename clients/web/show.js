@@ -1,27 +1,36 @@
 // Showing what the state holds: lines with their answers, connectors, the diagram. It reads the state and never changes it.
 
-import { CONNECTORS, splitLines, bitOf } from './session.js';
-import { drawWaves, drawGuess, drawMisses, columnWidthFor, widthOf, escapeText, ROW_HEIGHT, HEAD_HEIGHT } from './diagram.js';
-import { state, view, canUndo } from './state.js';
+import { CONNECTORS, FIRST_CONNECTOR, CLOCKS, splitLines, bitOf } from './session.js';
+import { shortened, told } from './words.js';
+import { TRIGGER, linesOf } from './wire.js';
+import { state, view, canUndo, wired, tickLookedAt } from './state.js';
+import { showForm, hintedInForm } from './form.js';
 import { showTabs, showPanel } from './panel.js';
+import { showDiagram, columnOf, placeColumn, scrollToColumn, whereWords } from './timing.js';
 import { checkedCount } from './exercise.js';
-import { byId, capital, count } from './dom.js';
+import { boxOf, byId, capital, count, escapeText, put, scrollTo } from './dom.js';
 
 const REFUSALS_WAIT = 700;
+const RUNNING_WAIT = 150; // so that a short run in the worker does not make the page flicker
 
-export function show({ typing = false, moved = false, running = false, caret = false, marked = null }) {
-  document.documentElement.classList.toggle('running', running);
+export function show({ typing = false, moved = false, running = false, caret = false, marked = null, formed = false, wrote = -1 }) {
+  document.documentElement.classList.toggle('large', state.large);
   if (byId('text').value !== state.text) byId('text').value = state.text;
-  if (running) {
-    byId('tally').textContent = `running ${splitLines(state.text).lines.length} lines …`;
-    return;
-  }
+  showRunning(running);
+  if (running) return;
   if (!moved && !marked) {
     showLines();
     showConnectors();
   }
+  showForm();
+  if (formed) {
+    drawAnswers();
+    scrollToPart();
+    showRefusals();
+    if (state.form) byId('form').scrollIntoView({ block: 'nearest' });
+  }
   showDiagram();
-  showSelection(typing || marked);
+  showSelection(typing || marked || formed);
   showTabs();
   showPanel(marked);
   clearTimeout(show.later);
@@ -30,6 +39,26 @@ export function show({ typing = false, moved = false, running = false, caret = f
   if (typing) show.later = setTimeout(showRefusals, REFUSALS_WAIT);
   else if (!moved) showRefusals();
   if (caret) putCaret();
+  if (wrote >= 0) scrollToLine(wrote);
+}
+
+// ---- while a worker runs
+
+function showRunning(running) {
+  clearTimeout(showRunning.later);
+  const say = () => {
+    document.documentElement.classList.toggle('running', running);
+    byId('progress').hidden = !running;
+  };
+  if (running) {
+    byId('progress-words').textContent = `running ${splitLines(state.text).lines.length} lines …`;
+    byId('progress-bar').value = 0;
+    showRunning.later = setTimeout(say, RUNNING_WAIT);
+  } else say();
+}
+
+export function showProgress(part) {
+  byId('progress-bar').value = part;
 }
 
 // A new text has its caret at the end; this brings it to the line that is looked at.
@@ -41,7 +70,7 @@ function putCaret() {
 // ---- lines
 
 const COLUMNS = [19, 31]; // of the lines: the longest that is accepted has thirty characters and the caret
-const drawn = { first: 0, last: 0 }; // which lines have their answers in the page: where there are many, those in sight
+const answered = { first: 0, last: 0 }; // which lines have their answers in the page: where there are many, those in sight
 
 function showLines() {
   const { session } = view;
@@ -50,46 +79,48 @@ function showLines() {
   editor.style.setProperty('--columns', Math.min(longest, COLUMNS[1]));
   editor.style.setProperty('--rows', Math.max(session.lines.length + 1, 4));
   byId('text').readOnly = Boolean(state.cover?.exercise);
-  byId('tally').innerHTML = tally();
+  put(byId('tally'), tally());
   byId('hint').classList.toggle('bad', session.disagreements.length > 0);
   byId('hint').textContent = [checkedCount(), ...state.notes, lastLineHint(), disagreementHint()].filter(Boolean).join(' ');
   drawAnswers();
 }
 
-const LINES_AROUND = 150;
+const LINES_AROUND = 50;
 
 function linesInSight() {
-  const editor = byId('editor');
-  const height = lineHeight();
-  const top = Math.floor(editor.scrollTop / height);
-  return { top, bottom: top + Math.ceil(editor.clientHeight / height) };
+  const { top, height } = boxOf('editor');
+  const first = Math.floor(top / lineHeight());
+  return { top: first, bottom: first + Math.ceil(height / lineHeight()) };
 }
 
-const lineHeight = () => parseFloat(getComputedStyle(byId('editor')).getPropertyValue('--row'));
+let lineRow = 0;
+export const forgetLineHeight = () => { lineRow = 0; };
+const lineHeight = () => (lineRow ||= parseFloat(getComputedStyle(byId('editor')).getPropertyValue('--row')));
 
 function drawAnswers() {
   const { top, bottom } = linesInSight();
-  drawn.first = Math.max(0, top - LINES_AROUND);
-  drawn.last = Math.min(view.session.entries.length, bottom + LINES_AROUND);
-  const entries = view.session.entries.slice(drawn.first, drawn.last);
-  byId('gutter').innerHTML = entries.map((e) => `<div class="${e.covered ? '' : e.kind}">${e.index + 1}</div>`).join('');
-  byId('answers').innerHTML = entries.map(answerRow).join('');
-  for (const id of ['gutter', 'answers']) byId(id).style.paddingTop = `${drawn.first * lineHeight()}px`;
+  answered.first = Math.max(0, top - LINES_AROUND);
+  answered.last = Math.min(view.session.entries.length, bottom + LINES_AROUND);
+  const entries = view.session.entries.slice(answered.first, answered.last);
+  const own = new Set(state.form ? linesOf(wired(), state.form) : []);
+  put(byId('gutter'), entries.map((e) => `<div class="${e.covered ? '' : e.kind}${own.has(e.index) ? ' own' : ''}">${e.index + 1}</div>`).join(''));
+  put(byId('answers'), entries.map(answerRow).join(''));
+  for (const id of ['gutter', 'answers']) byId(id).style.paddingTop = `${answered.first * lineHeight()}px`;
 }
 
 export function linesScrolled() {
   const { top, bottom } = linesInSight();
-  if (top < drawn.first || Math.min(bottom, view.session.entries.length) > drawn.last) drawAnswers();
+  if (top < answered.first || Math.min(bottom, view.session.entries.length) > answered.last) drawAnswers();
 }
-
-// The first sentence, without what the answer and the lines above say already: the refusal's number, the cell's type.
-const shortened = (words) => words.replace(/^\d+: /, '').replace(/^(cell \d+) \([^)]*\):/, '$1:');
 
 function answerRow(e) {
   if (e.covered) return `<div class="answer" data-line="${e.index}"><b>?</b> <span>covered</span></div>`;
-  const gist = e.kind === 'tick' ? `tick ${e.tick.number}${e.tick.hints.length ? `, ${count(e.tick.hints.length, 'hint')}` : ''}` : shortened(e.words[0] ?? '');
+  if (e.kind === 'remark') return `<div class="answer remark" data-line="${e.index}"><span>remark</span></div>`;
+  const gist = e.kind === 'tick' ? `tick ${e.tick.number}${hintsWords(told(e.tick).hints)}` : shortened(e.words[0] ?? '');
   return `<div class="answer ${e.kind}" data-line="${e.index}" title="${escapeText(e.words.join('\n'))}"><b>${escapeText(e.answer)}</b> <span>${escapeText(gist)}</span></div>`;
 }
+
+const hintsWords = (hints) => (hints.length ? `, ${count(hints.length, 'hint')}` : '');
 
 function tally() {
   const refused = refusedLines().length;
@@ -114,8 +145,8 @@ function showRefusals() {
   const rows = refused.slice(0, REFUSALS_LISTED).map((e) => `<li><button data-line="${e.index}">line ${e.index + 1}</button>
     <code>${escapeText(cutLine(e.line)) || '(empty)'}</code> <b>${escapeText(e.answer)}</b><div class="said">${escapeText(e.words.join('\n'))}</div></li>`);
   const more = refused.length - rows.length;
-  byId('refusals').innerHTML = rows.length ? `<ul>${rows.join('')}</ul>${more > 0 ? `<p>and ${more} more, red in the lines above</p>` : ''}` : '';
-  byId('wiring-hints').innerHTML = view.hints.map((hint) => `<p class="said">${escapeText(hint)}</p>`).join('');
+  put(byId('refusals'), rows.length ? `<ul>${rows.join('')}</ul>${more > 0 ? `<p>and ${more} more, red in the lines above</p>` : ''}` : '');
+  put(byId('wiring-hints'), view.hints.filter((hint) => !hintedInForm(hint)).map((hint) => `<p class="said">${escapeText(hint)}</p>`).join(''));
 }
 
 // ---- connectors
@@ -123,26 +154,31 @@ function showRefusals() {
 const PLUG = '<svg viewBox="0 0 16 16" aria-hidden="true"><path d="M5 1v4M11 1v4M3 5h10v2a5 5 0 0 1-10 0zM8 12v3"/><path class="strike" d="M2 14 14 2"/></svg>';
 
 const jackHtml = (name, i) => `<div class="jack" data-index="${i}" role="group" aria-label="${name}">
-  <span class="lamp" id="lamp-${i}"></span><span class="name">${name}</span>
+  <span class="lamp" id="lamp-${i}"></span><button class="name" data-place="${FIRST_CONNECTOR + i}" aria-label="Form of ${name}">${name}</button>
   <button class="plug" id="plug-${i}" aria-pressed="true" aria-label="${name} attached" title="${name} attached">${PLUG}</button>
   <button class="switch" id="switch-${i}" role="switch" aria-checked="false" aria-label="${name} high in the next tick"><i></i></button>
   <span class="source" id="source-${i}"></span></div>`;
 
-export function buildConnectors() {
+export function buildConnectors(clocks) {
   const jacks = (from) => CONNECTORS.slice(from, from + 8).map((n, i) => jackHtml(n, from + i)).join('');
   const row = (title, from) => `<div class="jacks" role="group" aria-label="${title}">${jacks(from)}</div>`;
   byId('connectors').innerHTML = row('front', 0) + row('backplane', 8);
   byId('clock').innerHTML = Array.from({ length: 10 }, (_, i) => `<option>${i}</option>`).join('');
+  byId('trigger').innerHTML = CLOCKS.map((c) => `<option value="${c}">${c}: ${escapeText(clocks[c])}</option>`).join('');
 }
 
 export function showConnectors() {
   const exercise = Boolean(state.cover?.exercise);
   document.documentElement.classList.toggle('exercise', exercise);
   byId('clock').value = state.clock;
+  byId('trigger').value = wired().parts[TRIGGER];
+  byId('idle').hidden = Number(state.clock) === wired().parts[TRIGGER];
+  if (document.activeElement !== byId('title')) byId('title').value = state.title;
+  if (document.activeElement !== byId('tick-ms')) byId('tick-ms').value = state.tickMs || '';
   byId('predict').checked = state.predicting;
   byId('undo').disabled = !canUndo();
-  for (const id of ['quick', 'full', 'many', 'predict']) byId(id).disabled = exercise;
-  document.title = state.about ? `${capital(state.about.title)} – trigger card` : 'Trigger card';
+  for (const id of ['quick', 'full', 'many', 'predict', 'trigger']) byId(id).disabled = exercise;
+  document.title = state.title ? `${capital(state.title)} – trigger card` : 'Trigger card';
   view.card.connectors.forEach((c, i) => {
     const jack = byId(`switch-${i}`).parentElement;
     jack.classList.toggle('output', !c.isInput);
@@ -167,82 +203,13 @@ function showLamps(t) {
   });
 }
 
-// ---- the diagram
-
-const COLUMNS_AROUND = 200;
-export const diagram = { column: columnWidthFor(0, 0), from: 0, to: 0 }; // the width of a column, and which columns are drawn
-
-export function showDiagram() {
-  const { session, rows } = view;
-  diagram.column = columnWidthFor(session.ticks.length, roomForColumns());
-  byId('plot').style.width = `${widthOf(session.ticks.length, diagram.column)}px`;
-  byId('labels').innerHTML = `<div class="corner" style="height:${HEAD_HEIGHT}px">tick</div>${rows.map(labelHtml).join('')}`;
-  byId('waves').classList.toggle('empty', session.ticks.length === 0);
-  drawColumns();
-}
-
-const roomForColumns = () => byId('waves').clientWidth - byId('labels').offsetWidth;
-
-function columnsInSight() {
-  const first = Math.floor(byId('waves').scrollLeft / diagram.column);
-  return { first, last: first + Math.ceil(roomForColumns() / diagram.column) };
-}
-
-function drawColumns() {
-  const { session, rows } = view;
-  const { column } = diagram;
-  const { first, last } = columnsInSight();
-  diagram.from = Math.max(0, first - COLUMNS_AROUND);
-  diagram.to = Math.min(session.ticks.length, last + COLUMNS_AROUND);
-  const { width, height, heads, body } = drawWaves(session, rows, column, diagram.from, diagram.to);
-  const left = (index) => (columnOf(index) - diagram.from) * column;
-  const predicted = [
-    ...state.score.map((t) => drawMisses(rows, column, left(t.index), t.missed)),
-    state.cover ? drawGuess(rows, column, left(state.cover.from), state.cover) : '',
-  ].join('');
-  sizeSvg('heads', width, HEAD_HEIGHT).innerHTML = heads;
-  sizeSvg('drawing', width, height).innerHTML = `${body}${predicted}
-    <rect class="hover" id="hover" y="0" width="${column}" height="${height}" visibility="hidden"/>
-    <rect class="chosen" id="chosen" y="0.5" width="${column}" height="${Math.max(0, height - 1)}" visibility="hidden"/>`;
-  placeColumn('chosen', columnOf(state.selected));
-}
-
-export function diagramScrolled() {
-  const { first, last } = columnsInSight();
-  if (first < diagram.from || Math.min(last, view.session.ticks.length) > diagram.to) drawColumns();
-}
-
-const labelHtml = (row) => `<div class="label ${row.group}" style="height:${ROW_HEIGHT}px" title="${escapeText(row.help)}">
-  <i></i><b>${escapeText(row.label)}</b> <span>${escapeText(row.note)}</span></div>`;
-
-function sizeSvg(id, width, height) {
-  const svg = byId(id);
-  svg.setAttribute('width', width);
-  svg.setAttribute('height', height);
-  svg.style.marginLeft = `${diagram.from * diagram.column}px`;
-  return svg;
-}
-
-const columnOf = (index) => view.session.ticks.findIndex((e) => e.index === index);
-
-export function placeColumn(id, column) {
-  const hidden = column < diagram.from || column >= diagram.to;
-  byId(id).setAttribute('visibility', hidden ? 'hidden' : 'visible');
-  if (!hidden) byId(id).setAttribute('x', (column - diagram.from) * diagram.column);
-}
-
 // ---- what is looked at
-
-// The last tick that ran, at the line that is looked at or before it.
-function tickLookedAt() {
-  return view.session.ticks.findLast((e) => e.index <= state.selected && e.kind === 'tick' && !e.covered)?.tick ?? null;
-}
 
 function showSelection(typing) {
   const { session, rows } = view;
   const entry = session.entries[state.selected];
   const column = columnOf(state.selected);
-  byId('where').textContent = column < 0 ? count(session.ticks.length, 'tick') : `tick line ${column + 1} of ${session.ticks.length}`;
+  byId('where').textContent = whereWords();
   const current = byId('current');
   current.hidden = !entry;
   current.style.setProperty('--line', state.selected);
@@ -264,21 +231,17 @@ function describeSlider(column, t) {
   waves.setAttribute('aria-valuetext', t ? `tick ${t.number}, ${t.full ? 'full' : 'quick'}; high: ${high}` : 'no tick yet');
 }
 
-function scrollToColumn(column) {
-  const waves = byId('waves');
-  const room = roomForColumns();
-  const left = column * diagram.column;
-  const right = left + 2 * diagram.column;
-  if (left < waves.scrollLeft) waves.scrollLeft = left - 2 * diagram.column;
-  else if (right > waves.scrollLeft + room) waves.scrollLeft = right - room;
-  diagramScrolled();
+// The lines of the part whose form was opened.
+function scrollToPart() {
+  const own = state.form ? linesOf(wired(), state.form) : [];
+  if (own.length) scrollToLine(own.at(-1));
 }
 
-function scrollToLine() {
-  const editor = byId('editor');
+function scrollToLine(line = state.selected) {
+  const box = boxOf('editor');
   const height = lineHeight();
-  const top = state.selected * height;
-  if (top < editor.scrollTop) editor.scrollTop = top - height;
-  else if (top + 2 * height > editor.scrollTop + editor.clientHeight) editor.scrollTop = top + 3 * height - editor.clientHeight;
+  const top = line * height;
+  if (top < box.top) scrollTo('editor', { top: top - height });
+  else if (top + 2 * height > box.top + box.height) scrollTo('editor', { top: top + 3 * height - box.height });
   linesScrolled();
 }

@@ -3,22 +3,31 @@
 // Everything that is said about the card comes from a program's output. A change of the text runs the programs anew, from a fresh card, and so the page
 // never holds a card of its own that could differ from theirs.
 
-import { splitLines, asInput, tickLine, runSession } from './session.js';
-import { when } from './runs.js';
+import { splitLines, asInput, isTick, tickInput, tickLine, withoutRemarks } from './session.js';
+import { Stopped, when } from './runs.js';
 import { rowsOf } from './diagram.js';
 import { coverFrom, unmarked, withMark, judged } from './predict.js';
-import { hashOf } from './link.js';
+import { TICK_MS, hashOf } from './link.js';
+import { keep, kept } from './keep.js';
+import { tried, rewired, retriggered, restated } from './wire.js';
+import { againstWords, focusForm } from './form.js';
+import { capital, notice } from './dom.js';
 
 const ALL_ATTACHED = 0xffff;
 const TYPING_PAUSE = 700;
 const LAST = Infinity;
 
 export const state = {
-  // what undo takes back: the lines, the switches, the example that was opened, and what had to be repaired in a file
-  text: '', levels: 0, attached: ALL_ATTACHED, clock: '0', about: null, notes: [],
-  task: null, // ticks with their answers, for which a wiring is to be found
+  // what undo takes back: the lines, the switches, the example that was opened, what had to be repaired in a file, the title, the length of a tick, the
+  // questions about the wiring
+  text: '', levels: 0, attached: ALL_ATTACHED, clock: '0', about: null, notes: [], title: '', tickMs: TICK_MS, questions: [],
+  task: null, brief: '', // an exercise: ticks with their answers, for which a wiring is to be found; its text
+  exercise: null, // the line from which an exercise was covered, while its lines are as they were
   selected: -1, // the line that is looked at
-  tab: 'line', allRows: false,
+  mark: -1, // the tick line of the second mark
+  tab: 'line', allRows: false, zoom: null, row: null, // zoom: pixels of a tick, where it is chosen; row: whose changes are jumped to
+  form: null, formSaid: '', // the cell or connector whose form is open, and why its last choice was not written
+  large: false, // whether the words take the room of the timing diagram
   predicting: false, // new ticks are covered, until what they do has been predicted
   cover: null, // the covered lines, and what is predicted of the first tick among them
   score: [], // of each tick that was predicted, what was as predicted
@@ -44,11 +53,13 @@ export function startState(itsRuns, show, fail) {
 }
 
 export const programs = () => runs.programs;
+export const askStream = (name, input, onText) => runs.stream(name, input, onText);
+export const stopStream = () => runs.stopStream();
 export const has = (name) => name in runs.programs;
 export const canUndo = () => past.length > 0;
 export const forgetPast = () => { past.length = 0; };
 
-const UNDOABLE = ['text', 'levels', 'attached', 'clock', 'about', 'notes', 'task'];
+const UNDOABLE = ['text', 'levels', 'attached', 'clock', 'about', 'notes', 'title', 'tickMs', 'questions', 'task', 'brief'];
 const snapshot = () => ({ ...Object.fromEntries(UNDOABLE.map((k) => [k, state[k]])), selected: state.selected });
 
 // A run of keystrokes is one step of undo.
@@ -59,13 +70,18 @@ function remember(typing) {
 }
 
 // Everything that changes lines or switches goes through here. A switch that is set does not uncover a tick.
-export function change(patch, { typing = false, caret = false, select = state.selected, cover = null, score = [] } = {}) {
+export function change(patch, { typing = false, caret = false, wrote = -1, select = state.selected, cover = null, score = [], opened = false } = {}) {
   remember(typing);
   undone.length = 0;
-  Object.assign(state, patch);
-  if (!('text' in patch)) return changed({});
-  Object.assign(state, { cover, score });
-  return rerun(select, { typing, caret });
+  work.touched = !opened;
+  if (!opened) notice('');
+  Object.assign(state, patch, { formSaid: '' });
+  if (!('text' in patch)) {
+    keepInAddress();
+    return changed({ typing });
+  }
+  Object.assign(state, { cover, score, exercise: cover?.exercise ? cover.first : null });
+  return rerun(select, { typing, caret, wrote });
 }
 
 export const undo = () => goBack(past, undone);
@@ -76,7 +92,8 @@ function goBack(from, to) {
   if (!target) return;
   to.push(snapshot());
   const { selected, ...rest } = target;
-  Object.assign(state, coverBack(rest.text), rest);
+  work.touched = true;
+  Object.assign(state, coverBack(rest.text), rest, { formSaid: '' });
   rerun(selected, { caret: true });
 }
 
@@ -93,12 +110,12 @@ function coverBack(text) {
 // One run at a time: while a worker is busy the newest lines wait, and what it gives for older ones is not shown.
 function rerun(select, how) {
   waitingRun = [select, how];
-  if (view.running) return;
+  if (view.running) return changed({ running: true });
   const answer = runs.ask('whole', splitLines(state.text).lines);
   waitingRun = null;
   view.running = answer instanceof Promise;
   if (view.running) changed({ running: true });
-  when(answer, (run) => {
+  return when(answer, (run) => {
     view.running = false;
     if (waitingRun) rerun(...waitingRun);
     else {
@@ -107,14 +124,31 @@ function rerun(select, how) {
     }
   })?.catch?.((error) => {
     view.running = false;
-    reportFailure(error);
+    if (!(error instanceof Stopped)) reportFailure(error);
   });
+}
+
+// A run that takes too long is given up, and the lines are as they were before it.
+export function stopRun() {
+  if (!view.running) return;
+  runs.stop();
+  view.running = false;
+  waitingRun = null;
+  const target = past.pop();
+  if (target) {
+    const { selected, ...rest } = target;
+    Object.assign(state, rest);
+    state.selected = Math.min(selected, view.session.lines.length - 1);
+  }
+  changed({});
+  notice('Stopped: the lines are as they were.');
 }
 
 function takeRun({ session, card, hints }, select) {
   Object.assign(view, { session, card, hints });
   cards.clear();
   state.selected = Math.min(select, session.lines.length - 1);
+  if (!session.entries[state.mark]?.tick) state.mark = -1;
   placeCover();
   keepInAddress();
 }
@@ -133,7 +167,7 @@ export function cardAt(index) {
   return cards.get(index);
 }
 
-export const outputFor = ({ name, of }) => runs.ask('output', view.session.lines, name, of);
+export const outputFor = ({ name, of, words }) => runs.ask('output', view.session.lines, name, of, words?.());
 
 export function outputsFor(table) {
   const outputs = table.map(outputFor);
@@ -183,14 +217,102 @@ export function addPreset(number) {
 }
 
 // The switches are set as in the last tick line, so that the next tick goes on from there.
-export function openText(text, { about = null, notes = [], task = null, select: at = LAST, coveredFrom = null } = {}) {
-  const tickLines = splitLines(text).lines.filter((line) => line.startsWith('T '));
-  const last = runSession(runs.programs, tickLines.slice(-1)).ticks.at(-1)?.tick;
-  const switches = last ? { levels: last.sample, attached: last.attached, clock: last.clock } : { levels: 0, attached: ALL_ATTACHED, clock: '0' };
+export function openText(text, { select: at = LAST, coveredFrom = null, ...given } = {}) {
+  const last = splitLines(text).lines.findLast((line) => /^T \d [0-9a-f]{4} [0-9a-f]{4} [FQ]$/.test(line));
+  const { clock, sample, attached } = last ? tickInput(last) : { clock: '0', sample: 0, attached: ALL_ATTACHED };
   const cover = coveredFrom === null ? null : coverFrom(coveredFrom, true);
-  state.tab = task ? 'task' : about ? 'about' : 'line';
+  const fresh = { about: null, notes: [], task: null, brief: '', title: given.about ? capital(given.about.title) : '', tickMs: TICK_MS, questions: [] };
+  const { task, about } = { ...fresh, ...given };
+  const exercise = task || cover;
+  if (task || !['drawing', 'reach'].includes(state.tab)) state.tab = task || (exercise && given.brief) ? 'task' : about ? 'about' : 'line';
+  if (given.questions?.length && !exercise) state.tab = 'reach';
+  Object.assign(state, { mark: -1, zoom: null });
   // A wiring that is to be found is written above the ticks.
-  change({ text, about, notes, task, ...switches }, { select: cover ? coveredFrom : task ? -1 : at, cover, caret: Boolean(task) });
+  change({ text, ...fresh, ...given, levels: sample, attached, clock }, { select: cover ? coveredFrom : task ? -1 : at, cover, caret: Boolean(task), opened: true });
+  if (cover) goOnWithExercise();
+}
+
+// The last tick that ran, at the line that is looked at or before it.
+export function tickLookedAt() {
+  return view.session.ticks.findLast((e) => e.index <= state.selected && e.kind === 'tick' && !e.covered)?.tick ?? null;
+}
+
+// The lines in front of the first tick, as programs get them: what is asked of a wiring is asked of these. An empty line would end them, and does nothing.
+export function wiringLines() {
+  const first = view.session.ticks[0]?.index ?? view.session.lines.length;
+  return withoutRemarks(view.session.lines.slice(0, first)).filter((line) => line !== '');
+}
+
+// Ticks behind the wiring, in place of those that are there.
+export function putTicks(ticks) {
+  const first = view.session.ticks[0]?.index ?? view.session.lines.length;
+  const gone = view.session.lines.slice(first).filter(isTick).length;
+  change({ text: asInput([...view.session.lines.slice(0, first), ...ticks]) }, { select: LAST });
+  notice(gone ? `${ticks.length} ticks stand behind the wiring now, in place of ${gone}. Undo brings those back.` : '');
+}
+
+// ---- the wiring that a form shows
+
+// The wiring that the tick looked at worked with: all lines in front of that tick, or of the next one.
+function wiringEnd() {
+  const next = view.session.ticks.find((e) => e.index >= Math.max(0, state.selected));
+  return Math.min(next?.index ?? view.session.lines.length, state.cover?.from ?? Infinity);
+}
+
+const wiring = { session: null, end: -1, found: null, ran: null };
+
+export function wired() {
+  const end = wiringEnd();
+  if (wiring.session !== view.session || wiring.end !== end) {
+    Object.assign(wiring, { session: view.session, end, found: tried(runs.programs, view.session.lines, end), ran: null });
+  }
+  return wiring.found;
+}
+wired.fresh = () => tried(runs.programs, [], 0);
+
+// The states in front of the tick that is looked at, ticks and all.
+export function wiredStates() {
+  wired();
+  wiring.ran ??= tried(runs.programs, view.session.lines, wiring.end, true);
+  return wiring.ran.states;
+}
+
+export function openForm(place) {
+  const before = state.form;
+  Object.assign(state, { form: place, formSaid: '' });
+  changed({ moved: true, formed: true });
+  if (!before || !place) focusForm(place ?? before);
+}
+
+const mayRewire = () => !view.running && !state.cover?.exercise;
+
+// Writes a part as wanted into the lines; where that does not go, it says so at the form. The tick that is looked at stays the same one.
+export function rewire(place, wanted, initial) {
+  if (mayRewire()) writeFound(rewired(runs.programs, view.session.lines, wiringEnd(), place, wanted, initial), sayAtForm);
+}
+
+export function setState(place, value) {
+  if (mayRewire()) writeFound(restated(runs.programs, view.session.lines, wiringEnd(), place, value), sayAtForm);
+}
+
+// The ticks that are made from now on are of that clock too.
+export function setTrigger(clock) {
+  if (mayRewire()) writeFound(retriggered(runs.programs, view.session.lines, wiringEnd(), clock), notice, { clock: String(clock) });
+}
+
+function writeFound(found, say, patch = {}) {
+  const end = wiringEnd();
+  if (found.against) return say(againstWords(found.against));
+  if (found.changed < 0) return say('');
+  const atTick = state.selected >= 0 && isTick(view.session.lines[state.selected] ?? '');
+  change({ text: asInput(found.lines), ...patch }, { select: atTick ? state.selected + found.end - end : found.changed, wrote: found.changed });
+  return say(found.spoilt?.length ? `Written; but line ${found.spoilt.map((i) => i + 1).join(', ')}, behind a tick, is refused now.` : '');
+}
+
+function sayAtForm(words) {
+  if (words === state.formSaid) return;
+  state.formSaid = words;
+  changed({ moved: true });
 }
 
 // ---- covered ticks
@@ -225,6 +347,24 @@ export function uncover() {
   state.cover = { ...cover, from: entry.index + 1, high: null };
   state.selected = entry.index;
   placeCover();
+  keepExercise();
+  changed({});
+}
+
+// An exercise that was begun goes on where it was.
+const exerciseKey = () => `exercise ${state.exercise} ${state.text}`;
+
+function keepExercise() {
+  if (state.exercise !== null) keep(exerciseKey(), { from: state.cover?.from ?? null, score: state.score });
+}
+
+function goOnWithExercise() {
+  const found = kept(exerciseKey());
+  if (!found?.score?.length) return;
+  state.score = found.score;
+  state.cover = found.from === null ? null : { ...state.cover, from: found.from, high: null };
+  state.selected = found.from ?? view.session.lines.length - 1;
+  placeCover();
   changed({});
 }
 
@@ -242,16 +382,29 @@ export function setPredicting(on) {
   else if (state.cover) uncoverAll();
 }
 
-// ---- the address
+// ---- the address, and what the browser keeps
 
-let addressTimer = 0;
+const work = { timer: 0, touched: false };
+
 function keepInAddress() {
-  clearTimeout(addressTimer);
-  addressTimer = setTimeout(writeAddress, 300);
+  clearTimeout(work.timer);
+  work.timer = setTimeout(writeAddress, 300);
+}
+
+const KEPT = ['text', 'title', 'tickMs', 'questions', 'task', 'brief'];
+
+// Only what somebody has worked on: what was only opened and looked at does not take the place of it. An exercise with covered ticks is kept by itself.
+export function keepWork() {
+  if (work.touched && state.exercise === null) keep('work', Object.fromEntries(KEPT.map((k) => [k, state[k]])));
+}
+
+export function linkNow() {
+  const looksAt = !state.cover && state.selected < view.session.lines.length - 1 ? state.selected : null;
+  return hashOf({ ...state, looksAt, coveredFrom: state.exercise });
 }
 
 export async function writeAddress() {
-  const looksAt = !state.cover && state.selected < view.session.lines.length - 1 ? state.selected : null;
-  const hash = await hashOf({ text: state.text, looksAt, coveredFrom: state.cover?.exercise ? state.cover.first : null, task: state.task });
-  window.history.replaceState(null, '', hash);
+  clearTimeout(work.timer);
+  keepWork();
+  window.history.replaceState(null, '', await linkNow());
 }

@@ -3,15 +3,9 @@ import fs from 'node:fs';
 import path from 'node:path';
 import { TOP } from './make.mjs';
 import { materialOf } from './material.mjs';
+import { SHIFT } from './driver.mjs';
 import { expect } from './expect.mjs';
-
-const SHIFT = 8;
-const focusLines = (page) => page.evaluate('document.getElementById("text").focus()');
-const leaveLines = (page) => page.evaluate('document.activeElement.blur()');
-const answers = (page) => page.texts('#answers b');
-const switchTtl0 = (page) => page.key(')', 'Digit0', { modifiers: SHIFT });
-const quick = (page) => page.key('q', 'KeyQ');
-const pause = (ms) => new Promise((resolve) => setTimeout(resolve, ms));
+import { answers, focusLines, keepSaved, leaveLines, openFile, pause, quick, savedBytes, savedText, switchTtl0 } from './hands.mjs';
 
 // With the mouse and the keyboard only: the manual's first example, its picture, and why each cell woke.
 export async function wiresFirstExample(page) {
@@ -19,7 +13,7 @@ export async function wiresFirstExample(page) {
   await page.press('#text');
   for (const line of ['M E=1', '36CCA Y=14', '36CCA Z=2', '36CCB X=41 Y=192', 'M E=35']) {
     await page.type(line);
-    await page.key('Enter', 'Enter', { text: '\r' });
+    await page.key('Enter');
   }
   await page.type('36CCA Z=1');
   expect('answers', await answers(page), [':A', ':A', ':A', ':A', ':A', ':A']);
@@ -56,7 +50,7 @@ export async function looksAtReasons(page) {
   expect('slider', await page.evaluate('document.getElementById("waves").getAttribute("aria-valuetext")'), 'tick 3, quick; high: TTL0, cell 1, BNC3');
   await page.click('#undo');
   expect('undo takes one tick', (await answers(page)).length, 10);
-  await page.key('r', 'KeyR');
+  await page.key('r');
   expect('redo gives it again', (await answers(page)).length, 11);
 }
 
@@ -74,7 +68,7 @@ export async function predicts(page) {
   }
   await page.click('#tab-line');
   await page.press('[data-mark="high cell 1"]');
-  await page.key('a', 'KeyA');
+  await page.key('a');
   expect('uncovered answer', (await answers(page)).at(-1), 'T 0000 0001 0001 1');
   expect('verdict', await page.text('.verdict'), '2 of 4 as predicted. Not as predicted: TTL0 is high, cell 1 wakes.');
   await quick(page);
@@ -85,7 +79,7 @@ export async function predicts(page) {
   expect('counted', await page.text('.total'), 'So far 1 of 2 ticks without a miss, 6 of 8 marks right.');
   await quick(page);
   await page.click('#undo');
-  await page.key('r', 'KeyR');
+  await page.key('r');
   expect('undo and redo do not tell', (await answers(page)).at(-1), '?');
   await page.click('#undo');
   await page.click('#tab-score');
@@ -109,9 +103,9 @@ export async function doesExercise(page, url) {
   expect('no new tick', (await answers(page)).length, 15);
   const drawing = await page.evaluate('(() => { const r = document.getElementById("drawing").getBoundingClientRect(); return [r.x, r.y]; })()');
   const column = await page.evaluate('Number(document.getElementById("chosen").getAttribute("width"))');
-  const inPicture = (row, modifiers) => page.pressAt(drawing[0] + 1.5 * column, drawing[1] + 24 * row + 12, modifiers);
-  await inPicture(0, 0);
-  await inPicture(1, 0);
+  const inPicture = (row, key = null) => page.pressAt(drawing[0] + 1.5 * column, drawing[1] + 24 * row + 12, key);
+  await inPicture(0);
+  await inPicture(1);
   await inPicture(1, SHIFT);
   await page.press('[data-uncover]');
   expect('marked in the picture', await page.text('.verdict'), 'All 4 as predicted.');
@@ -179,19 +173,6 @@ export async function opensEverything(page) {
   expect('presets', await answers(page), numbers.map(() => ':A'));
 }
 
-// A file of a text, or of bytes.
-const openFile = (page, name, content) => page.evaluate(`(() => { const data = new DataTransfer();
-  const content = ${JSON.stringify(content)};
-  data.items.add(new File([typeof content === 'string' ? content : new Uint8Array(content)], ${JSON.stringify(name)}));
-  const file = document.getElementById('file'); file.files = data.files; file.dispatchEvent(new Event('change')); })()`);
-
-// What the page saves is kept instead of downloaded: a promise of its bytes.
-const keepSaved = (page) => page.evaluate(`(() => { URL.createObjectURL = (blob) => {
-  window.saved = blob.arrayBuffer().then((b) => [...new Uint8Array(b)]); return 'about:blank#'; };
-  HTMLAnchorElement.prototype.click = () => {}; })()`);
-const savedBytes = (page) => page.evaluate('window.saved');
-const savedText = async (page) => Buffer.from(await savedBytes(page)).toString();
-
 // The first wiring as a record, in both forms, and back.
 export async function keepsRecord(page) {
   await page.click('#examples [data-group=first]');
@@ -233,7 +214,7 @@ export async function findsWiring(page) {
   await page.evaluate('document.getElementById("text").setSelectionRange(0, 0)');
   await page.type('M E=1\n36CCA Y=14\n36CCA Z=3\n36CCB X=41 Y=192\nM E=33\n36CCA Z=1\n');
   await page.click('#tab-task');
-  expect('the planted fault is found in its tick', (await page.text('#panel pre')).split('\n')[0], 'Line 15, tick 4: T 0 0100 ffff Q');
+  expect('the planted fault is found in its tick, at its line in the editor', (await page.text('#panel pre')).split('\n')[0], 'Line 10, tick 4: T 0 0100 ffff Q');
   await page.evaluate('(() => { const t = document.getElementById("text"); t.setSelectionRange(25, 26); t.focus(); })()');
   await page.type('2');
   expect('the wiring is found', await page.text('#hint'), 'Exercise: 10 answers agree, 0 differ.');
@@ -293,13 +274,13 @@ export async function runsLong(page, url) {
   const folder = path.join(TOP, 'crates', 'gate_replay');
   await openFile(page, 'long.in', fs.readFileSync(path.join(folder, 'data', 'long.in'), 'latin1'));
   await page.until('document.documentElement.classList.contains("running")');
-  expect('it says so', await page.text('#tally'), 'running 9518 lines …');
+  expect('it says so', await page.text('#progress-words'), 'running 9518 lines …');
   await page.until('!document.documentElement.classList.contains("running")', 60000);
   const stored = fs.readFileSync(path.join(folder, 'stdout'), 'latin1').split('\nlong.in\n')[1].split('\n');
-  expect('the last answers', (await answers(page)).slice(-101, -1), stored.slice(9517 - 100, 9517));
+  expect('the last answers', (await answers(page)).slice(-41, -1), stored.slice(9517 - 40, 9517));
   await page.evaluate('document.getElementById("editor").scrollTop = 0');
   await page.until('document.querySelector("#answers [data-line=\\"0\\"]")');
-  expect('the first answers', (await answers(page)).slice(0, 100), stored.slice(0, 100));
+  expect('the first answers', (await answers(page)).slice(0, 60), stored.slice(0, 60));
   await page.click('#answers [data-line="20"]');
   await page.click('#tab-card');
   await page.until('/^Card after line 21|^Nothing is wired/.test(document.getElementById("panel").innerText)');
