@@ -2,7 +2,7 @@
 // a wiring above the ticks, and plcheck compares. Each has a text of its own, and gives a result to hand in.
 
 import { decoded } from './programs.js';
-import { asInput, withoutRemarks } from './session.js';
+import { asInput, isRemark, withoutRemarks } from './session.js';
 import { foundWords, totals } from './predict.js';
 import { hashOf } from './link.js';
 import { keep, kept } from './keep.js';
@@ -55,6 +55,7 @@ function editorLines(wiring) {
   const shown = view.session.lines.slice(wiring.length);
   let next = 0;
   const rows = enteredIn(state.task).map((r) => {
+    while (isRemark(shown[next] ?? '')) next += 1;
     if (shown[next] === r.line) next += 1;
     return { ...r, number: wiring.length + next };
   });

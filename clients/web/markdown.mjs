@@ -12,6 +12,7 @@ export const inline = (s) => sectionLinks(escapeHtml(s)
   .replace(/\[([^\]]*)\]\(#(\d+)[^)]*\)/g, '<a href="#" data-section="$2">$1</a>')
   .replace(/\[([^\]]*)\]\([^)]*\)/g, '$1')
   .replace(/`([^`]*)`/g, '<code>$1</code>')
+  .replace(/ \^/g, '\u00a0^')
   .replace(/\*\*([^*]*)\*\*/g, '<strong>$1</strong>')
   .replace(/(^|[\s(])\*([^*\s][^*]*)\*(?=[\s.,:;)?]|$)/g, '$1<em>$2</em>'));
 

@@ -95,13 +95,17 @@ const firstTable = (text) => table(text.match(/^(\|.*\n)+/m)[0].trim().split('\n
 const inserting = (c, i) => (i === 0 && /^\d+$/.test(c) ? `<button data-insert="${c}">${c}</button>` : inline(c));
 const insertTable = (rows) => table(rows, inserting);
 
+// A line as far as its first number: `36CCA Y=n` gives "36CCA Y=".
+const beginning = (c, i) => (i > 0 ? inline(c) : c.replace(/`([^`]*)`/g, (_, line) => (/^(M|W|PM|HOME|!|36|L)/.test(line)
+  ? `<button data-insert="${line.replace(/n.*$/, '')}">${escapeHtml(line)}</button>` : `<code>${escapeHtml(line)}</code>`)));
+
 const TABLES = [
-  ['Lines', 'Lines', (text) => firstTable(text)],
   ['Cells', 'Cells', (text) => insertTable(rowsIn(text, '| type | cell |')) + asHtml(text.match(/A slot marked with \^[\s\S]*?\n\n/)[0], {})],
   ['Cells', 'What each type does', (text) => insertTable(rowsIn(text, '| type | kind |'))],
-  ['How a tick goes', 'Which cells wake in a quick tick', (text) => table(rowsIn(text, '| cell | wakes when |'))],
   ['Addresses', 'Addresses', () => '<div data-addresses></div>'],
   ['Connectors', 'Connectors', (text) => insertTable(rowsIn(text, '| type ('))],
+  ['Lines', 'Lines', (text) => table(rowsIn(text, '| line |'), beginning)],
+  ['How a tick goes', 'Which cells wake in a quick tick', (text) => table(rowsIn(text, '| cell | wakes when |'))],
   ['A first wiring', 'The answer of a tick', firstTable],
   ['Words and their bits', 'Words and their bits', firstTable],
   ['When the card says no', 'When the card says no', firstTable],

@@ -30,9 +30,17 @@ const hasQuestions = () => has('plreach') && state.questions.length > 0;
 function askSoon() {
   const input = reachInput(wiringLines(), state.questions);
   clearTimeout(reach.timer);
-  if (!hasQuestions() || reach.input === input) return;
-  if (!reach.done) stopStream();
-  reach.timer = setTimeout(ask, reach.input ? ASK_WAIT : 0);
+  if (reach.input === input) return;
+  const wait = reach.input ? ASK_WAIT : 0;
+  if (!reach.done) giveUp();
+  if (hasQuestions()) reach.timer = setTimeout(ask, wait);
+}
+
+// What was asked is out of date.
+function giveUp() {
+  Object.assign(reach, { input: '', done: true });
+  clearInterval(reach.clock);
+  stopStream();
 }
 
 async function ask() {
@@ -45,12 +53,13 @@ async function ask() {
       if (reach.input === input) reach.text += more;
       showAnswers();
     });
-    if (reach.input === input) Object.assign(reach, { text, done: true });
+    if (reach.input !== input) return;
+    Object.assign(reach, { text, done: true });
   } catch (error) {
-    if (reach.input === input) Object.assign(reach, { done: true, stopped: error instanceof Stopped });
     if (!(error instanceof Stopped)) failed(error);
+    if (reach.input !== input) return;
+    Object.assign(reach, { done: true, stopped: error instanceof Stopped });
   }
-  if (!reach.done) return;
   reach.took = Date.now() - reach.started;
   clearInterval(reach.clock);
   showAnswers();

@@ -90,6 +90,7 @@ export const redo = () => goBack(undone, past);
 function goBack(from, to) {
   const target = from.pop();
   if (!target) return;
+  notice('');
   to.push(snapshot());
   const { selected, ...rest } = target;
   work.touched = true;

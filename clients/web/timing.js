@@ -32,8 +32,9 @@ function legendHtml({ ticks, entries }) {
 }
 
 function columnsInSight() {
-  const first = Math.floor(boxOf('waves').left / diagram.column);
-  return { first, last: first + Math.ceil(roomForColumns() / diagram.column) };
+  const fitting = Math.ceil(roomForColumns() / diagram.column);
+  const first = Math.max(0, Math.min(Math.floor(boxOf('waves').left / diagram.column), view.session.ticks.length - fitting));
+  return { first, last: first + fitting };
 }
 
 function drawColumns() {
@@ -119,27 +120,20 @@ export function zoomToFit() {
   showDiagram();
 }
 
-const fingers = new Map();
-const distance = () => {
-  const [a, b] = [...fingers.values()];
-  return Math.hypot(a.x - b.x, a.y - b.y);
-};
+// Two fingers: as far apart as they are, compared with how they began. One finger scrolls.
 let pinch = null;
 
-function fingerMoved(e) {
-  if (!fingers.has(e.pointerId)) return;
-  fingers.set(e.pointerId, { x: e.clientX, y: e.clientY });
-  if (fingers.size !== 2) return;
-  pinch ??= { distance: distance(), column: diagram.column };
-  const column = nearZoom(pinch.column * distance() / pinch.distance);
-  const middle = [...fingers.values()].reduce((sum, p) => sum + p.x / 2, 0);
-  if (column !== diagram.column) zoomTo(column, middle - byId('waves').getBoundingClientRect().left - boxOf('labels').width);
+function fingersMoved(e) {
+  if (e.touches.length !== 2) return;
+  e.preventDefault();
+  const [a, b] = e.touches;
+  const distance = Math.hypot(a.clientX - b.clientX, a.clientY - b.clientY);
+  pinch ??= { distance, column: diagram.column };
+  const column = nearZoom(pinch.column * distance / pinch.distance);
+  if (column !== diagram.column) zoomTo(column, (a.clientX + b.clientX) / 2 - byId('waves').getBoundingClientRect().left - boxOf('labels').width);
 }
 
-function fingerLeft(e) {
-  fingers.delete(e.pointerId);
-  pinch = null;
-}
+const fingersLeft = () => { pinch = null; };
 
 export function listenToZoom() {
   const waves = byId('waves');
@@ -151,9 +145,8 @@ export function listenToZoom() {
     e.preventDefault();
     zoom(-Math.sign(e.deltaY), e.clientX - waves.getBoundingClientRect().left - boxOf('labels').width);
   }, { passive: false });
-  waves.addEventListener('pointerdown', (e) => e.pointerType === 'touch' && fingers.set(e.pointerId, { x: e.clientX, y: e.clientY }));
-  waves.addEventListener('pointermove', fingerMoved);
-  for (const end of ['pointerup', 'pointercancel', 'pointerleave']) waves.addEventListener(end, fingerLeft);
+  waves.addEventListener('touchmove', fingersMoved, { passive: false });
+  for (const end of ['touchend', 'touchcancel']) waves.addEventListener(end, fingersLeft);
 }
 
 // ---- marks and distances
