@@ -61,16 +61,19 @@ module _ (n : ℕ) where
 
   -- ---- "Who wakes", said of a list
 
-  -- behind any list of calls from a fresh card, the set that a quick tick on the card's own clock answers, whatever its lines, has a cell exactly where the rules hold
-  -- of the calls since the last tick that ran, or since the start, of what the cell's slots read now, and of what they read in that tick
-  unfoldable pub WhoWakes : Type 0
-  WhoWakes = (calls : List Call) (code : ℕ) (l : Lines) (i : ℕ) → i < n
-      → let c = end n (freshOf n) calls in
-      let cell = getD (c .cells) i noCell in
+  -- of a card that a list of calls has left: the set that a quick tick on the card's own clock answers, whatever its lines, has a cell exactly where the rules
+  -- hold of the calls since the last tick that ran, or since the start, of what the cell's slots read now, and of what they read in that tick
+  abbrev pub Wakes : Card → List Call → Type 0
+  Wakes c calls = (code : ℕ) (l : Lines) (i : ℕ) → i < n
+      → let cell = getD (c .cells) i noCell in
       code ≡ c .trigger
       → bitAt (tickOn n false c code l .answer .woken) i
       ≡ wakes (cell .kind) (stateOf cell) (editedSince (freshOf n) calls i false) (readOn n false c (l .levels) i (cell .slots))
       (readSince (freshOf n) calls i lowReadings (cell .slots))
+
+  -- after any list of calls from a fresh card
+  unfoldable pub WhoWakes : Type 0
+  WhoWakes = (calls : List Call) → Wakes (end n (freshOf n) calls) calls
 
   -- ---- what the last ticks were
 

@@ -1,6 +1,6 @@
 -- The buffers of a line to a card of a row hold what the list of rack calls says that it answered and saved.
 use Prim.Native.Nat.{ℕ, _-_}
-use mathlib.Core.Path.{_≡_, refl, _∙_}
+use mathlib.Core.Path.{_≡_, refl}
 use mathlib.Core.Bool.{Bool, true, false, _&&_, cond}
 use mathlib.Core.List.{List, []}
 use lib.Dec.{eqb}
@@ -11,7 +11,7 @@ use Rattle.text.proofs.DigitLaws.{both-left, both-right}
 use Rattle.card.specs.declared.card.Card.{Card}
 use Rattle.saved.specs.Record.{configWidth, recordLength, recordOf, savedTo}
 use Rattle.lines.specs.declared.line.Outcome.{Outcome}
-use Rattle.lines.specs.Line.{lineOutcome, silent, storeWith}
+use Rattle.lines.specs.Line.{lineOutcome, storeWith}
 use Rattle.calls.proofs.SaveLoad.{save-room}
 use Rattle.rack.specs.Supply.{drawsOf, over}
 use Rattle.rack.specs.Rack.{overSupply, badNumber, cardOf, outcomeBy, outcomeIn, rowOutcome, linedRow, rowResult}

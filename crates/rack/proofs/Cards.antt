@@ -2,24 +2,19 @@
 use Prim.Native.Nat.{ℕ, zero, suc, _+_, _-_, _≤_, _<_}
 use mathlib.Core.Path.{_≡_, refl, sym, ap, ap₂, subst, _∙_}
 use mathlib.Core.Bool.{Bool, true, false, not, _&&_, _||_, cond, true≢false}
-use mathlib.Core.List.{List, [], _∷_, _++_, map}
+use mathlib.Core.List.{List, [], _∷_, _++_}
 use native.Mathlib.Nat.{not-suc-le-zero, le-of-suc-le-suc, le-refl}
 use native.Mathlib.Omega.{arith}
 use lib.Dec.{eqb, ltb}
 use lib.ListN.{length, getD, set, replicate, length-replicate, getD-replicate, List·getD-append, List·getD-map, length-map}
 use lib.Seq.{getD-set-same, getD-set-other, set-getD, sets, sets-eq}
-use borrow.Author.Tests.{eqb-true, eqb-false, ltb-false, ne-eqb}
-use Rattle.words.specs.Bits.{bitAt}
-use Rattle.cells.specs.State.{stateOf}
-use Rattle.cells.specs.Wake.{wakes}
+use borrow.Author.Tests.{eqb-true, eqb-false, ltb-false}
 use Rattle.card.specs.declared.card.Card.{Card}
 use Rattle.card.specs.Address.{cellCount}
-use Rattle.card.specs.Fresh.{noCell, freshOf}
+use Rattle.card.specs.Fresh.{freshOf}
 use Rattle.card.specs.Valid.{validCard}
 use Rattle.ticks.specs.declared.tick.Answer.{Answer}
 use Rattle.ticks.specs.declared.tick.Ticked.{Ticked}
-use Rattle.ticks.specs.declared.connectors.Lines.{Lines}
-use Rattle.ticks.specs.Tick.{readOn, tickOn}
 use Rattle.saved.specs.Record.{configWidth, recordOf, loadNumber, loaded}
 use Rattle.saved.proofs.Records.{load-refused}
 use Rattle.lines.specs.declared.line.Outcome.{Outcome}
@@ -28,7 +23,7 @@ use Rattle.lines.specs.Line
 use Rattle.calls.specs.Runs.{endOf, answersOf, since}
 use Rattle.calls.specs.Calls
 use Rattle.calls.specs.Calls.{Call, Reply, savedBytes}
-use Rattle.calls.specs.History.{lowReadings, editedSince, readSince, WhoWakes}
+use Rattle.calls.specs.History.{Wakes, WhoWakes}
 use Rattle.calls.specs.Tallies.{Tallied, EveryListTallied}
 use Rattle.calls.proofs.Honest.{who-wakes}
 use Rattle.calls.proofs.Lists.{refused-kept}
@@ -42,11 +37,11 @@ use Rattle.rack.specs.Rack.{noRack, overSupply, badLength, badRow, badNu
 use Rattle.rack.specs.Rack.{ticksFrom, rowTicks, cardsOf, tickNumber, tickedRow, idleAnswer, rowAnswers, cardOf, outcomeBy, numberBy, outcomeIn, rowOutcome, linedRow}
 use Rattle.rack.specs.Rack.{loadIn, rowLoadNumber, loadedRow}
 use Rattle.rack.specs.Rack
-use Rattle.rack.specs.Calls.{RackCall, RackReply, rowReply, rowSaved, afterCall, answer, end}
+use Rattle.rack.specs.Calls.{RackCall, rowReply, rowSaved, afterCall, answer, end}
 use Rattle.rack.specs.Calls.RackCall.{start, line, load, tick}
-use Rattle.rack.specs.Calls.RackReply.{numberReply, lineReply, tickReply}
+use Rattle.rack.specs.Calls.RackReply.{lineReply, tickReply}
 use Rattle.rack.specs.Demand3.{startRow}
-use Rattle.rack.specs.Cards.{Part, goesTo, answerTo, Heard, nothing, heardMore, partOf, heardNext, heard, InRack, IsCard, startLines, callsTo, cardIn}
+use Rattle.rack.specs.Cards.{Part, goesTo, answerTo, Heard, nothing, heardMore, partOf, heardNext, heard, IsCard, startLines, callsTo, cardIn}
 use Rattle.rack.specs.Cards.{Reached, RackTallied, RackValid, RackWakes}
 use Rattle.rack.specs.Cards.Part.{none, own, anew}
 use Rattle.rack.proofs.Orders.{or-left, or-right}
@@ -276,11 +271,5 @@ unfolding RackValid
 rack-valid = of-every (λ (c : Card) (calls : List Call). validCard cellCount c ≡ true) (fresh-reached-valid cellCount (le-refl cellCount))
 
 pub rack-wakes : RackWakes
-unfolding RackWakes WhoWakes sharedTick
-rack-wakes cards calls i h input low j k mine =
-    of-every
-    (λ (c : Card) (list : List Call). (code : ℕ) (l : Lines) → code ≡ c .trigger → let cell = getD (c .cells) j noCell in
-    bitAt (tickOn cellCount false c code l .answer .woken) j
-    ≡ wakes (cell .kind) (stateOf cell) (editedSince cellCount (freshOf cellCount) list j false) (readOn cellCount false c (l .levels) j (cell .slots))
-    (readSince cellCount (freshOf cellCount) list j lowReadings (cell .slots)))
-    (λ list code l e. who-wakes cellCount list code l j k e) cards calls i h (input .code) (sharedLines cellCount (cardIn cards calls i) input low) mine
+unfolding RackWakes WhoWakes
+rack-wakes = of-every (Wakes cellCount) (who-wakes cellCount)

@@ -15,7 +15,7 @@ use Rattle.ticks.proofs.Sleep.{fresh-settled, tick-on-settled, same-ticks-on, e
 use Rattle.saved.specs.Record.{loadNumber, loaded}
 use Rattle.saved.proofs.Records.{loaded-by}
 use Rattle.lines.specs.declared.line.Outcome.{Outcome}
-use Rattle.lines.specs.Line.{lineOutcome, silent}
+use Rattle.lines.specs.Line.{lineOutcome}
 use Rattle.calls.proofs.Lists.{line-edit}
 use Rattle.calls.proofs.Runs.{same-runs}
 use Rattle.rack.specs.declared.pass.RackInput.{RackInput}

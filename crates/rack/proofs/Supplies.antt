@@ -12,7 +12,7 @@ use Rattle.card.specs.declared.card.Card.{Card}
 use Rattle.card.specs.declared.card.Connectors.{Connectors}
 use Rattle.saved.specs.Record.{loadNumber, loaded}
 use Rattle.lines.specs.declared.line.Outcome.{Outcome}
-use Rattle.lines.specs.Line.{lineOutcome, silent}
+use Rattle.lines.specs.Line.{lineOutcome}
 use Rattle.calls.proofs.Lists.{refused-kept}
 use Rattle.calls.proofs.Runs.{invariant}
 use Rattle.rack.specs.declared.pass.RackInput.{RackInput}

@@ -1,30 +1,24 @@
--- Document 02, 12: a card in a rack is a card. Each call to a rack is for the card at a place one of the calls that a card by itself knows, or a new start, or
--- nothing, and it answers what the card then answers. So all that is said of every list of calls on a fresh card (tallies, who wakes, saving, printing, rest) is
--- said of every card of a rack.
+-- Document 02, 12: a card in a rack is a card. Each call to a rack is for the card at a place one of the calls that a card by itself knows, or a new start,
+-- or nothing, and it answers what the card then answers. So all that is said of every list of calls on a fresh card (tallies, who wakes, saving, printing,
+-- rest) is said of every card of a rack.
 use Prim.Native.Nat.{ℕ, suc, _<_}
 use mathlib.Core.Path.{_≡_}
-use mathlib.Core.Bool.{Bool, true, false, not, _&&_, _||_, cond}
+use mathlib.Core.Bool.{true, not, _&&_, _||_, cond}
 use mathlib.Core.List.{List, [], _∷_, _++_, map}
 use lib.Dec.{eqb}
 use lib.ListN.{length, getD, replicate}
 use Rattle.text.specs.Written.{bytesOf}
-use Rattle.words.specs.Bits.{bitAt}
-use Rattle.cells.specs.State.{stateOf}
-use Rattle.cells.specs.Wake.{wakes}
 use Rattle.card.specs.declared.card.Card.{Card}
 use Rattle.card.specs.Address.{cellCount}
-use Rattle.card.specs.Fresh.{noCell, freshOf}
+use Rattle.card.specs.Fresh.{freshOf}
 use Rattle.card.specs.Valid.{validCard}
-use Rattle.ticks.specs.declared.view.Input.{Input}
-use Rattle.ticks.specs.Tick.{readOn}
 use Rattle.lines.specs.Line.{shortestReply}
 use Rattle.calls.specs.Runs.{since}
 use Rattle.calls.specs.Calls.{Call, Reply}
 use Rattle.calls.specs.Calls
-use Rattle.calls.specs.History.{lowReadings, editedSince, readSince}
+use Rattle.calls.specs.History.{Wakes}
 use Rattle.calls.specs.Tallies.{Tallied}
-use Rattle.rack.specs.declared.pass.RackInput.{RackInput}
-use Rattle.rack.specs.Shared.{sharedLines, sharedTick}
+use Rattle.rack.specs.Shared.{sharedLines}
 use Rattle.rack.specs.Rack.{noRack, overSupply, startCard, startNumber, inputFor, lowLines, tickNumber, idleAnswer, rowOutcome, rowLoadNumber}
 use Rattle.rack.specs.Calls.{RackCall, RackReply, afterCall, answer, end}
 use Rattle.rack.specs.Calls.RackCall.{start, line, load, tick}
@@ -119,13 +113,6 @@ RackTallied = (cards : ℕ) (calls : List RackCall) (i : ℕ) → i < cards → 
 unfoldable pub RackValid : Type 0
 RackValid = (cards : ℕ) (calls : List RackCall) (i : ℕ) → i < cards → validCard cellCount (cardIn cards calls i) ≡ true
 
--- who wakes in a quick tick of a card in a rack, by the calls that it has got and by what its last tick read, as WhoWakes has it
+-- who wakes in a quick tick of a card in a rack, by the calls that it has got and by what its last tick read, whatever the other cards pull low
 unfoldable pub RackWakes : Type 0
-RackWakes = (cards : ℕ) (calls : List RackCall) (i : ℕ) → i < cards → (input : Input) (low j : ℕ) → j < cellCount
-    → let c = cardIn cards calls i in
-    let cell = getD (c .cells) j noCell in
-    input .code ≡ c .trigger
-    → bitAt (sharedTick cellCount false c input low .answer .woken) j
-    ≡ wakes (cell .kind) (stateOf cell) (editedSince cellCount (freshOf cellCount) (callsTo cards calls i) j false)
-    (readOn cellCount false c (sharedLines cellCount c input low .levels) j (cell .slots))
-    (readSince cellCount (freshOf cellCount) (callsTo cards calls i) j lowReadings (cell .slots))
+RackWakes = (cards : ℕ) (calls : List RackCall) (i : ℕ) → i < cards → Wakes cellCount (cardIn cards calls i) (callsTo cards calls i)

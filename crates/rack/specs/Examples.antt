@@ -52,18 +52,28 @@ use Rattle.rack.specs.Demand3.{startRow}
 
 -- ---- calls and their answers
 
+abbrev Exchange : Type 0
+Exchange = RackCall × RackReply
+
 -- a line to the card of a number, with a reply buffer that is just long enough, and no store
 lineTo : ℕ → String → RackCall
 lineTo number text = Calls.RackCall.line number (bytesOf text) (replicate shortestReply 0) []
 
-accepted : RackReply
-accepted = lineReply 0 (bytesOf ":A\r\n") []
+said : ℕ → String → String → Exchange
+said number text reply = (lineTo number text, lineReply 0 (bytesOf reply) [])
 
-said : String → RackReply
-said text = lineReply 0 (bytesOf text) []
+refused : ℕ → String → ℕ → String → Exchange
+refused number text k reply = (lineTo number text, lineReply k (bytesOf reply) [])
 
-refused : ℕ → String → RackReply
-refused k text = lineReply k (bytesOf text) []
+-- lines that the card of a number accepts
+accepts : ℕ → List String → List Exchange
+accepts number texts = map (λ text. said number text ":A\r\n") texts
+
+loads : (number : ℕ) → List ℕ → (k : ℕ) → Exchange
+loads number bytes k = (Calls.RackCall.load number bytes, numberReply k)
+
+starts : ℕ → Exchange
+starts k = (Calls.RackCall.start, numberReply k)
 
 -- a quick tick of a clock: the backplane with what is attached there, and the fronts
 tickOn : (code sample attached count : ℕ) → List Front → RackCall
@@ -81,9 +91,9 @@ ran driven = record { ran = true; driven = driven; cells = 0; woken = 0; count =
 ticked : List Answer → RackReply
 ticked answers = tickReply (record { k = 0; answers = answers })
 
--- the answers of two cards, and nothing of the two that are not there
-pair : Answer → Answer → RackReply
-pair one two = ticked (one ∷ two ∷ replicate 2 idleAnswer)
+-- a tick of two cards; those that are not there idle
+ticks : ℕ → Answer → Answer → Exchange
+ticks code one two = (tickOf code, ticked (one ∷ two ∷ replicate 2 idleAnswer))
 
 -- a record of constants 0 with this trigger, the eight front connectors of one type and the eight of the backplane of another, all from 0
 recordWith : (trigger front back : ℕ) → List ℕ
@@ -91,181 +101,114 @@ recordWith trigger front back =
     encode configWidth trigger (replicate cellCount freshCell)
     (replicate 8 (record { kind = front; source = 0 }) ++ replicate 8 (record { kind = back; source = 0 }))
 
--- a row, the calls on it, and what each answers
-pub record Session : Type 0 where
-  pub row : List Card
-  pub calls : List (RackCall × RackReply)
+-- a row, and what is said to it and answered
+abbrev Session : Type 0
+Session = List Card × List Exchange
 
 -- ---- the supply
 
 -- "the sum over the cards of the larger of 4 and the card's push-pull front connectors is then at most 16": three cards with 8, 1 and 0 draw 16, whatever is
 -- open-drain or on the backplane. Then five on the second are one too many; 13 and 15 come before that
 supplySession : Session
-supplySession = record {
-  row = startRow cellCount 3;
-  calls =
-      (Calls.RackCall.load 3 (recordWith 0 1 2), numberReply 0)
-      ∷ (lineTo 1 "36CCA X=19", accepted)
-      ∷ (lineTo 2 "36CCA X=24", accepted)
-      ∷ (lineTo 2 "36CCA X=5", refused 19 ":N-19\r\n")
-      ∷ (lineTo 2 "M E=37", accepted)
-      ∷ (lineTo 2 "36CCA Y?", said ":A 0\r\n")
-      ∷ (lineTo 1 "36CCA X=19", accepted)
-      ∷ (Calls.RackCall.load 2 (recordWith 0 2 0), numberReply 19)
-      ∷ (Calls.RackCall.load 2 (recordWith 9 2 0), numberReply 15)
-      ∷ (lineTo 2 "PM E=4", accepted)
-      ∷ (lineTo 2 "36CCA X=19", refused 13 ":N-13\r\n")
-      ∷ [];
-}
+supplySession = (
+  startRow cellCount 3,
+  loads 3 (recordWith 0 1 2) 0 ∷ accepts 1 ("36CCA X=19" ∷ []) ++ accepts 2 ("36CCA X=24" ∷ [])
+      ++ (refused 2 "36CCA X=5" 19 ":N-19\r\n" ∷ accepts 2 ("M E=37" ∷ []))
+      ++ (said 2 "36CCA Y?" ":A 0\r\n" ∷ accepts 1 ("36CCA X=19" ∷ []))
+      ++ (loads 2 (recordWith 0 2 0) 19 ∷ loads 2 (recordWith 9 2 0) 15 ∷ accepts 2 ("PM E=4" ∷ []))
+      ++ (refused 2 "36CCA X=19" 13 ":N-13\r\n" ∷ []),
+)
 
 -- on a row that draws too much already, three fresh cards with 24: what changes no front type is free, a preset on connectors that are push-pull already too;
 -- a change that leaves the row over 16 is refused, open-drain and `PM E=4` among them
 overSession : Session
-overSession = record {
-  row = replicate 3 (freshOf cellCount);
-  calls =
-      (lineTo 1 "M E=33", accepted)
-      ∷ (lineTo 1 "36CCA Z=64", accepted)
-      ∷ (lineTo 1 "36CCA X=19", accepted)
-      ∷ (lineTo 1 "36CCA Y=1", refused 19 ":N-19\r\n")
-      ∷ (lineTo 1 "PM E=4", refused 19 ":N-19\r\n")
-      ∷ (lineTo 1 "PM E=3", accepted)
-      ∷ [];
-}
+overSession = (
+  replicate 3 (freshOf cellCount),
+  accepts 1 ("M E=33" ∷ "36CCA Z=64" ∷ "36CCA X=19" ∷ [])
+      ++ (refused 1 "36CCA Y=1" 19 ":N-19\r\n" ∷ refused 1 "PM E=4" 19 ":N-19\r\n" ∷ accepts 1 ("PM E=3" ∷ [])),
+)
 
 -- "a lent row of 1 to 4 cards": four take a start, a load of open-drain fronts, four push-pull ones on the last and no fifth, and a tick with a front for each
 fourSession : Session
-fourSession = record {
-  row = startRow cellCount 4;
-  calls =
-      (Calls.RackCall.start, numberReply 0)
-      ∷ (Calls.RackCall.load 2 (recordWith 0 1 0), numberReply 0)
-      ∷ (lineTo 4 "36CCA X=31", accepted)
-      ∷ (lineTo 4 "36CCA X=24", refused 19 ":N-19\r\n")
+fourSession = (
+  startRow cellCount 4,
+  starts 0 ∷ loads 2 (recordWith 0 1 0) 0 ∷ accepts 4 ("36CCA X=31" ∷ [])
+      ++ (
+      refused 4 "36CCA X=24" 19 ":N-19\r\n"
       ∷ (
         tickOn 0 0xff 0xff 4 (replicate 4 (record { sample = 0x80; attached = 0xff })),
         ticked (
             ran 0 ∷ record { ran = true; driven = 0; cells = 0; woken = 0xffff; count = 16 } ∷ ran 0
             ∷ record { ran = true; driven = 0; cells = 0; woken = 0x0060; count = 2 } ∷ []),
       )
-      ∷ (lineTo 3 "36RDADC X?", said ":A 128\r\n")
-      ∷ [];
-}
+      ∷ said 3 "36RDADC X?" ":A 128\r\n" ∷ []),
+)
 
 -- ---- who pulls a line low
 
 -- card 1 has TTL0 open-drain from 0: both cards see it low. It idles and its connector becomes an input: it goes on pulling, until it runs again
 idleSession : Session
-idleSession = record {
-  row = startRow cellCount 2;
-  calls =
-      (lineTo 1 "M E=41", accepted)
-      ∷ (lineTo 1 "36CCA Y=1", accepted)
-      ∷ (tickOf 0, pair (ran 0) (ran 0))
-      ∷ (lineTo 2 "36RDADC Y?", said ":A 254\r\n")
-      ∷ (lineTo 1 "PM E=1", accepted)
-      ∷ (lineTo 1 "36CCA Y=0", accepted)
-      ∷ (tickOf 0, pair idleAnswer (ran 0))
-      ∷ (lineTo 2 "36RDADC Y?", said ":A 254\r\n")
-      ∷ (tickOf 1, pair (ran 0) idleAnswer)
-      ∷ (lineTo 1 "36RDADC Y?", said ":A 255\r\n")
-      ∷ (tickOf 0, pair idleAnswer (ran 0))
-      ∷ (lineTo 2 "36RDADC Y?", said ":A 255\r\n")
-      ∷ [];
-}
+idleSession = (
+  startRow cellCount 2,
+  accepts 1 ("M E=41" ∷ "36CCA Y=1" ∷ []) ++ (ticks 0 (ran 0) (ran 0) ∷ said 2 "36RDADC Y?" ":A 254\r\n" ∷ accepts 1 ("PM E=1" ∷ "36CCA Y=0" ∷ []))
+      ++ (ticks 0 idleAnswer (ran 0) ∷ said 2 "36RDADC Y?" ":A 254\r\n"
+      ∷ ticks 1 (ran 0) idleAnswer ∷ said 1 "36RDADC Y?" ":A 255\r\n"
+      ∷ ticks 0 idleAnswer (ran 0) ∷ said 2 "36RDADC Y?" ":A 255\r\n" ∷ []),
+)
 
 -- "before its first tick it drives nothing"; "push-pull there counts as open-drain": card 1 drives TTL0 high and card 2 low, and it is low for both
 driverSession : Session
-driverSession = record {
-  row = startRow cellCount 2;
-  calls =
-      (lineTo 2 "M E=41", accepted)
-      ∷ (lineTo 2 "36CCA Y=1", accepted)
-      ∷ (lineTo 2 "PM E=1", accepted)
-      ∷ (lineTo 1 "M E=41", accepted)
-      ∷ (lineTo 1 "36CCA Y=2", accepted)
-      ∷ (lineTo 1 "36CCA Z=64", accepted)
-      ∷ (tickOf 0, pair (ran 0x0100) idleAnswer)
-      ∷ (lineTo 1 "36RDADC Y?", said ":A 255\r\n")
-      ∷ (tickOf 1, pair idleAnswer (ran 0))
-      ∷ (tickOf 0, pair (ran 0x0100) idleAnswer)
-      ∷ (lineTo 1 "36RDADC Y?", said ":A 254\r\n")
-      ∷ [];
-}
+driverSession = (
+  startRow cellCount 2,
+  accepts 2 ("M E=41" ∷ "36CCA Y=1" ∷ "PM E=1" ∷ []) ++ accepts 1 ("M E=41" ∷ "36CCA Y=2" ∷ "36CCA Z=64" ∷ [])
+      ++ (ticks 0 (ran 0x0100) idleAnswer ∷ said 1 "36RDADC Y?" ":A 255\r\n"
+      ∷ ticks 1 idleAnswer (ran 0) ∷ ticks 0 (ran 0x0100) idleAnswer ∷ said 1 "36RDADC Y?" ":A 254\r\n" ∷ []),
+)
 
 -- "one backplane sample" for all, and for each card its own front, each with its attached bits: BNC2 of card 1, BNC3 of card 2 and, of the backplane, TTL1 and
 -- TTL3 to TTL7 are high. Card 1 drives TTL0 high, push-pull, and it is low, for the sample is; then it drives it low, and card 2 sees it; then both drive it
 -- low, and it is low
 apartSession : Session
-apartSession = record {
-  row = startRow cellCount 2;
-  calls =
-      (lineTo 1 "M E=41", accepted)
-      ∷ (lineTo 1 "36CCA Y=2", accepted)
-      ∷ (lineTo 1 "36CCA Z=64", accepted)
-      ∷ (
+apartSession = (
+  startRow cellCount 2,
+  accepts 1 ("M E=41" ∷ "36CCA Y=2" ∷ "36CCA Z=64" ∷ [])
+      ++ ((
         tickOn 0 0xf8 0xfd 2
             (record { sample = 0x03; attached = 0xfe } ∷ record { sample = 0x0c; attached = 0xf7 } ∷ replicate 2 (record { sample = 0xff; attached = 0xff })),
-        pair (ran 0x0100) (ran 0),
+        ticked (ran 0x0100 ∷ ran 0 ∷ replicate 2 idleAnswer),
       )
-      ∷ (lineTo 1 "36RDADC X?", said ":A 2\r\n")
-      ∷ (lineTo 2 "36RDADC X?", said ":A 4\r\n")
-      ∷ (lineTo 1 "36RDADC Y?", said ":A 250\r\n")
-      ∷ (lineTo 2 "36RDADC Y?", said ":A 250\r\n")
-      ∷ (lineTo 1 "36CCA Z=0", accepted)
-      ∷ (tickOf 0, pair (ran 0) (ran 0))
-      ∷ (lineTo 2 "36RDADC Y?", said ":A 254\r\n")
-      ∷ (lineTo 2 "M E=41", accepted)
-      ∷ (lineTo 2 "36CCA Y=1", accepted)
-      ∷ (tickOf 0, pair (ran 0) (ran 0))
-      ∷ (lineTo 1 "36RDADC Y?", said ":A 254\r\n")
-      ∷ [];
-}
+      ∷ said 1 "36RDADC X?" ":A 2\r\n" ∷ said 2 "36RDADC X?" ":A 4\r\n"
+      ∷ said 1 "36RDADC Y?" ":A 250\r\n" ∷ said 2 "36RDADC Y?" ":A 250\r\n" ∷ accepts 1 ("36CCA Z=0" ∷ []))
+      ++ (ticks 0 (ran 0) (ran 0) ∷ said 2 "36RDADC Y?" ":A 254\r\n" ∷ accepts 2 ("M E=41" ∷ "36CCA Y=1" ∷ []))
+      ++ (ticks 0 (ran 0) (ran 0) ∷ said 1 "36RDADC Y?" ":A 254\r\n" ∷ []),
+)
 
 -- ---- what a start leaves
 
 -- "makes every card of the row fresh, but with all front connectors as inputs": pointer, trigger, cells, levels, types, sources, and the record that it saves
 startSession : Session
-startSession = record {
-  row = replicate 2 (freshOf cellCount);
-  calls =
-      (lineTo 2 "36CCA X=19", accepted)
-      ∷ (lineTo 2 "36CCA Y=5", accepted)
-      ∷ (lineTo 2 "M E=40", accepted)
-      ∷ (lineTo 2 "PM E=1", accepted)
-      ∷ (tickOf 1, pair idleAnswer (record { ran = true; driven = 0; cells = 0; woken = 1; count = 1 }))
-      ∷ (Calls.RackCall.start, numberReply 0)
-      ∷ (lineTo 2 "W E", said ":A 1\r\n")
-      ∷ (lineTo 2 "36CCA Y?", said ":A 0\r\n")
-      ∷ (lineTo 2 "36RDADC Y?", said ":A 0\r\n")
-      ∷ (lineTo 2 "36RDADC Z?", said ":A 0\r\n")
-      ∷ (lineTo 2 "M E=40", accepted)
-      ∷ (lineTo 2 "36CCA Y?", said ":A 0\r\n")
-      ∷ (lineTo 2 "36CCA Z?", said ":A 0\r\n")
+startSession = (
+  replicate 2 (freshOf cellCount),
+  accepts 2 ("36CCA X=19" ∷ "36CCA Y=5" ∷ "M E=40" ∷ "PM E=1" ∷ [])
+      ++ (ticks 1 idleAnswer (record { ran = true; driven = 0; cells = 0; woken = 1; count = 1 }) ∷ starts 0
+      ∷ said 2 "W E" ":A 1\r\n" ∷ said 2 "36CCA Y?" ":A 0\r\n" ∷ said 2 "36RDADC Y?" ":A 0\r\n" ∷ said 2 "36RDADC Z?" ":A 0\r\n"
+      ∷ accepts 2 ("M E=40" ∷ []))
+      ++ (said 2 "36CCA Y?" ":A 0\r\n" ∷ said 2 "36CCA Z?" ":A 0\r\n"
       ∷ (Calls.RackCall.line 2 (bytesOf "36SS Z") (replicate shortestReply 0) (replicate 308 0), lineReply 0 (bytesOf ":A\r\n") (recordWith 0 0 0))
-      ∷ (tickOf 0, pair (ran 0) (ran 0))
-      ∷ [];
-}
+      ∷ ticks 0 (ran 0) (ran 0) ∷ []),
+)
 
 -- ---- what is no rack
 
 noRackSessions : List Session
 noRackSessions =
-    record { row = []; calls = (Calls.RackCall.start, numberReply 20) ∷ [] }
-    ∷ record { row = startRow cellCount 5; calls = (Calls.RackCall.start, numberReply 20) ∷ [] }
-    ∷ record { row = startCard cellCount ∷ freshOf cellRoom ∷ []; calls = (Calls.RackCall.start, numberReply 20) ∷ [] }
-    ∷ record {
-      row = startRow cellCount 2;
-      calls =
-          (lineTo 0 "W E", refused 20 ":N-20\r\n")
-          ∷ (lineTo 3 "W E", refused 20 ":N-20\r\n")
-          ∷ (Calls.RackCall.line 3 (bytesOf "W E") (replicate 15 0) [], lineReply 20 [] [])
-          ∷ (Calls.RackCall.load 3 [], numberReply 20)
-          ∷ (Calls.RackCall.load 1 [], numberReply 14)
-          ∷ [];
-    }
-    ∷ record { row = startRow cellCount 3; calls = (tickOf 0, tickReply (record { k = 20; answers = replicate 4 idleAnswer })) ∷ [] }
-    ∷ []
+    ([], starts 20 ∷ []) ∷ (startRow cellCount 5, starts 20 ∷ []) ∷ (startCard cellCount ∷ freshOf cellRoom ∷ [], starts 20 ∷ [])
+    ∷ (
+      startRow cellCount 2,
+      refused 0 "W E" 20 ":N-20\r\n" ∷ refused 3 "W E" 20 ":N-20\r\n"
+          ∷ (Calls.RackCall.line 3 (bytesOf "W E") (replicate 15 0) [], lineReply 20 [] []) ∷ loads 3 [] 20 ∷ loads 1 [] 14 ∷ [],
+    )
+    ∷ (startRow cellCount 3, (tickOf 0, tickReply (record { k = 20; answers = replicate 4 idleAnswer })) ∷ []) ∷ []
 
 sessions : List Session
 sessions = supplySession ∷ overSession ∷ fourSession ∷ idleSession ∷ driverSession ∷ apartSession ∷ startSession ∷ noRackSessions
@@ -282,9 +225,9 @@ tallyRows =
 
 -- each session's answers, and each row's tick totals
 computed :
-    (map (λ (s : Session). answers cellCount (s .row) (map (λ (e : RackCall × RackReply). e .0) (s .calls))) sessions
-    ≡ map (λ (s : Session). map (λ (e : RackCall × RackReply). e .1) (s .calls)) sessions)
+    (map (λ (s : Session). answers cellCount (s .0) (map (λ (e : Exchange). e .0) (s .1))) sessions
+    ≡ map (λ (s : Session). map (λ (e : Exchange). e .1) (s .1)) sessions)
     × (map (λ (e : List RackCall × List ℕ). map totalOf (end cellCount (startRow cellCount 2) (e .0))) tallyRows
     ≡ map (λ (e : List RackCall × List ℕ). e .1) tallyRows)
-unfolding presetCell presetSource setsFront preset bytesOf ones onesIn withBit wordOf bitAt listed valueBy isDigit digitsOf leads plain numberIn numberAt decimalFrom decimal rowOf slotsOf taken raised workAs workOut stirredAs stirred disagree wakes levelAt readsLevels reads slotsRead mixed view effectiveSample linesOf move setTrigger home currentCell currentConnector putCell putConnectors typed setType configuredState configured setConfig statedAs stated setState wired setSlots setConnectorType setSource configShown stateAs presetTable settingOf offered readNow readLast named turnAt outputsBelow turned tick permittedBase badPlace badCellType badConnectorType badClock badConfig unusedSlot badAddress noConfig badStateAs badState noState frontDriven validSlot validSlots validCell validConnector every valid bigEndian cellField connectorField fieldsFrom encode bigValue cellIn connectorIn normalCell recordOf sameBytes loadNumberAs loadedAs loadNumber loaded isWord isWhole toEnd slotOf gave give pairRead pairsOf writeOf ccaWrite ccaRead ccaForm slotForm ccbForm readOf readForm cardForm plainForm addressed parse alone refusal slotIndex changed changeFor responseTo decision decisionFor lineDecision lineOutcome replyOf kindAt sourceAt withKind withSource each fromEach wellFormed drivenWord levelsFrom pulledWord countOf pulls sharedLevels sharedTick pushes draw sameKinds sumOf over anyLarge startNumber startedRow lowLines ticksFrom tickNumber tickedRow rowAnswers rowOutcome linedRow rowLoadNumber loadedRow rowReply rowSaved afterCall answer answersOf counted talliedBy endOf sessions supplySession overSession fourSession idleSession driverSession apartSession startSession noRackSessions tallyRows lineTo accepted said refused tickOn tickOf ran ticked pair recordWith
+unfolding presetCell presetSource setsFront preset bytesOf ones onesIn withBit wordOf bitAt listed valueBy isDigit digitsOf leads plain numberIn numberAt decimalFrom decimal rowOf slotsOf taken raised workAs workOut stirredAs stirred disagree wakes levelAt readsLevels reads slotsRead mixed view effectiveSample linesOf move setTrigger home currentCell currentConnector putCell putConnectors typed setType configuredState configured setConfig statedAs stated setState wired setSlots setConnectorType setSource configShown stateAs presetTable settingOf offered readNow readLast named turnAt outputsBelow turned tick permittedBase badPlace badCellType badConnectorType badClock badConfig unusedSlot badAddress noConfig badStateAs badState noState frontDriven validSlot validSlots validCell validConnector every valid bigEndian cellField connectorField fieldsFrom encode bigValue cellIn connectorIn normalCell recordOf sameBytes loadNumberAs loadedAs loadNumber loaded isWord isWhole toEnd slotOf gave give pairRead pairsOf writeOf ccaWrite ccaRead ccaForm slotForm ccbForm readOf readForm cardForm plainForm addressed parse alone refusal slotIndex changed changeFor responseTo decision decisionFor lineDecision lineOutcome replyOf kindAt sourceAt withKind withSource each fromEach wellFormed drivenWord levelsFrom pulledWord countOf pulls sharedLevels sharedTick pushes draw sameKinds sumOf over anyLarge startNumber startedRow lowLines ticksFrom tickNumber tickedRow rowAnswers rowOutcome linedRow rowLoadNumber loadedRow rowReply rowSaved afterCall answer answersOf counted talliedBy endOf sessions supplySession overSession fourSession idleSession driverSession apartSession startSession noRackSessions tallyRows lineTo said refused accepts loads starts tickOn tickOf ran ticked ticks recordWith
 computed = (refl, refl)
