@@ -4,32 +4,27 @@
 //     line C R TEXT         a line to card C with a reply buffer of R bytes, up to 99          the number, the reply's length and the reply
 //     load C RECORD         a load of a record in hex to card C, - for no bytes                                 the number
 //     tick CODE F|Q ..      a tick: sample and attached of the backplane, then of each front   the number, and where it is 0 the answers
-// A line of another form, and one of more than 640 bytes, prints `?`. Bytes after the last LF are dropped, and the program says so.
+// A line of another form, and one of more than 640 bytes, prints `?`, and the error output says what form was expected. Bytes after the last LF are dropped,
+// and the program says so.
 //
-// The cards are held by value, and lent as a row for each pass over them (rack::held::on_row). What is done then is done by the functions that the calls on
-// a lent row are made of (rack::row::each, rack::job).
+// The cards are held by value, and lent as a row for each order to them (rack::held::on_row): a start, a tick, and the look at the row that a line and a load
+// begin with. What those do to their card is done by the functions that the calls on a lent row are made of (rack::job).
 mod fields;
-mod forms;
 
 ghost use Prim.Native.Nat.{_≤_};
 ghost use lib.ListN.{length};
 use card::card::Card;
 use card::limits::LARGE;
 use card::limits::SMALL;
+use fields::RECORD;
 use fields::REPLY;
 use fields::at;
-use fields::behind;
-use fields::bytes_at;
-use fields::bytes_behind;
 use fields::digit;
-use fields::front_at;
-use fields::hex_at;
-use fields::number;
-use forms::is_line;
-use forms::is_load;
-use forms::is_rack;
-use forms::is_start;
-use forms::is_tick;
+use fields::fronts_in;
+use fields::number_at;
+use fields::pair_at;
+use fields::record_at;
+use fields::starts;
 use input::BLOCK;
 use input::Reader;
 use input::least;
@@ -37,6 +32,7 @@ use input::next_line;
 use libc::STDERR_FILENO;
 use libc::STDOUT_FILENO;
 use rack::held::HELD;
+use rack::held::Held;
 use rack::held::on_row;
 use rack::job::Taken;
 use rack::job::line_in;
@@ -45,12 +41,11 @@ use rack::job::place_of;
 use rack::job::taken_by;
 use rack::pass::Pass;
 use rack::pass::RackInput;
-use rack::pass::acting;
 use rack::pass::look_order;
-use rack::pass::looking;
 use rack::pass::start_card;
 use rack::pass::start_order;
 use rack::pass::tick_order;
+use saved::record::Loaded;
 use saved::record::RECORD_LENGTH;
 use ticks::tick::Answer;
 
@@ -64,11 +59,10 @@ const LONGEST: usize = 640;
 
 const BUFFER: usize = KEPT + BLOCK;
 
-// The cards, how many of them are the row, and the pass that is on its way.
+// The cards, and how many of them are the row.
 struct Rig {
     cards: [Card; ROOM],
     n: usize,
-    pass: Pass,
 }
 
 fn put(text: &[u8]) {
@@ -79,42 +73,12 @@ fn put_number(v: u64) {
     io::print_decimal(STDOUT_FILENO, v);
 }
 
-// ---- the row, by value
+// ---- the row
 
-// A pass over the cards, which are lent for it as a row.
-fn passed(rig: Rig) -> Rig {
-    if ROOM < rig.n {
-        return rig;
-    }
+// An order to the cards, which are lent for it as a row.
+fn ordered(rig: Rig, order: Pass) -> Held {
     let cards = rig.cards;
-    let pass = rig.pass;
-    let h = on_row(cards, rig.n, pass);
-    let next = h.cards;
-    let after = h.pass;
-    Rig {
-        cards: next,
-        n: rig.n,
-        pass: after,
-    }
-}
-
-fn with_pass(rig: Rig, pass: Pass) -> Rig {
-    let cards = rig.cards;
-    Rig {
-        cards: cards,
-        n: rig.n,
-        pass: pass,
-    }
-}
-
-fn looked(rig: Rig, order: Pass) -> Rig {
-    passed(with_pass(rig, looking(order, rig.n)))
-}
-
-fn acted(rig: Rig, order: Pass) -> Rig {
-    let seen = looked(rig, order);
-    let p = seen.pass;
-    passed(with_pass(seen, acting(p)))
+    on_row(cards, least(rig.n, ROOM), order)
 }
 
 fn card_of(rig: Rig, i: usize) -> Card {
@@ -137,21 +101,40 @@ fn with_card(rig: Rig, i: usize, card: Card) -> Rig {
     }
     let mut cards = rig.cards;
     cards[i] = card;
-    let pass = rig.pass;
     Rig {
         cards: cards,
         n: rig.n,
-        pass: pass,
     }
+}
+
+// What a line or a load to the card of a number needs of the row.
+fn taken_from(rig: Rig, number: usize) -> Taken {
+    let h = ordered(rig, look_order());
+    let p = h.pass;
+    taken_by(p, number)
 }
 
 // ---- the calls
 
-fn made(line: &[u8]) -> Rig {
+// A line of another form: what was expected is said on the error output.
+fn refused(rig: Rig, form: &[u8]) -> Rig {
+    put(b"?\n");
+    io::write_all(STDERR_FILENO, b"plrack: a line is refused: ");
+    io::write_all(STDERR_FILENO, form);
+    io::write_all(STDERR_FILENO, b"\n");
+    rig
+}
+
+fn made(rig: Rig, line: &[u8]) -> Rig {
+    let n = digit(at(line, 5)) as usize;
+    let large = (at(line, 6) == b' ') & ((at(line, 7) == b'3') & (at(line, 8) == b'2'));
+    let end = (line.len() == 6) | (large & (line.len() == 9));
+    if !((n <= ROOM) & end) {
+        return refused(rig, b"rack N, or rack N 32, with N from 0 to 5");
+    }
     let fresh = card::card::fresh_of(SMALL);
-    let n = (digit(at(line, 5)) % 16) as usize;
     let mut cards = [fresh; ROOM];
-    if at(line, 7) == b'3' {
+    if large {
         if 0 < n {
             if n <= ROOM {
                 cards[n - 1] = card::card::fresh_of(LARGE);
@@ -159,20 +142,22 @@ fn made(line: &[u8]) -> Rig {
         }
     }
     put(b"ok\n");
-    let pass = look_order();
-    Rig {
-        cards: cards,
-        n: n,
-        pass: pass,
-    }
+    Rig { cards: cards, n: n }
 }
 
-fn start(rig: Rig) -> Rig {
-    let next = acted(rig, start_order());
-    let p = next.pass;
+fn start(rig: Rig, line: &[u8]) -> Rig {
+    if line.len() != 5 {
+        return refused(rig, b"start, and nothing after it");
+    }
+    let h = ordered(rig, start_order());
+    let p = h.pass;
     put_number(p.k as u64);
     put(b"\n");
-    next
+    let cards = h.cards;
+    Rig {
+        cards: cards,
+        n: rig.n,
+    }
 }
 
 fn put_word(v: u32) {
@@ -210,39 +195,39 @@ fn put_answers(p: Pass, n: usize) {
     }
 }
 
-// As many fronts as the line has words for; a number that is no rack's where it has more.
-fn fronts_in(line: &[u8]) -> u8 {
-    if line.len() < 14 {
-        return 255;
-    }
-    if 100 <= line.len() {
-        return 255;
-    }
-    ((line.len() - 14) / 6) as u8
-}
-
 fn tick(rig: Rig, line: &[u8]) -> Rig {
-    let fronts = [
-        front_at(line, 15),
-        front_at(line, 21),
-        front_at(line, 27),
-        front_at(line, 33),
-    ];
+    let code = digit(at(line, 5));
+    let kind = at(line, 7);
+    let back = pair_at(line, 8);
+    let all = fronts_in(line);
+    let head = ((code < 10) & (at(line, 6) == b' ')) & ((kind == b'F') | (kind == b'Q'));
+    if !(head & (back.ok & all.ok)) {
+        return refused(
+            rig,
+            b"tick CODE F, or tick CODE Q, then sample and attached of the backplane and of each front, two digits in hex each",
+        );
+    }
+    let shared = back.front;
+    let fronts = all.fronts;
     let input = RackInput {
-        code: digit(at(line, 5)),
-        sample: hex_at(line, 9),
-        attached: hex_at(line, 12),
-        count: fronts_in(line),
+        code: code,
+        sample: shared.sample,
+        attached: shared.attached,
+        count: all.count,
         fronts: fronts,
     };
-    let next = acted(rig, tick_order(at(line, 7) == b'F', input));
-    let p = next.pass;
+    let h = ordered(rig, tick_order(kind == b'F', input));
+    let p = h.pass;
     put_number(p.k as u64);
     if p.k == 0 {
-        put_answers(p, next.n);
+        put_answers(p, rig.n);
     }
     put(b"\n");
-    next
+    let cards = h.cards;
+    Rig {
+        cards: cards,
+        n: rig.n,
+    }
 }
 
 // A reply without its CR and LF.
@@ -264,61 +249,72 @@ fn put_reply(k: u8, len: usize, reply: &[u8]) {
 }
 
 // The card after the line; what it answers is printed.
-fn answered(t: Taken, text: &[u8], reply: &mut [u8]) -> Card {
+fn answered(t: Taken, card: Card, text: &[u8], reply: &mut [u8]) -> Card {
     let mut store = [0u8; RECORD_LENGTH];
-    let a = line_in(t, text, reply, &mut store);
+    let a = line_in(t, card, text, reply, &mut store);
     put_reply(a.k, a.len, reply);
     a.card
 }
 
 fn line_to(rig: Rig, line: &[u8]) -> Rig {
-    let card = number(line, 5);
-    let second = behind(line, 5);
-    let room = least(number(line, second), REPLY);
-    let from = least(behind(line, second), line.len());
-    let seen = looked(rig, look_order());
-    let p = seen.pass;
-    let t = taken_by(p, card, card_of(seen, place_of(card)));
+    let number = number_at(line, 5);
+    let room = number_at(line, number.next);
+    if !(number.ok & room.ok) {
+        return refused(rig, b"line CARD ROOM TEXT, with two numbers in decimals");
+    }
+    let from = least(room.next, line.len());
+    let size = least(room.value, REPLY);
+    let i = place_of(number.value);
+    let t = taken_from(rig, number.value);
     let mut reply = [0u8; REPLY];
-    let c = answered(t, &line[from..], &mut reply[0..room]);
-    with_card(seen, place_of(card), c)
+    let c = answered(t, card_of(rig, i), &line[from..], &mut reply[0..size]);
+    with_card(rig, i, c)
+}
+
+fn loaded(t: Taken, card: Card, bytes: [u8; RECORD], len: usize) -> Loaded {
+    let n = least(len, RECORD);
+    load_in(t, card, &bytes[0..n])
 }
 
 fn load(rig: Rig, line: &[u8]) -> Rig {
-    let card = number(line, 5);
-    let from = least(behind(line, 5), 100);
-    let seen = looked(rig, look_order());
-    let p = seen.pass;
-    let t = taken_by(p, card, card_of(seen, place_of(card)));
-    let bytes = bytes_at(line, from);
-    let len = bytes_behind(line, from);
-    let r = load_in(t, &bytes[0..len]);
+    let number = number_at(line, 5);
+    let record = record_at(line, least(number.next, 100));
+    if !(number.ok & record.ok) {
+        return refused(
+            rig,
+            b"load CARD RECORD, with the record's bytes in hex, or - for none",
+        );
+    }
+    let i = place_of(number.value);
+    let t = taken_from(rig, number.value);
+    let bytes = record.bytes;
+    let r = loaded(t, card_of(rig, i), bytes, record.len);
     put_number(r.k as u64);
     put(b"\n");
     let c = r.card;
-    with_card(seen, place_of(card), c)
+    with_card(rig, i, c)
 }
 
 fn call(rig: Rig, line: &[u8]) -> Rig {
-    if line.len() <= LONGEST {
-        if is_rack(line) {
-            return made(line);
-        }
-        if is_start(line) {
-            return start(rig);
-        }
-        if is_tick(line) {
-            return tick(rig, line);
-        }
-        if is_line(line) {
-            return line_to(rig, line);
-        }
-        if is_load(line) {
-            return load(rig, line);
-        }
+    if LONGEST < line.len() {
+        return refused(rig, b"at most 640 bytes");
     }
-    put(b"?\n");
-    rig
+    if starts(line, b"rack ") {
+        return made(rig, line);
+    }
+    if starts(line, b"start") {
+        return start(rig, line);
+    }
+    if starts(line, b"tick ") {
+        return tick(rig, line);
+    }
+    if starts(line, b"line ") {
+        return line_to(rig, line);
+    }
+    if starts(line, b"load ") {
+        return load(rig, line);
+    }
+    refused(rig, b"a call begins with rack, start, line, load or tick")
 }
 
 // The call that a reader has given, if it has given one.
@@ -346,12 +342,7 @@ fn run(input: i32) {
     let mut line = [0u8; KEPT];
     let fresh = start_card();
     let cards = [fresh; ROOM];
-    let pass = look_order();
-    let mut rig = Rig {
-        cards: cards,
-        n: 0,
-        pass: pass,
-    };
+    let mut rig = Rig { cards: cards, n: 0 };
     let mut r = input::start();
     while r.left > 0 && r.going {
         r = next_line(r, input, &mut block, &mut line);

@@ -15,9 +15,6 @@ abbrev μ-loop : tie.MeasureT-loop
 start-card-requires : tie.Need-start-card-requires Inv-loop μ-loop
 start-card-requires c κs = search needs
 
-look-order-requires : tie.Need-look-order-requires Inv-loop μ-loop
-look-order-requires c κs = search needs
-
 start-requires : tie.Need-start-requires Inv-loop μ-loop
 start-requires c κs = search needs
 
@@ -58,7 +55,6 @@ run-spec =
     Inv-loop
     μ-loop
     start-card-requires
-    look-order-requires
     start-requires
     loop-holds
     slice-aggregate-next-line
