@@ -107,10 +107,11 @@ fn with_card(rig: Rig, i: usize, card: Card) -> Rig {
     }
 }
 
-// What a line or a load to the card of a number needs of the row.
+// What a line or a load to the card of a number needs of the row. An order ends with its place at the first card; all of the row was looked at.
 fn taken_from(rig: Rig, number: usize) -> Taken {
     let h = ordered(rig, look_order());
-    let p = h.pass;
+    let mut p = h.pass;
+    p.at = rig.n;
     taken_by(p, number)
 }
 
