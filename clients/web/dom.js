@@ -33,6 +33,22 @@ export function put(element, html) {
   return true;
 }
 
+// The same of rows, each one element: those that are as they were stay; where many are others, all are put in.
+const shownRows = new WeakMap();
+export function putRows(element, rows) {
+  const before = shownRows.get(element) ?? [];
+  const changed = rows.flatMap((html, i) => (html === before[i] ? [] : [i]));
+  shownRows.set(element, [...rows]);
+  if (before.length !== rows.length || changed.length > rows.length / 2) element.innerHTML = rows.join('');
+  else for (const i of changed) element.children[i].outerHTML = rows[i];
+}
+
+// A row that somebody has changed is not as it was shown.
+export function forgetRow(element, row) {
+  const rows = shownRows.get(element);
+  if (rows) rows[[...element.children].indexOf(row)] = null;
+}
+
 export const capital = (text) => text[0].toUpperCase() + text.slice(1);
 
 export const count = (n, noun) => `${n} ${noun}${n === 1 ? '' : 's'}`;

@@ -7,7 +7,7 @@ import { FIRST_CONNECTOR, truthTable, runSession, isRemark, isTick, bitOf } from
 import { isHintOn, withoutNumber } from './words.js';
 import { PLACES, TRIGGER, isCell, nameOf, catalogueOf, FIXED_BASE } from './wire.js';
 import { state, view, programs, wired, wiredStates, rewire, setState, openForm, toggleBit, change } from './state.js';
-import { byId, escapeText, notice } from './dom.js';
+import { byId, escapeText, forgetRow, notice, put, putRows } from './dom.js';
 
 const HOWS = [[0, 'high'], [64, 'low'], [128, 'rises'], [192, 'falls']];
 const EVERY_TICK = 192;
@@ -93,15 +93,15 @@ function typeOptions(part, free) {
   return (free ? option(0, 'free: choose its type', true) : '') + groups.map((g) => group(g, form.kinds.filter((k) => k.kind === g && types[k.type]).map((k) => option(k.type, types[k.type].name, k.type === part.type)))).join('');
 }
 
-const row = (label, html, help = '') => `<div class="field"><span class="label-of">${label}</span>${html}</div>${help}`;
+const row = (label, html, help = '') => `<div class="form-row"><div class="field"><span class="label-of">${label}</span>${html}</div>${help}</div>`;
 
 function cellForm(place, part, parts) {
   const { configuration, slots, state: kept } = catalogue().types[part.type];
   const free = isFree(part, place, parts);
   const help = free ? '' : `<p class="does">${escapeText(form.kinds.find((k) => k.type === part.type)?.text ?? '')}</p>`;
   const its = Object.entries(slots).map(([s, { name, edge }]) => row(slotLabel(s, name), addressHtml(s, `${s} ${name}`, part.slots[s], edge, parts)));
-  return row('type', choice('type', 'Type of the cell', typeOptions(part, free)), help) + (configuration ? configurationHtml(part, configuration, slots, free) : '') + its.join('')
-    + (configuration?.name === 'code' ? tableHtml(part) : '') + (kept ? stateHtml(place, kept) : '');
+  return [row('type', choice('type', 'Type of the cell', typeOptions(part, free)), help), configuration && configurationHtml(part, configuration, slots, free), ...its,
+    configuration?.name === 'code' && tableHtml(part), kept && stateHtml(place, kept)];
 }
 
 // What the cell keeps, as it is in front of the tick that is looked at.
@@ -143,21 +143,23 @@ function connectorForm(place, part, parts) {
   const { level } = form.connectors[part.type];
   const source = part.type === 0 ? '' : row('source', addressHtml('source', 'source', part.configuration, false, parts), `<p class="does">${escapeText(form.drives)}</p>`);
   const attached = bitOf(state.attached, place - FIRST_CONNECTOR);
-  return row('type', choice('type', 'Type of the connector', types), `<p class="does">Its level: ${escapeText(level)}.</p>`) + source
-    + row('next tick', `<label class="attached"><input type="checkbox" data-form="attached" ${attached ? 'checked' : ''}> something is attached</label>`);
+  return [row('type', choice('type', 'Type of the connector', types), `<p class="does">Its level: ${escapeText(level)}.</p>`), source,
+    row('next tick', `<label class="attached"><input type="checkbox" data-form="attached" ${attached ? 'checked' : ''}> something is attached</label>`)];
 }
 
 const hintsOf = (place) => view.hints.filter((h) => isHintOn(h, nameOf(place)));
 
+// The frame of the form, and its rows.
 function formHtml() {
   const { parts } = wired();
   const place = state.form;
-  const body = isCell(place) ? cellForm(place, parts[place], parts) : connectorForm(place, parts[place], parts);
+  const rows = isCell(place) ? cellForm(place, parts[place], parts) : connectorForm(place, parts[place], parts);
   const said = state.formSaid ? `<p class="bad said" role="alert">${escapeText(state.formSaid)}</p>` : '';
   const hints = hintsOf(place).map((h) => `<p class="hinted said">${escapeText(h)}</p>`).join('');
-  return `<div class="form-head">${choice('place', 'Cell or connector', placeOptions(place, parts))}<span class="grow"></span>
+  const frame = `<div class="form-head">${choice('place', 'Cell or connector', placeOptions(place, parts))}<span class="grow"></span>
     <button type="button" data-form="remove" title="takes its lines away">Clear</button> <button type="button" data-form="close" aria-label="Close the form">Close</button></div>
-    <fieldset ${state.cover?.exercise ? 'disabled' : ''}>${body}</fieldset>${said}${hints}`;
+    <fieldset ${state.cover?.exercise ? 'disabled' : ''}></fieldset>${said}${hints}`;
+  return { frame, rows: rows.filter(Boolean) };
 }
 
 // Drawn anew only where it is another: a choice that is open stays open. What has the focus keeps it; but a choice that was made with the pointer lets it go,
@@ -165,12 +167,13 @@ function formHtml() {
 export function showForm() {
   const box = byId('form');
   box.hidden = !state.form;
-  const html = state.form ? formHtml() : '';
-  if (showForm.html === html) return;
+  if (!state.form) return;
   const active = document.activeElement?.closest?.('#form [data-form]');
-  box.innerHTML = html;
-  showForm.html = html;
-  if (active && !(form.byPointer && active.matches('select'))) (box.querySelector(`[data-form="${active.dataset.form}"]`) ?? box.querySelector('[data-form=place]'))?.focus();
+  const { frame, rows } = formHtml();
+  put(box, frame);
+  putRows(box.querySelector('fieldset'), rows);
+  if (!active || active.isConnected || (form.byPointer && active.matches('select'))) return;
+  (box.querySelector(`[data-form="${active.dataset.form}"]`) ?? box.querySelector('[data-form=place]'))?.focus();
 }
 
 // Opened by a key, it takes the focus; closed, it gives it back to what shows the same part.
@@ -267,7 +270,15 @@ export function listenToForm() {
   document.addEventListener('pointerdown', () => { form.byPointer = true; }, true);
   document.addEventListener('keydown', () => { form.byPointer = false; }, true);
   box.addEventListener('submit', (e) => e.preventDefault());
-  box.addEventListener('change', (e) => e.target.matches('select, input') && chosen(e.target));
+  box.addEventListener('change', (e) => {
+    if (!e.target.matches('select, input')) return;
+    // what was chosen is shown only if it was written
+    const changed = e.target.closest('.form-row');
+    if (changed) forgetRow(changed.parentElement, changed);
+    if (form.byPointer && e.target.matches('select')) e.target.blur();
+    chosen(e.target);
+    showForm();
+  });
   box.addEventListener('click', (e) => {
     const button = e.target.closest('button');
     const [what] = button?.dataset.form.split(' ') ?? [];

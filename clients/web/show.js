@@ -8,7 +8,7 @@ import { showForm, hintedInForm } from './form.js';
 import { showTabs, showPanel } from './panel.js';
 import { showDiagram, columnOf, placeColumn, scrollToColumn, whereWords } from './timing.js';
 import { checkedCount } from './exercise.js';
-import { boxOf, byId, capital, count, escapeText, put, scrollTo } from './dom.js';
+import { boxOf, byId, capital, count, escapeText, put, putRows, scrollTo } from './dom.js';
 
 const REFUSALS_WAIT = 700;
 const RUNNING_WAIT = 150; // so that a short run in the worker does not make the page flicker
@@ -103,8 +103,8 @@ function drawAnswers() {
   answered.last = Math.min(view.session.entries.length, bottom + LINES_AROUND);
   const entries = view.session.entries.slice(answered.first, answered.last);
   const own = new Set(state.form ? linesOf(wired(), state.form) : []);
-  put(byId('gutter'), entries.map((e) => `<div class="${e.covered ? '' : e.kind}${own.has(e.index) ? ' own' : ''}">${e.index + 1}</div>`).join(''));
-  put(byId('answers'), entries.map(answerRow).join(''));
+  putRows(byId('gutter'), entries.map((e) => `<div class="${e.covered ? '' : e.kind}${own.has(e.index) ? ' own' : ''}">${e.index + 1}</div>`));
+  putRows(byId('answers'), entries.map(answerRow));
   for (const id of ['gutter', 'answers']) byId(id).style.paddingTop = `${answered.first * lineHeight()}px`;
 }
 

@@ -3,7 +3,7 @@
 import { drawWaves, drawGuess, drawMisses, columnWidthFor, widthToFit, nextZoom, nearZoom, widthOf, rowHeight, HEAD_HEIGHT } from './diagram.js';
 import { placeOf } from './wire.js';
 import { state, view, select } from './state.js';
-import { boxOf, byId, count, escapeText, msWords, put, scrollTo } from './dom.js';
+import { boxOf, byId, count, escapeText, msWords, put, putRows, scrollTo } from './dom.js';
 
 const COLUMNS_AROUND = 60;
 export const diagram = { column: columnWidthFor(0, 0), from: 0, to: 0 }; // the width of a column, and which columns are drawn
@@ -16,7 +16,7 @@ export function showDiagram() {
   const { session, rows } = view;
   diagram.column = state.zoom ?? columnWidthFor(session.ticks.length, roomForColumns());
   byId('plot').style.width = `${widthOf(session.ticks.length, diagram.column)}px`;
-  put(byId('label-rows'), rows.map(labelHtml).join(''));
+  putRows(byId('label-rows'), rows.map(labelHtml));
   put(byId('legend'), legendHtml(session));
   byId('waves').classList.toggle('empty', session.ticks.length === 0);
   showRows(rows);

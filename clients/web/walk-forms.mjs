@@ -184,10 +184,10 @@ export async function typesFast(page) {
   await page.click('#connectors [data-place="35"]');
   await choose(page, 'place', 1);
   const times = await page.evaluate(`(async () => { const t = document.getElementById('text'); t.focus(); const times = []; const at = t.value.indexOf('Z=20') + 4;
-    for (let i = 0; i < 16; i += 1) { t.setSelectionRange(at + i % 2, at + i % 2); await new Promise((r) => setTimeout(r, 30)); const from = performance.now();
+    for (let i = 0; i < 40; i += 1) { t.setSelectionRange(at + i % 2, at + i % 2); await new Promise((r) => setTimeout(r, 30)); const from = performance.now();
       document.execCommand(i % 2 ? 'delete' : 'insertText', false, '1'); document.body.offsetHeight; times.push(performance.now() - from); } return times; })()`);
   const best = Math.min(...times);
-  console.log(`typing  ${Math.round(best)} ms a keystroke at 500 ticks with form and drawing open, ${Math.round(times.toSorted((a, b) => a - b)[8])} ms in the middle`);
+  console.log(`typing  ${Math.round(best)} ms a keystroke at 500 ticks with form and drawing open, ${Math.round(times.toSorted((a, b) => a - b)[20])} ms in the middle`);
   expect('a keystroke is shown within 50 ms', best < 50, true);
   await leaveLines(page);
   await page.click('#form [data-form=close]');
