@@ -9,7 +9,7 @@ import os from 'node:os';
 import path from 'node:path';
 import { pathToFileURL } from 'node:url';
 import { TOP } from './make.mjs';
-import { modulesIn, comparePage, compareModules, compareBytes, compareRandom, compareRecords, compareStored, compareReading, compareForms } from './compare.mjs';
+import { modulesIn, comparePage, compareModules, compareBytes, compareRandom, compareRecords, compareStored, compareReading, compareAnswers, compareForms } from './compare.mjs';
 import { openChromium, openFirefox } from './driver.mjs';
 import { expect, tally } from './expect.mjs';
 import * as walk from './walk.mjs';
@@ -71,6 +71,7 @@ try {
     if (modules.plsave) compareRecords(modules);
     compareStored(modules);
     compareReading(modules);
+    if (modules.plreach) compareAnswers();
     compareForms(modules);
   }
   if (!words.includes('--no-browser')) await drive(openChromium, '', (name) => name in modules);

@@ -5,6 +5,7 @@ import { spawnSync } from 'node:child_process';
 import { runBytes, programsOf } from './programs.js';
 import { runSession, cardAfter, splitLines, asInput, truthTable } from './session.js';
 import { told } from './words.js';
+import { questionIn, questionText, readAnswers, tickCount, verdictIn } from './reach.js';
 import { TOP, PROGRAMS, makePage } from './make.mjs';
 import { catalogueOf, tried, rewired, retriggered, restated } from './wire.js';
 import { randomLines, randomWiring, randomPart, randomSetting } from './random.mjs';
@@ -143,6 +144,25 @@ export function compareReading(modules) {
   expect('34953 tried on the card', rows, [0, 3, 7, 11, 15]);
   expect('fresh card', cardAfter(programs, []).connectors.slice(7, 9).map((c) => c.words), ['push-pull from 0, always low', 'input']);
   console.log(`reading ${files.length} stored inputs, 12000 random lines`);
+}
+
+// ---- questions
+
+// plreach's stored questions: each has its answer, and a witness as many ticks as the answer says. Cut anywhere, what plreach wrote reads as the beginning of it.
+export function compareAnswers() {
+  const read = (name) => fs.readFileSync(path.join(TOP, 'crates', 'plreach', name), 'latin1');
+  const questions = read('stdin').split('\n\n').slice(1).join('\n').split('\n').filter(Boolean);
+  const text = read('stdout');
+  const { answers } = readAnswers(text, questions);
+  expect('every question has its answer', answers.map((a) => a.question), questions);
+  for (const a of answers) expect(`the ticks of ${a.question}`, tickCount(a), Number(a.said.match(/, tick (\d+) shows it/)?.[1] ?? 0));
+  const begun = [...text].map((_, n) => readAnswers(text.slice(0, n), questions).answers.slice(0, -1));
+  expect('cut anywhere', begun.filter((found) => found.some((a, i) => a.said !== answers[i].said)).length, 0);
+  const forms = questions.map(questionIn).filter(Boolean).map(questionText);
+  expect('what the form understands it writes as it was', forms.filter((q) => !questions.includes(q)), []);
+  const long = readAnswers('never cell 1: yes, tick 5 shows it\nT 0 0100 ffff Q\nT 0 0000 ffff Q\n4 times\n1 promise: 0 kept, 1 broken, 0 not known\n', ['never cell 1']);
+  expect('a long witness', [tickCount(long.answers[0]), long.summary, verdictIn(long.answers[0])], [5, '1 promise: 0 kept, 1 broken, 0 not known', 'broken']);
+  console.log(`answers ${questions.length} stored questions`);
 }
 
 // ---- forms

@@ -16,17 +16,20 @@ export const reachInput = (wiring, questions) => `${asInput(wiring)}\n${asInput(
 // { refused, answers: one for each question that was begun, summary }. It may be read while plreach is still writing.
 export function readAnswers(text, questions) {
   const read = { refused: [], answers: [], summary: '' };
-  for (const line of text.split('\n')) {
+  const lines = text.split('\n');
+  lines.forEach((line, i) => {
     const next = questions[read.answers.length];
     const answer = read.answers.at(-1);
-    if (next !== undefined && line.startsWith(`${next}: `)) read.answers.push({ question: next, said: line.slice(next.length + 2), ticks: [], notes: [] });
+    const begins = next !== undefined && line.startsWith(`${next}: `);
+    if (i === lines.length - 1 && !begins) return; // not written to its end yet
+    if (begins) read.answers.push({ question: next, said: line.slice(next.length + 2), ticks: [], notes: [] });
     else if (SUMMARY.test(line)) read.summary = line;
     else if (!answer) {
       if (line) read.refused.push(line);
     } else if (TICK.test(line)) answer.ticks.push({ line, times: 1 });
     else if (TIMES.test(line) && answer.ticks.length) answer.ticks.at(-1).times = Number(line.match(TIMES)[1].replaceAll(',', ''));
     else if (line) answer.notes.push(line);
-  }
+  });
   return read;
 }
 
