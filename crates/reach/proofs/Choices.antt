@@ -20,7 +20,8 @@ use Rattle.cells.specs.Table.{rowOf}
 use Rattle.cells.specs.Work.{pulses}
 use Rattle.card.specs.declared.card.Card.{Card}
 use Rattle.ticks.specs.Runs.{cellAt}
-use Rattle.reach.specs.Rows.{capOf, openBy, liftedBy, capAt, wordAt, rowMemory, rowCell, openAt, rowCard}
+use Rattle.reach.specs.declared.rows.Form.{Form}
+use Rattle.reach.specs.Rows.{capOf, openBy, liftedBy, capAt, wordIn, countAt, memoryIn, rowCell, openAt, rowCard}
 
 -- ---- words within a word
 
@@ -115,11 +116,11 @@ and-open true true x y z = refl
 and-open true false x y z = refl
 and-open false b x y z = refl
 
-row-chosen : (n : ℕ) (c : Card) (caps : List ℕ) (choice : ℕ) (rows : List ℕ) (row : ℕ)
-    → rowCard n c caps (bitAnd choice (wordOf (openAt c caps rows row) n)) rows row ≡ rowCard n c caps choice rows row
+row-chosen : (n : ℕ) (c : Card) (form : Form) (choice : ℕ) (rows : List ℕ) (row : ℕ)
+    → rowCard n c form (bitAnd choice (wordOf (openAt c form rows row) n)) rows row ≡ rowCard n c form choice rows row
 unfolding rowCard
-row-chosen n c caps choice rows row =
-    let m = wordOf (openAt c caps rows row) n in
+row-chosen n c form choice rows row =
+    let m = wordOf (openAt c form rows row) n in
     let with : List Cell → Card = λ cells.
     record {
       pointer = c .pointer;
@@ -127,22 +128,22 @@ row-chosen n c caps choice rows row =
       cells = cells ++ drop n (c .cells);
       connectors = c .connectors;
       edited = 0;
-      memory = rowMemory rows row;
+      memory = memoryIn (form .width) rows row;
       size = c .size;
       tallies = c .tallies;
     } in
-    ap with (listed-same (rowCell c caps (bitAnd choice m) rows row) (rowCell c caps choice rows row) n (λ i h.
-    let cap = capOf (rowOf (cellAt c i .kind) .class) (capAt caps i) in
-    let w = wordAt rows row i in
+    ap with (listed-same (rowCell c form (bitAnd choice m) rows row) (rowCell c form choice rows row) n (λ i h.
+    let cap = capOf (rowOf (cellAt c i .kind) .class) (capAt (form .caps) i) in
+    let w = countAt form rows row i in
     let bit : bitAt (bitAnd choice m) i ≡ (bitAt choice i && openBy cap w) =
-    bit-and choice m i ∙ ap (λ (b : Bool). bitAt choice i && b) (bit-built (openAt c caps rows row) n i h) in
+    bit-and choice m i ∙ ap (λ (b : Bool). bitAt choice i && b) (bit-built (openAt c form rows row) n i h) in
     let counts : liftedBy cap (bitAt (bitAnd choice m) i) w ≡ liftedBy cap (bitAt choice i) w =
     ap (λ (b : Bool). liftedBy cap b w) bit ∙ and-open (openBy cap w) (bitAt choice i) (cap + 1) cap w in
-    ap (λ (k : ℕ). withState (cellAt c i) (state (pulses k) (bitAt (wordAt rows row 32) i) (bitAt (wordAt rows row 33) i))) counts))
+    ap (λ (k : ℕ). withState (cellAt c i) (state (pulses k) (bitAt (wordIn (form .width) rows row 0) i) (bitAt (wordIn (form .width) rows row 1) i))) counts))
 
 -- so the words within that of the open cells are enough
-pub all-choices : (n : ℕ) (c : Card) (caps : List ℕ) (rows : List ℕ) (row m : ℕ) (From : Card → Type 0) → m ≡ wordOf (openAt c caps rows row) n
-    → m < 2 ^ 32 → ((x : ℕ) → Within x m → From (rowCard n c caps x rows row)) → (choice : ℕ) → From (rowCard n c caps choice rows row)
-all-choices n c caps rows row m From e h all choice =
-    subst From (ap (λ (k : ℕ). rowCard n c caps (bitAnd choice k) rows row) e ∙ row-chosen n c caps choice rows row)
+pub all-choices : (n : ℕ) (c : Card) (form : Form) (rows : List ℕ) (row m : ℕ) (From : Card → Type 0) → m ≡ wordOf (openAt c form rows row) n
+    → m < 2 ^ 32 → ((x : ℕ) → Within x m → From (rowCard n c form x rows row)) → (choice : ℕ) → From (rowCard n c form choice rows row)
+all-choices n c form rows row m From e h all choice =
+    subst From (ap (λ (k : ℕ). rowCard n c form (bitAnd choice k) rows row) e ∙ row-chosen n c form choice rows row)
     (all (bitAnd choice m) (and-within choice m h))
