@@ -21,7 +21,8 @@ use Rattle.ticks.specs.Tick.{tick}
 use Rattle.ticks.specs.Rest.{AtRest, withTotal, restTotal}
 use Rattle.ticks.proofs.AtRest.{rest-card}
 use Rattle.ticks.proofs.Cases.{by-tick}
-use Rattle.steady.specs.Steady.{forever, quickTicks, countHolds, stateHolds, cellHolds, cellThrough, least, leastHolds, sameBut, steadyFrom, steadyFor, cardThrough, madeOf, advanced}
+use Rattle.steady.specs.Steady.{forever, quickTicks, countHolds, stateHolds, cellHolds, cellThrough, least, leastHolds, sameBut, steadyFrom}
+use Rattle.steady.specs.Steady.{steadyFor, cardThrough, madeOf, advanced}
 use Rattle.steady.specs.Laws.{KeepsAll, RestsForever, MakesAll, MakesSome}
 use Rattle.steady.proofs.Cards.{steady-ticks}
 use Rattle.steady.proofs.Made.{made-some}
@@ -52,7 +53,8 @@ same-self c total =
 
 -- a tick that runs answers the word that it drives
 drives : (n : ℕ) (c : Card) (input : Input) → let t = tick n false c input in t .answer .ran ≡ true → t .answer .driven ≡ t .card .memory .driven
-drives n c input = by-tick n false c input (λ t. t .answer .ran ≡ true → t .answer .driven ≡ t .card .memory .driven) (λ _ _. refl) (λ _ e. absurd (false≢true e))
+drives n c input = by-tick n false c input (λ t. t .answer .ran ≡ true
+    → t .answer .driven ≡ t .card .memory .driven) (λ _ _. refl) (λ _ e. absurd (false≢true e))
 
 through-cells : (n : ℕ) (c : Card) (t : Ticked) (m i : ℕ) → i < n
     → let a = getD (c .cells) i noCell in

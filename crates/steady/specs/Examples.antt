@@ -24,7 +24,8 @@ use Rattle.ticks.specs.Tick.{readNow, readLast, named, turnAt, outputsBelow, tu
 use Rattle.ticks.specs.Examples.{card, clock0}
 use Rattle.steady.specs.Steady.{quickTicks, countHolds, stateHolds, leastHolds, sameBut, steadyFrom, steadyFor, madeOf, advanced}
 
--- a card whose cell 1 is of a type, with a configuration, clocked in every tick (192), in the midst of its work; its output was high or low in every tick so far
+-- a card whose cell 1 is of a type, with a configuration, clocked in every tick (192), in the midst of its work; its output was high or low in every tick so
+-- far
 running : (kind config x count : ℕ) (bit out : Bool) → Card
 running kind config x count bit out =
     card (set (fresh .cells) 0 (cellOf kind config (x ∷ 192 ∷ 0 ∷ 0 ∷ []) (state (pulses count) bit false))) (cond out 1 0) 0
@@ -37,7 +38,8 @@ for : Card → ℕ
 for c = steadyFor cellCount c (clock0 0)
 
 pub record Table : Type 0 where
-  -- a delay of two hours at 4000 ticks a second goes on to its last count but one, whether its trigger is high in every tick or not; at its last count it does not
+  -- a delay of two hours at 4000 ticks a second goes on to its last count but one, whether its trigger is high in every tick or not; at its last count it
+  -- does not
   delay : for (running 15 28800000 41 28800000 false false) ≡ 28799999
   triggered : for (running 15 28800000 192 28800000 false false) ≡ 28799999
   last : for (running 15 28800000 41 1 false false) ≡ 0
@@ -64,9 +66,9 @@ pub record Table : Type 0 where
   input : steadyFor cellCount (running 15 28800000 41 28800000 false false) (clock0 256) ≡ 0
 
 steady-table : Table
-unfolding running ending for countHolds stateHolds leastHolds sameBut steadyFrom steadyFor ones onesIn bitAt wordOf listed rowOf taken raised workAs workOut stirredAs stirred
-    disagree wakes fresh levelAt readsLevels reads slotsRead mixed view effectiveSample kindAt sourceAt drivenWord pulledWord levelsFrom linesOf readNow readLast
-    named turnAt outputsBelow turned counted talliedBy tick
+unfolding running ending for countHolds stateHolds leastHolds sameBut steadyFrom steadyFor ones onesIn bitAt wordOf listed rowOf taken raised workAs workOut
+    stirredAs stirred disagree wakes fresh levelAt readsLevels reads slotsRead mixed view effectiveSample kindAt sourceAt drivenWord pulledWord levelsFrom
+    linesOf readNow readLast named turnAt outputsBelow turned counted talliedBy tick
 steady-table =
     record {
       delay = refl;
@@ -127,9 +129,9 @@ pub record Remembered : Type 0 where
   levels2 : for (remembering 0 0 0 0 0 0 0 256) ≡ 0
 
 remembered-table : Remembered
-unfolding remembering running for countHolds stateHolds leastHolds sameBut steadyFrom steadyFor ones onesIn bitAt wordOf listed rowOf taken raised workAs workOut stirredAs
-    stirred disagree wakes fresh levelAt readsLevels reads slotsRead mixed view effectiveSample kindAt sourceAt drivenWord pulledWord levelsFrom linesOf readNow
-    readLast named turnAt outputsBelow turned counted talliedBy tick
+unfolding remembering running for countHolds stateHolds leastHolds sameBut steadyFrom steadyFor ones onesIn bitAt wordOf listed rowOf taken raised workAs
+    workOut stirredAs stirred disagree wakes fresh levelAt readsLevels reads slotsRead mixed view effectiveSample kindAt sourceAt drivenWord pulledWord
+    levelsFrom linesOf readNow readLast named turnAt outputsBelow turned counted talliedBy tick
 remembered-table =
     record {
       none = refl;
@@ -179,9 +181,9 @@ pub record Ticked : Type 0 where
   tally-stands : at-once (tallied 4294967294 10) 3 ≡ (3, 1, 4294967295, 13, 1)
 
 ticked-table : Ticked
-unfolding at-once tallied running quickTicks madeOf advanced countHolds stateHolds leastHolds sameBut steadyFrom steadyFor ones onesIn bitAt wordOf listed rowOf taken raised
-    workAs workOut stirredAs stirred disagree wakes fresh levelAt readsLevels reads slotsRead mixed view effectiveSample kindAt sourceAt drivenWord pulledWord
-    levelsFrom linesOf readNow readLast named turnAt outputsBelow turned counted talliedBy tick
+unfolding at-once tallied running quickTicks madeOf advanced countHolds stateHolds leastHolds sameBut steadyFrom steadyFor ones onesIn bitAt wordOf listed
+    rowOf taken raised workAs workOut stirredAs stirred disagree wakes fresh levelAt readsLevels reads slotsRead mixed view effectiveSample kindAt sourceAt
+    drivenWord pulledWord levelsFrom linesOf readNow readLast named turnAt outputsBelow turned counted talliedBy tick
 ticked-table =
     record {
       none = refl;
