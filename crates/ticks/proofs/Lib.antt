@@ -1,5 +1,6 @@
 -- Laws of ticks that several functions or the crates above cite.
 pub mod AtRest
+pub mod Asleep
 pub mod Cases
 pub mod Counting
 pub mod Counts

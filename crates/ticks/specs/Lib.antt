@@ -3,6 +3,7 @@ pub mod Reading
 pub mod Levels
 pub mod Tick
 pub mod Rest
+pub mod Brief
 pub mod Examples
 pub mod Sizes
 pub mod RestExamples

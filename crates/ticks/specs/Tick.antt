@@ -192,8 +192,11 @@ abbrev pub ticked : (n : ℕ) → Bool → Card → Input → Ticked
 ticked n full c input = tickedOn n full c (lines n c input)
 
 -- "idle" and nothing changes; the words of an idle answer are 0
+abbrev pub idleAnswer : Answer
+idleAnswer = record { ran = false; driven = 0; cells = 0; woken = 0; count = 0 }
+
 abbrev pub idle : Card → Ticked
-idle c = record { card = c; answer = record { ran = false; driven = 0; cells = 0; woken = 0; count = 0 } }
+idle c = record { card = c; answer = idleAnswer }
 
 -- "If the code isn't the chosen trigger source the answer is "idle" and nothing changes"
 abbrev pub tickOn : (n : ℕ) → Bool → Card → (code : ℕ) → Lines → Ticked

@@ -1,4 +1,5 @@
 // Ticks of the card: what a reader sees at an address, the connectors, and the cells in order.
+pub mod brief;
 pub mod connectors;
 mod quiet;
 pub mod rest;

@@ -341,6 +341,24 @@ pub fn lines_of(card: Card, input: Input) -> Lines
     lines_in(connectors, m, input)
 }
 
+// A tick of either kind that runs with these lines, without a look whether it is quiet.
+pub fn turned_on(full: bool, card: Card, l: Lines) -> Ticked
+    ensures { λ t. ⌜ t ≡ Tick.tickedOn (cellsFor (card .size)) full card l ⌝ }
+{
+    let n = cells_for(card.size);
+    let m = seen_memory(card.memory, n);
+    turn_each(full, card, m, l, n)
+}
+
+// The lines of a card by itself, by what they depend on.
+pub fn lines_by(memory: Memory, connectors: Connectors, size: u8, input: Input) -> Lines
+    ensures { λ l. ⌜ l ≡ linesIn (cellsFor size) memory connectors (effectiveSample (input .sample) (input .attached)) ⌝ }
+{
+    let n = cells_for(size);
+    let m = seen_memory(memory, n);
+    lines_in(connectors, m, input)
+}
+
 // A tick that runs with these lines: every cell is worked out.
 pub fn full_tick_on(card: Card, l: Lines) -> Ticked
     ensures { λ t. ⌜ t ≡ Tick.tickedOn (cellsFor (card .size)) true card l ⌝ }

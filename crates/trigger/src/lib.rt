@@ -23,7 +23,12 @@ use printed::print::Printed;
 use saved::record::Loaded;
 use steady::Advanced;
 use survey::Surveyed;
+use ticks::brief::in_brief;
+use ticks::brief::no_answer;
+use ticks::tick::Answer;
 use ticks::tick::Ticked;
+use ticks::tick::lines_by;
+use ticks::tick::turned_on;
 use ticks::view::Input;
 
 // A card of sixteen cells as it powers up.
@@ -56,6 +61,43 @@ pub extern "C" fn trigger_quick_tick(card: Card, input: Input) -> Ticked
     ensures { λ t. ⌜ t ≡ tick (cellsFor (card .size)) false card input ⌝ }
 {
     ticks::tick::quick_tick(card, input)
+}
+
+// ---- the card where it sits: proved by a walk of the code. A tick of another clock is answered before
+// anything is copied.
+
+// The same as `trigger_quick_tick`, of a card that is lent. Where every cell sleeps the memory and the
+// tick total are all that is written.
+#[no_mangle]
+pub extern "C" fn trigger_quick_tick_in(card: &mut Card, input: Input) -> Answer
+    ensures { λ r. ⌜ (r ≡ tick (cellsFor (now (card .entry) .size)) false (now (card .entry)) input .answer) × (now (card .exit) ≡ tick (cellsFor (now (card .entry) .size)) false (now (card .entry)) input .card) ⌝ }
+{
+    if input.code != card.trigger {
+        return no_answer();
+    }
+    let b = in_brief(*card, input);
+    if b.quiet {
+        card.memory = b.memory;
+        card.tallies.total = b.total;
+        return b.answer;
+    }
+    let t = turned_on(false, *card, b.lines);
+    *card = t.card;
+    t.answer
+}
+
+// The same as `trigger_full_tick`, of a card that is lent.
+#[no_mangle]
+pub extern "C" fn trigger_full_tick_in(card: &mut Card, input: Input) -> Answer
+    ensures { λ r. ⌜ (r ≡ tick (cellsFor (now (card .entry) .size)) true (now (card .entry)) input .answer) × (now (card .exit) ≡ tick (cellsFor (now (card .entry) .size)) true (now (card .entry)) input .card) ⌝ }
+{
+    if input.code != card.trigger {
+        return no_answer();
+    }
+    let l = lines_by(card.memory, card.connectors, card.size, input);
+    let t = turned_on(true, *card, l);
+    *card = t.card;
+    t.answer
 }
 
 // Whether a quick tick with the input would name no cell and leave the card as it is but for the tick total. Then every tick with it does, and the clock may
