@@ -22,7 +22,8 @@ use card::limits::PUSH_PULL;
 use card::place::cells_for;
 use card::place::is_connector;
 use cells::cell::Cell;
-use cells::table::row_of;
+use cells::table::unpacked;
+use cells::table::used_of;
 use ticks::view::sees;
 
 // The number for a place that is no connector's.
@@ -60,8 +61,7 @@ fn holds(set: u64, address: u8) -> bool
 fn reads_set(cell: Cell, set: u64) -> bool
     ensures { λ r. ⌜ r ≡ readsSet (bitAt set) cell ⌝ }
 {
-    let row = row_of(cell.kind);
-    let used = row.used;
+    let used = unpacked(used_of(cell.kind));
     let s = cell.slots;
     let x = holds(set, s[0]);
     let y = holds(set, s[1]);
