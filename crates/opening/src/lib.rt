@@ -2,6 +2,8 @@
 // what it does. A word that is not understood is told, never passed over.
 //
 // A page that runs a program (clients/web) has no words, no terminal and no files. So with no word at most isatty is asked before standard input is read.
+pub mod wiring;
+
 ghost use mathlib.Core.Path.{_≡_};
 ghost use Prim.Native.Nat.{_<_};
 ghost use Rattle.opening.specs.Words.{wholeNumber, isOption, mostFrom};
