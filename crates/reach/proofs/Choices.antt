@@ -21,7 +21,7 @@ use Rattle.cells.specs.Work.{pulses}
 use Rattle.card.specs.declared.card.Card.{Card}
 use Rattle.ticks.specs.Runs.{cellAt}
 use Rattle.reach.specs.declared.rows.Form.{Form}
-use Rattle.reach.specs.Rows.{capOf, openBy, liftedBy, capAt, wordIn, countAt, memoryIn, rowCell, openAt, rowCard}
+use Rattle.reach.specs.Rows.{capOf, openBy, chosenCount, liftedBy, capAt, wordIn, countAt, memoryIn, rowCell, openAt, rowCard}
 
 -- ---- words within a word
 
@@ -111,10 +111,10 @@ and-within a m h =
 
 -- ---- the card of a row goes by the choice among its open cells
 
-and-open : (o b : Bool) (x y z : ℕ) → cond o (cond (b && o) x y) z ≡ cond o (cond b x y) z
-and-open true true x y z = refl
-and-open true false x y z = refl
-and-open false b x y z = refl
+and-open : (o b : Bool) (f : Bool → ℕ) (z : ℕ) → cond o (f (b && o)) z ≡ cond o (f b) z
+and-open true true f z = refl
+and-open true false f z = refl
+and-open false b f z = refl
 
 row-chosen : (n : ℕ) (c : Card) (form : Form) (choice : ℕ) (rows : List ℕ) (row : ℕ)
     → rowCard n c form (bitAnd choice (wordOf (openAt c form rows row) n)) rows row ≡ rowCard n c form choice rows row
@@ -138,7 +138,7 @@ row-chosen n c form choice rows row =
     let bit : bitAt (bitAnd choice m) i ≡ (bitAt choice i && openBy cap w) =
     bit-and choice m i ∙ ap (λ (b : Bool). bitAt choice i && b) (bit-built (openAt c form rows row) n i h) in
     let counts : liftedBy cap (bitAt (bitAnd choice m) i) w ≡ liftedBy cap (bitAt choice i) w =
-    ap (λ (b : Bool). liftedBy cap b w) bit ∙ and-open (openBy cap w) (bitAt choice i) (cap + 1) cap w in
+    ap (λ (b : Bool). liftedBy cap b w) bit ∙ and-open (openBy cap w) (bitAt choice i) (chosenCount cap) w in
     ap (λ (k : ℕ). withState (cellAt c i) (state (pulses k) (bitAt (wordIn (form .width) rows row 0) i) (bitAt (wordIn (form .width) rows row 1) i))) counts))
 
 -- so the words within that of the open cells are enough

@@ -7,3 +7,4 @@ pub mod Cone
 pub mod Rows
 pub mod Certificate
 pub mod Examples
+pub mod CutExamples
