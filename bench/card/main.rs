@@ -2,13 +2,17 @@
 //
 //     card CARD KIND N [show]
 //
-// CARD is fresh, counter, busy, still or wakeN (N cells wake in each tick), of sixteen cells, or with -32 behind it of thirty-two; KIND is full, quick,
-// idle (full, at a clock code that is not the card's) or none (the loop without ticks). It prints a checksum of the driven and the cell words, and how
+// CARD is fresh, counter, busy, still, delay (of hours, which runs) or wakeN (N cells wake in each tick), of sixteen cells, or with -32 behind it of thirty-two; KIND
+// is full, quick, idle (quick, at a clock code that is not the card's) or none (the loop without ticks); with plain- before it the ticks are those of the card of
+// plain.rs, each compared with the library's where `show` is given. It prints a checksum of the driven and the cell words, and how
 // many cells all ticks woke. With `show` it prints what plrun is to be given for the same wiring and ticks, and on standard error what plrun must answer
 // to the ticks.
 use std::hint::black_box;
 
 use trigger::{Answer, Card, Input};
+
+mod plain;
+use plain::Plain;
 
 // A line that must not be refused.
 fn line(card: &mut Card, text: &str) {
@@ -84,6 +88,13 @@ fn waking(n: u32, cells: u32) -> Vec<String> {
     (1..=cells).flat_map(cell).collect()
 }
 
+// A delay of two hours in cell 1, clocked in every tick; the others as `still`.
+fn delay(cells: u32) -> Vec<String> {
+    let mut lines = still(cells);
+    lines.extend(["M E=1", "36CCA Y=15", "36CCA Z=28800000", "36CCB X=192 Y=192"].map(String::from));
+    lines
+}
+
 fn show(answer: &Answer, input: Input, kind: &str) {
     let Input {
         code,
@@ -114,9 +125,10 @@ fn main() {
         _ => panic!("card CARD KIND N [show]"),
     };
     let n: u32 = n.parse().expect("a number of ticks");
+    let (by_hand, kind) = kind.strip_prefix("plain-").map_or((false, kind), |kind| (true, kind));
     let turn = match kind {
-        "full" | "idle" => Turn::Full,
-        "quick" => Turn::Quick,
+        "full" => Turn::Full,
+        "quick" | "idle" => Turn::Quick,
         "none" => Turn::None,
         _ => panic!("full, quick, idle or none"),
     };
@@ -127,20 +139,22 @@ fn main() {
         "counter" => vec!["36CCA X=4".into(), "36CCA X=19".into()],
         "busy" => busy(&mut random, cells),
         "still" => still(cells),
+        "delay" => delay(cells),
         _ => match name.strip_prefix("wake").and_then(|n| n.parse().ok()) {
             Some(n) => waking(n, cells),
-            None => panic!("fresh, counter, busy, still or wakeN"),
+            None => panic!("fresh, counter, busy, still, delay or wakeN"),
         },
     };
-    if shown {
+    if shown && !by_hand {
         lines.iter().for_each(|text| println!("{text}"));
     }
     let mut card = if cells == 32 { Card::fresh_large() } else { Card::fresh() };
     lines.iter().for_each(|text| line(&mut card, text));
+    let mut plain = Plain::of(&card);
     let moving = name == "busy";
     let code = if kind == "idle" { 9 } else { 0 };
     let (mut checksum, mut woken) = (0u32, 0u64);
-    for _ in 0..n {
+    for i in 0..n {
         let sample = if moving { random.next() as u16 } else { 0 };
         let input = Input {
             code,
@@ -148,6 +162,8 @@ fn main() {
             attached: 0xffff,
         };
         let answer = match turn {
+            Turn::Full if by_hand => plain.tick(true, input),
+            Turn::Quick if by_hand => plain.tick(false, input),
             Turn::Full => card.full_tick(input),
             Turn::Quick => card.quick_tick(input),
             Turn::None => {
@@ -157,7 +173,12 @@ fn main() {
         };
         checksum = checksum.rotate_left(1) ^ u32::from(answer.driven) << 16 ^ answer.cells;
         woken += u64::from(answer.count);
-        if shown {
+        if shown && by_hand {
+            let ours = if matches!(turn, Turn::Full) { card.full_tick(input) } else { card.quick_tick(input) };
+            // the plain card starts with all cells edited
+            let same = ours == answer || i == 0 && (ours.driven, ours.cells) == (answer.driven, answer.cells);
+            assert!(same, "{name}, tick {i}: {ours} of the library, {answer} by hand");
+        } else if shown {
             show(&answer, input, kind);
         }
     }

@@ -24,6 +24,8 @@ static void nothing(void) {}
 static void full_tick(void) { card = trigger_full_tick(card, input).card; }
 static void quick_tick(void) { card = trigger_quick_tick(card, input).card; }
 static void at_rest(void) { trigger_at_rest(card, input); }
+static void steady_for(void) { trigger_steady_for(card, input); }
+static void advance(void) { trigger_advance(card, input, 1000); }
 static void line(void)
 {
     card = trigger_line(card, (const uint8_t *)given, strlen(given), reply, sizeof reply, store, sizeof store).card;
@@ -106,6 +108,8 @@ int main(void)
         {"full tick", NULL, full_tick},
         {"quick tick", NULL, quick_tick},
         {"at rest", NULL, at_rest},
+        {"steady for", NULL, steady_for},
+        {"advance", NULL, advance},
         {"a line: M E=2", "M E=2", line},
         {"a line: 36CCB X=41 Y=192", "36CCB X=41 Y=192", line},
         {"a line: HOME E", "HOME E", line},

@@ -371,6 +371,10 @@ trigger_ticked trigger_full_tick(trigger_card card, trigger_input input);
  */
 trigger_ticked trigger_quick_tick(trigger_card card, trigger_input input);
 
+/* The same ticks of a card where it is: they change it in place, and give the answer alone. */
+trigger_answer trigger_full_tick_in(trigger_card *card, trigger_input input);
+trigger_answer trigger_quick_tick_in(trigger_card *card, trigger_input input);
+
 /*
  * Whether a quick tick with this input would work out no cell and leave the card as it is but for the count of its ticks. Then the clock may stop until something
  * else comes in.

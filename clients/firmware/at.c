@@ -12,11 +12,14 @@ typedef struct {
     uint64_t len;
 } line_result;
 
-/* The functions of the module. Each copies what it is lent first, and writes its result last. */
+/*
+ * The functions of the module. Each copies what it is lent first, and writes its result last; those whose names end in _in change the card where it is. The calls
+ * by value beside these are for x86-64 alone.
+ */
 void trigger_inner_fresh(trigger_card *card);
 void trigger_inner_fresh_large(trigger_card *card);
-void trigger_inner_full_tick(trigger_ticked *ticked, const trigger_card *card, const trigger_input *input);
-void trigger_inner_quick_tick(trigger_ticked *ticked, const trigger_card *card, const trigger_input *input);
+void trigger_inner_full_tick_in(trigger_answer *answer, trigger_card *card, const trigger_input *input);
+void trigger_inner_quick_tick_in(trigger_answer *answer, trigger_card *card, const trigger_input *input);
 bool trigger_inner_at_rest(const trigger_card *card, const trigger_input *input);
 uint32_t trigger_inner_steady_for(const trigger_card *card, const trigger_input *input);
 void trigger_inner_advance(trigger_advanced *advanced, const trigger_card *card, const trigger_input *input, uint32_t k);
@@ -29,12 +32,12 @@ void trigger_inner_read_tallies(trigger_tallies *tallies, const trigger_card *ca
 
 SAME(trigger_card, MODULE_trigger_fresh_0);
 SAME(trigger_card, MODULE_trigger_fresh_large_0);
-SAME(trigger_ticked, MODULE_trigger_full_tick_0);
-SAME(trigger_card, MODULE_trigger_full_tick_1);
-SAME(trigger_input, MODULE_trigger_full_tick_2);
-SAME(trigger_ticked, MODULE_trigger_quick_tick_0);
-SAME(trigger_card, MODULE_trigger_quick_tick_1);
-SAME(trigger_input, MODULE_trigger_quick_tick_2);
+SAME(trigger_answer, MODULE_trigger_full_tick_in_0);
+SAME(trigger_card, MODULE_trigger_full_tick_in_1);
+SAME(trigger_input, MODULE_trigger_full_tick_in_2);
+SAME(trigger_answer, MODULE_trigger_quick_tick_in_0);
+SAME(trigger_card, MODULE_trigger_quick_tick_in_1);
+SAME(trigger_input, MODULE_trigger_quick_tick_in_2);
 SAME(trigger_card, MODULE_trigger_at_rest_0);
 SAME(trigger_input, MODULE_trigger_at_rest_1);
 SAME(trigger_card, MODULE_trigger_steady_for_0);
@@ -88,18 +91,12 @@ void trigger_fresh_large_at(trigger_card *card)
 
 void trigger_full_tick_at(trigger_card *card, const trigger_input *input, trigger_answer *answer)
 {
-    trigger_ticked ticked;
-    trigger_inner_full_tick(&ticked, card, input);
-    *card = ticked.card;
-    *answer = ticked.answer;
+    trigger_inner_full_tick_in(answer, card, input);
 }
 
 void trigger_quick_tick_at(trigger_card *card, const trigger_input *input, trigger_answer *answer)
 {
-    trigger_ticked ticked;
-    trigger_inner_quick_tick(&ticked, card, input);
-    *card = ticked.card;
-    *answer = ticked.answer;
+    trigger_inner_quick_tick_in(answer, card, input);
 }
 
 bool trigger_at_rest_at(const trigger_card *card, const trigger_input *input)

@@ -1,6 +1,7 @@
 /*
  * Ticks of a card, for a count of instructions: `speed CARD KIND N` makes N ticks, of the kind full, quick, idle (of another clock), rest (asks whether the card is at
- * rest) or none. CARD is fresh, counter (presets 4 and 19), or busy: sixteen JK flip-flops that toggle in every tick.
+ * rest), steady (asks for how many ticks it is steady), advance (makes a thousand at once) or none. CARD is fresh, counter (presets 4 and 19), delay (of two hours in
+ * cell 1, which runs), or busy: sixteen JK flip-flops that toggle in every tick.
  */
 #include "bare/bare.h"
 #include "trigger.h"
@@ -27,6 +28,11 @@ static void wire(const char *name)
         line("36CCA X=4");
         line("36CCA X=19");
     }
+    if (same(name, length(name), "delay")) {
+        line("36CCA Y=15");
+        line("36CCA Z=28800000");
+        line("36CCB X=192 Y=192");
+    }
     for (size_t i = 0; i < TRIGGER_SMALL && same(name, length(name), "busy"); i++) {
         line(places[i]);
         line("36CCA Y=13");
@@ -38,12 +44,15 @@ int main(int argc, char **argv)
 {
     trigger_input input = {0, 0, 0xffff};
     trigger_answer answer = {0};
+    uint32_t steady = 0;
     uint32_t count = 0;
     if (argc != 4)
         stop(2);
     for (const char *digit = argv[3]; *digit != 0; digit++)
         count = count * 10 + (uint32_t)(*digit - '0');
     wire(argv[1]);
+    for (uint32_t i = 0; i < 3; i++)
+        trigger_quick_tick_at(&card, &input, &answer);
     for (uint32_t i = 0; i < count; i++) {
         switch (argv[2][0]) {
         case 'f':
@@ -59,9 +68,15 @@ int main(int argc, char **argv)
         case 'r':
             answer.ran = trigger_at_rest_at(&card, &input);
             break;
+        case 's':
+            steady ^= trigger_steady_for_at(&card, &input);
+            break;
+        case 'a':
+            steady ^= trigger_advance_at(&card, &input, 1000, &answer);
+            break;
         }
     }
-    put_hex(answer.cells, 8);
+    put_hex(answer.cells ^ steady, 8);
     put_text("\n");
     return 0;
 }

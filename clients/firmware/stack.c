@@ -25,6 +25,8 @@ static void nothing(void) {}
 static void full_tick(void) { trigger_full_tick_at(&card, &input, &answer); }
 static void quick_tick(void) { trigger_quick_tick_at(&card, &input, &answer); }
 static void at_rest(void) { trigger_at_rest_at(&card, &input); }
+static void steady_for(void) { trigger_steady_for_at(&card, &input); }
+static void advance(void) { trigger_advance_at(&card, &input, 1000, &answer); }
 static void line(void) { trigger_line_at(&card, (const uint8_t *)given, length(given), reply, sizeof reply, store, sizeof store, &len); }
 static void load(void) { trigger_load_at(&card, store, record_len); }
 static void print(void) { trigger_print_at(&card, text, sizeof text, &len); }
@@ -94,6 +96,8 @@ int main(int argc, char **argv)
         {"full tick", NULL, full_tick},
         {"quick tick", NULL, quick_tick},
         {"at rest", NULL, at_rest},
+        {"steady for", NULL, steady_for},
+        {"advance", NULL, advance},
         {"a line: M E=2", "M E=2", line},
         {"a line: 36CCB X=41 Y=192", "36CCB X=41 Y=192", line},
         {"a line: HOME E", "HOME E", line},

@@ -107,11 +107,22 @@ bool same(const void *bytes, size_t len, const char *text)
     return true;
 }
 
-/* The whole words of a copy, eight bytes or four where both ends are aligned to them: about what a C library does. How many bytes these are. */
+/*
+ * The whole words of a copy, eight bytes or four where both ends are aligned to them, eight of them in a turn: about what a C library does. How many bytes these
+ * are.
+ */
 #define COPY(word) \
-    for (word *t = to; left >= 4 * sizeof(word); left -= 4 * sizeof(word), t += 4) { \
-        const word *f = (const word *)((const uint8_t *)from + ((uint8_t *)t - (uint8_t *)to)); \
-        t[0] = f[0], t[1] = f[1], t[2] = f[2], t[3] = f[3]; \
+    { \
+        word *t = to; \
+        const word *f = from; \
+        for (; left >= 8 * sizeof(word); left -= 8 * sizeof(word), t += 8, f += 8) { \
+            const word a = f[0], b = f[1], c = f[2], d = f[3]; \
+            const word p = f[4], q = f[5], r = f[6], s = f[7]; \
+            t[0] = a, t[1] = b, t[2] = c, t[3] = d; \
+            t[4] = p, t[5] = q, t[6] = r, t[7] = s; \
+        } \
+        for (; left >= sizeof(word); left -= sizeof(word)) \
+            *t++ = *f++; \
     }
 
 static size_t copy_words(void *restrict to, const void *restrict from, size_t len)

@@ -141,7 +141,8 @@ impl fmt::Display for Answer {
 }
 
 /// A card.
-// Behind the card is room for the answer of its last tick: the library writes the two at once, and where it writes them here nothing is copied back.
+// Behind the card is room for the answer of its last full tick: the library writes the two at once, and where it writes them here nothing is copied back. A quick
+// tick is made in place.
 #[derive(Clone, Copy)]
 pub struct Card(raw::Ticked);
 
@@ -205,8 +206,7 @@ impl Card {
     /// those of a full tick.
     #[inline]
     pub fn quick_tick(&mut self, input: Input) -> Answer {
-        let to: *mut raw::Ticked = &mut self.0;
-        unsafe { (*raw::trigger_quick_tick(to, (*to).card, input)).answer }
+        unsafe { raw::trigger_quick_tick_in(&mut self.0.card, input) }
     }
 
     /// Whether a quick tick with this input would work out no cell and leave the card as it is but for the count of its ticks. Then the clock may stop until

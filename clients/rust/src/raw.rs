@@ -213,13 +213,16 @@ pub struct Replied {
 compile_error!("the calls by value of the library are for x86-64 and its System V interface");
 
 // A slice of the library is a pointer and a length. Every call takes every value; what the caller sees to is that each slice is valid, and that none
-// that is written overlaps another.
+// that is written overlaps another. The wrapper takes of each tick the call that costs less.
+#[allow(dead_code)]
 #[link(name = "trigger", kind = "static")]
 extern "C" {
     pub fn trigger_fresh(to: *mut Card) -> *mut Card;
     pub fn trigger_fresh_large(to: *mut Card) -> *mut Card;
     pub fn trigger_full_tick(to: *mut Ticked, card: Card, input: Input) -> *mut Ticked;
     pub fn trigger_quick_tick(to: *mut Ticked, card: Card, input: Input) -> *mut Ticked;
+    pub fn trigger_full_tick_in(card: *mut Card, input: Input) -> Answer;
+    pub fn trigger_quick_tick_in(card: *mut Card, input: Input) -> Answer;
     pub fn trigger_at_rest(card: Card, input: Input) -> bool;
     pub fn trigger_steady_for(card: Card, input: Input) -> u32;
     pub fn trigger_advance(to: *mut Advanced, card: Card, input: Input, k: u32) -> *mut Advanced;
