@@ -34,11 +34,11 @@ abbrev pub firstConnector : ℕ
 firstConnector = 33
 
 -- base b is one of the count bases from `first` on
-abbrev pub among : ℕ → ℕ → ℕ → Bool
+abbrev pub among : (first count b : ℕ) → Bool
 among first count b = leb first b && ltb b (first + count)
 
 -- a base that is 0, a cell's or a connector's; the others are reserved
-unfoldable pub permittedBase : ℕ → ℕ → Bool
+unfoldable pub permittedBase : (n b : ℕ) → Bool
 permittedBase n b = eqb b 0 || (among firstCell n b || among firstConnector connectorCount b)
 
 -- "An address is 0 to 255"

@@ -9,7 +9,7 @@ use Rattle.card.specs.declared.chart.Entry.{Entry}
 use Rattle.card.specs.Address.{cellCount, addressCount, baseOf, isInverted, isEdge, permittedBase}
 
 -- the entry of an address on a card of n cells: "its base, inverted 0 or 1, edge 0 or 1, permitted 0 or 1"; "permitted is 1 unless the base is reserved"
-abbrev pub entryOf : ℕ → ℕ → Entry
+abbrev pub entryOf : (n a : ℕ) → Entry
 entryOf n a = record { base = baseOf a; inverted = isInverted a; edge = isEdge a; permitted = permittedBase n (baseOf a) }
 
 -- "a chart of all 256 addresses", "rows run from 0 to 255"

@@ -36,7 +36,7 @@ abbrev pub connectorAt : Connectors → ℕ → Connector
 connectorAt d k = record { kind = kindAt d k; source = sourceAt d k }
 
 -- with another type, or another source, at k; a number that is neither open-drain nor push-pull makes an input
-unfoldable pub withKind : Connectors → ℕ → ℕ → Connectors
+unfoldable pub withKind : Connectors → (k kind : ℕ) → Connectors
 withKind d k kind =
     record {
       sources = d .sources;
@@ -44,7 +44,7 @@ withKind d k kind =
       «open_drain» = withBit (d .«open_drain») k (eqb kind openDrain);
     }
 
-unfoldable pub withSource : Connectors → ℕ → ℕ → Connectors
+unfoldable pub withSource : Connectors → (k source : ℕ) → Connectors
 withSource d k source = record { sources = set (d .sources) k source; «push_pull» = d .«push_pull»; «open_drain» = d .«open_drain» }
 
 -- the sixteen in order, one by one; and a row of sixteen made of them

@@ -77,5 +77,5 @@ upperRead x = x .outputs / 65536
 abbrev pub drivesFront : Context → ℕ → Bool
 drivesFront x v = eqb (x .pointer) firstConnector && frontDriven (x .trigger) v
 
-abbrev pub presetDrives : ℕ → Context → ℕ → Bool
+abbrev pub presetDrives : (n : ℕ) → Context → (v : ℕ) → Bool
 presetDrives n x v = setsFront n v && eqb (x .trigger) frontTrigger

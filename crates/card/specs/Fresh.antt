@@ -34,7 +34,7 @@ abbrev pub noMemory : Memory
 noMemory = record { driven = 0; pulled = 0; outputs = 0; outputs2 = 0; outputs3 = 0; levels = 0; levels2 = 0 }
 
 -- a card as it powers up with some settings: pointer 1, nothing remembered, and no tick counted
-abbrev pub started : ℕ → ℕ → List Cell → Connectors → ℕ → Card
+abbrev pub started : (size trigger : ℕ) → List Cell → Connectors → (edited : ℕ) → Card
 started size trigger cells connectors edited =
     record {
       pointer = 1;

@@ -19,7 +19,7 @@ use Rattle.card.specs.Fresh.{clearState, noCell}
 -- ---- the cells that presets set
 
 -- "a cell is set whole, slots not named 0, its state cleared"
-abbrev pub whole : ℕ → ℕ → List ℕ → Cell
+abbrev pub whole : (kind config : ℕ) (slots : List ℕ) → Cell
 whole kind config slots = cellOf kind config slots clearState
 
 -- by type, in the order of "Cells"
@@ -213,7 +213,7 @@ sourcesOf none = []
 sourcesOf (some s) = s .sources
 
 -- what a preset makes of the cell at an index, and the source of the connector at an index; BNC1 is at 0
-unfoldable pub presetCell : ℕ → ℕ → Option Cell
+unfoldable pub presetCell : (v i : ℕ) → Option Cell
 presetCell v i = find (firstCell + i) (cellsOf (settingOf v))
 
 unfoldable pub presetSource : (n v k : ℕ) → Option ℕ
@@ -231,18 +231,18 @@ sourced none old = old
 sourced (some a) old = record { kind = pushPull; source = a }
 
 -- a cell or a connector after a preset: as the preset sets it, or as it was
-abbrev pub cellWithPreset : Card → ℕ → ℕ → Cell
+abbrev pub cellWithPreset : Card → (v i : ℕ) → Cell
 cellWithPreset c v i = Option·getD (presetCell v i) (getD (c .cells) i noCell)
 
-abbrev pub connectorWithPreset : ℕ → Card → ℕ → ℕ → Connector
+abbrev pub connectorWithPreset : (n : ℕ) → Card → (v k : ℕ) → Connector
 connectorWithPreset n c v k = sourced (presetSource n v k) (connectorAt (c .connectors) k)
 
 -- a cell is edited by "a preset that sets it"
-abbrev pub editedWithPreset : Card → ℕ → ℕ → Bool
+abbrev pub editedWithPreset : Card → (v i : ℕ) → Bool
 editedWithPreset c v i = bitAt (c .edited) i || has (presetCell v i)
 
 -- what the preset does not set stays; so does all else of the card
-unfoldable pub preset : ℕ → Card → ℕ → Card
+unfoldable pub preset : (n : ℕ) → Card → (v : ℕ) → Card
 preset n c v =
     withSettings c (c .trigger) (listed (cellWithPreset c v) n ++ drop n (c .cells)) (fromEach (listed (connectorWithPreset n c v) connectorCount))
     (wordOf (editedWithPreset c v) n)

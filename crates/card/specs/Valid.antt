@@ -33,7 +33,7 @@ abbrev pub frontTrigger : ℕ
 frontTrigger = 4
 
 -- 5: "pointer place"
-unfoldable pub badPlace : ℕ → ℕ → Bool
+unfoldable pub badPlace : (n p : ℕ) → Bool
 badPlace n p = not (among firstCell n p || among firstConnector connectorCount p)
 
 -- 7: "cell type over 18, connector type over 2, clock over 4", where cell types now go to 22
@@ -47,7 +47,7 @@ unfoldable pub badClock : ℕ → Bool
 badClock v = ltb largestClock v
 
 -- 9: "configuration over its range, or a type that has none"
-unfoldable pub badConfig : ℕ → ℕ → Bool
+unfoldable pub badConfig : (kind v : ℕ) → Bool
 badConfig kind v = not (rowOf kind .configured) || ltb (rowOf kind .largest) v
 
 -- 10: "slot not used", of the slots that are given
@@ -57,17 +57,17 @@ unusedSlot kind given =
     || ((given .z && not (rowOf kind .used .z)) || (given .f && not (rowOf kind .used .f)))
 
 -- 11: "address over 255 or reserved", by its entry
-unfoldable pub badAddress : ℕ → ℕ → Bool
+unfoldable pub badAddress : (n a : ℕ) → Bool
 badAddress n a = ltb largestAddress a || not (entryOf n a .permitted)
 
 -- 13: BNC1, the first connector, an output while the trigger is 4
-unfoldable pub frontDriven : ℕ → ℕ → Bool
+unfoldable pub frontDriven : (trigger kind : ℕ) → Bool
 frontDriven trigger kind = eqb trigger frontTrigger && isOutput kind
 
 -- ---- settings
 
 -- 15: "unused slot or configuration not 0; edge slot under 128", else an address that a line could set
-unfoldable pub validSlot : ℕ → Bool → Bool → ℕ → Bool
+unfoldable pub validSlot : (n : ℕ) (used edge : Bool) (a : ℕ) → Bool
 validSlot n used edge a = cond used (not (badAddress n a) && (not edge || entryOf n a .edge)) (eqb a 0)
 
 -- the four slots of a cell
@@ -91,14 +91,14 @@ every f [] = true
 every f (x ∷ xs) = f x && every f xs
 
 -- settings of a card of n cells as a record holds them. A list may have cells behind the first n; nothing is asked of them
-unfoldable pub valid : ℕ → ℕ → List Cell → List Connector → Bool
+unfoldable pub valid : (n trigger : ℕ) → List Cell → List Connector → Bool
 valid n trigger cells connectors =
     ((not (badClock trigger) && not (frontDriven trigger (getD connectors 0 noConnector .kind)))
     && (eqb (length (take n cells)) n && eqb (length connectors) connectorCount))
     && (every (validCell n) (take n cells) && every (validConnector n) connectors)
 
 -- the settings of a card that lines can set
-abbrev pub validSettings : ℕ → ℕ → List Cell → Connectors → Bool
+abbrev pub validSettings : (n trigger : ℕ) → List Cell → Connectors → Bool
 validSettings n trigger cells connectors = wellFormed connectors && valid n trigger cells (each connectors)
 
 unfoldable pub validCard : ℕ → Card → Bool
@@ -124,7 +124,7 @@ badStateAs Bit v = ltb 1 v
 badStateAs Count v = false
 badStateAs Counted v = ltb largestCount v
 
-unfoldable pub badState : ℕ → ℕ → Bool
+unfoldable pub badState : (kind v : ℕ) → Bool
 badState kind v = badStateAs (rowOf kind .kept) v
 
 -- 12, of a read: "no state"

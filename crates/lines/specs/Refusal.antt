@@ -21,7 +21,7 @@ abbrev pub when : Bool → ℕ → ℕ
 when test k = cond test k 0
 
 -- the first of two numbers, else the second
-abbrev pub orElse : ℕ → ℕ → ℕ
+abbrev pub orElse : (a b : ℕ) → ℕ
 orElse a b = cond (eqb a 0) b a
 
 -- 4: "number over" the largest; document 02, "Long exposures": "A line's number has 1 to 10 digits, and 4 is given above that limit", 4,294,967,295
@@ -50,11 +50,11 @@ alone F = slots false false false true
 alone NoSlot = slots false false false false
 
 -- a command that gives one number v: 4, else k where the test of v holds
-abbrev pub judged : ℕ → Bool → ℕ → ℕ
+abbrev pub judged : (v : ℕ) (bad : Bool) (k : ℕ) → ℕ
 judged v bad k = orElse (when (tooLarge v) 4) (when bad k)
 
 -- the rows of the table that a command can meet, lowest number first; "Reads meet 6, 9, 10 and 12 as writes do"
-unfoldable pub refusal : ℕ → Context → ℕ → Command → ℕ
+unfoldable pub refusal : (n : ℕ) → Context → (store : ℕ) → Command → ℕ
 refusal n x store (Move v) = judged v (badPlace n v) 5
 refusal n x store Where = 0
 refusal n x store (Trigger v) = judged v (badClock v) 7

@@ -30,13 +30,13 @@ pub data RackReply : Type 0 where
 
 module _ (n : ℕ) where
   -- a reply buffer under 16 bytes gets no reply, also with 20
-  unfoldable pub rowReply : List Card → (number : ℕ) → List ℕ → ℕ → ℕ → List ℕ
+  unfoldable pub rowReply : List Card → (number : ℕ) (text : List ℕ) (reply store : ℕ) → List ℕ
   rowReply cards number text reply store =
       let o = rowOutcome n cards number text reply store in
       replyWith reply (o .k) (o .response)
 
   -- "the bytes that `36SS Z` wrote"
-  unfoldable pub rowSaved : List Card → (number : ℕ) → List ℕ → ℕ → ℕ → List ℕ
+  unfoldable pub rowSaved : List Card → (number : ℕ) (text : List ℕ) (reply store : ℕ) → List ℕ
   rowSaved cards number text reply store =
       let o = rowOutcome n cards number text reply store in
       cond (eqb (o .k) 0 && o .response .saves) (recordOf n configWidth (cardOf n cards number)) []

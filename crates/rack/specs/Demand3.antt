@@ -36,7 +36,7 @@ pub data AlikeReply : RackReply → RackReply → Type 0 where
       → AlikeReply (tickReply (record { k = k; answers = s })) (tickReply (record { k = k; answers = t }))
 
 -- a row of as many cards as a start leaves
-abbrev pub startRow : ℕ → ℕ → List Card
+abbrev pub startRow : (n cards : ℕ) → List Card
 startRow n cards = replicate cards (startCard n)
 
 -- the whole rows are equal, and the answers alike

@@ -62,7 +62,7 @@ lineTo number text = Calls.RackCall.line number (bytesOf text) (replicate shorte
 said : ℕ → String → String → Exchange
 said number text reply = (lineTo number text, lineReply 0 (bytesOf reply) [])
 
-refused : ℕ → String → ℕ → String → Exchange
+refused : (number : ℕ) → String → (k : ℕ) → String → Exchange
 refused number text k reply = (lineTo number text, lineReply k (bytesOf reply) [])
 
 -- lines that the card of a number accepts

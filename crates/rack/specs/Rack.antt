@@ -74,7 +74,7 @@ inputFor r i =
     record { code = r .code; sample = r .sample * 256 + front .sample; attached = r .attached * 256 + front .attached }
 
 -- "all drive": the lines that some card pulls low, with those of `low`
-unfoldable pub lowLines : ℕ → ℕ → (low : ℕ) → List Card → ℕ
+unfoldable pub lowLines : (n code low : ℕ) → List Card → ℕ
 lowLines n code low [] = low
 lowLines n code low (c ∷ cs) = lowLines n code (bitOr low (pulls n code c)) cs
 
@@ -112,7 +112,7 @@ rowTicked n full r cards = record { k = tickNumber cards r; answers = rowAnswers
 -- ---- a line and a load to one card: refused with 20 at once, with 19 where all else would be accepted
 
 -- the card of a number; a started card stands for one past the row
-abbrev pub cardOf : ℕ → List Card → ℕ → Card
+abbrev pub cardOf : (n : ℕ) → List Card → (number : ℕ) → Card
 cardOf n cards number = getD cards (number - 1) (startCard n)
 
 abbrev pub overSupply : ℕ
@@ -133,11 +133,11 @@ numberBy r k = cond (eqb r 0) k r
 abbrev pub outcomeIn : (bad : Bool) → (numbers : List ℕ) → (place : ℕ) → Card → Outcome → Outcome
 outcomeIn bad numbers place c o = outcomeBy (refusalIn bad numbers place (c .connectors) (o .card .connectors) (o .k)) c o
 
-unfoldable pub rowOutcome : ℕ → List Card → (number : ℕ) → List ℕ → ℕ → ℕ → Outcome
+unfoldable pub rowOutcome : (n : ℕ) → List Card → (number : ℕ) (text : List ℕ) (reply store : ℕ) → Outcome
 rowOutcome n cards number text reply store =
     outcomeIn (badNumber cards number) (drawsOf cards) (number - 1) (cardOf n cards number) (lineOutcome n (cardOf n cards number) text reply store)
 
-unfoldable pub linedRow : ℕ → List Card → (number : ℕ) → List ℕ → ℕ → ℕ → List Card
+unfoldable pub linedRow : (n : ℕ) → List Card → (number : ℕ) (text : List ℕ) (reply store : ℕ) → List Card
 linedRow n cards number text reply store = set cards (number - 1) (rowOutcome n cards number text reply store .card)
 
 -- the number of a load that would give k and card d, and the card then

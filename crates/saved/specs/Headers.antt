@@ -31,16 +31,16 @@ unfoldable pub triggerHeaded : List ℕ → Bool
 triggerHeaded bytes = startsAt bytes 0 1 1
 
 -- "tag 2 cell number, type, configuration (2, high first), slots (8 in all), sixteen in order": besides the configuration there are six bytes
-unfoldable pub cellHeaded : ℕ → List ℕ → ℕ → Bool
+unfoldable pub cellHeaded : (width : ℕ) (bytes : List ℕ) (i : ℕ) → Bool
 cellHeaded width bytes i = numberedAt bytes (triggerLength + i * cellLength width) 2 (6 + width) (i + firstCell)
 
 -- "tag 3 connector address, type, source (3), sixteen in order"
-unfoldable pub connectorHeaded : ℕ → ℕ → List ℕ → ℕ → Bool
+unfoldable pub connectorHeaded : (n width : ℕ) (bytes : List ℕ) (k : ℕ) → Bool
 connectorHeaded n width bytes k =
     numberedAt bytes (triggerLength + n * cellLength width + k * connectorLength) 3 3 (k + firstConnector)
 
 -- what 14 asks for, by one form: "record not 276 bytes; a field's length, tag, or a cell number or connector address out of order"
-unfoldable pub headed : ℕ → ℕ → List ℕ → Bool
+unfoldable pub headed : (n width : ℕ) (bytes : List ℕ) → Bool
 headed n width bytes =
     eqb (length bytes) (recordLength n width)
     && (triggerHeaded bytes && (everyBelow (cellHeaded width bytes) n && everyBelow (connectorHeaded n width bytes) connectorCount))

@@ -79,7 +79,7 @@ whole =
     ++ (3 ∷ 0 ∷ 3 ∷ 48 ∷ 1 ∷ 74 ∷ [])
 
 -- some of its bytes, from a place on
-unfoldable pub part : ℕ → ℕ → List ℕ
+unfoldable pub part : (from count : ℕ) → List ℕ
 part from count = take count (drop from whole)
 
 -- it in the old form, each configuration by its two low bytes
@@ -90,7 +90,7 @@ unfoldable pub old : List ℕ
 old = part 0 4 ++ fieldsFrom (λ i (x : ℕ). oldCell i) 0 (replicate 16 0) ++ part 212 96
 
 -- the field of a cell above 16 that is constant 0, and that of the old form
-unfoldable pub constantField : ℕ → ℕ → List ℕ
+unfoldable pub constantField : (width i : ℕ) → List ℕ
 constantField width i = (2 ∷ 0 ∷ (6 + width) ∷ (i + 17) ∷ 0 ∷ []) ++ replicate (width + 4) 0
 
 -- the record of a large card with the settings of `whole`, and what the old form would make of it

@@ -63,7 +63,7 @@ cellThrough a b m = withState a (stateThrough (stateOf a) (stateOf b) m)
 
 -- ---- the card
 
-abbrev pub least : ℕ → ℕ → ℕ
+abbrev pub least : (a b : ℕ) → ℕ
 least a b = cond (ltb b a) b a
 
 -- for how many ticks all of the first n cells go on

@@ -9,6 +9,6 @@ every f [] = true
 every f (b ∷ bs) = f b && every f bs
 
 -- the number that acc's digits and then these say; d is what a byte stands for
-unfoldable pub valueBy : ℕ → (ℕ → ℕ) → ℕ → List ℕ → ℕ
+unfoldable pub valueBy : (base : ℕ) → (ℕ → ℕ) → (acc : ℕ) → List ℕ → ℕ
 valueBy base d acc [] = acc
 valueBy base d acc (b ∷ bs) = valueBy base d (acc * base + d b) bs
