@@ -1,5 +1,6 @@
--- Document 01, "Lines": one session of a card of sixteen cells, and a short one of thirty-two, with the whole text of every reply, by computation. What the
--- contracts say of a reply they say of a definition; here the texts stand as the documents have them.
+-- Document 01, "Lines": one session of a card of sixteen cells, and a short one of thirty-two, with
+-- the whole text of every reply, by computation. What the contracts say of a reply they say of a
+-- definition; here the texts stand as the documents have them.
 use Prim.Native.Nat.{ℕ}
 use Prim.Native.String.{String}
 use mathlib.Core.Path.{_≡_, refl}
@@ -59,8 +60,9 @@ tickOf sample = Calls.ownTick cellCount false (record { code = 3; sample = sampl
 
 -- ---- sixteen cells
 
--- the record of the session's settings: trigger 3, cell 1 constant 1, cell 2 a D-flop of 192 with its clock at the rise of TTL1, cell 5 a delay of 1000;
--- BNC1 an input, BNC3 open-drain from the inverse of cell 2
+-- the record of the session's settings: trigger 3, cell 1 constant 1, cell 2 a D-flop of 192 with
+-- its clock at the rise of TTL1, cell 5 a delay of 1000; BNC1 an input, BNC3 open-drain from the
+-- inverse of cell 2
 constants : ℕ → List ℕ
 constants i = 2 ∷ 0 ∷ 10 ∷ i ∷ replicate 9 0
 
@@ -125,7 +127,8 @@ session =
     ∷ small "36CCA Z?" ":A 66\r\n"
     ∷ (lineWith 308 "36CCA F?", refused 6 ":N-6\r\n")
     ∷ small "36RDADC X?" ":A 0\r\n"
-    -- a tick: BNC3 driven, BNC1 and BNC3 high, TTL1 and TTL4 high, cells 1 and 2 high; cells 1, 2 and 5 were edited
+    -- a tick: BNC3 driven, BNC1 and BNC3 high, TTL1 and TTL4 high, cells 1 and 2 high; cells 1, 2
+    -- and 5 were edited
     ∷ (tickOf 0x1205, tickReply (record { ran = true; driven = 0x0004; cells = 0x0003; woken = 0x0013; count = 3 }))
     ∷ small "36RDADC X?" ":A 5\r\n"
     ∷ small "36RDADC Y?" ":A 18\r\n"

@@ -1,5 +1,6 @@
--- Document 01's last box: "Proved in one table, by computation on the definitions: 192, 128, codes 34952 and 65520 at p = 0, 3, 4, 8, JK 11, delay
--- 0, the four ticks above." With them the presets that are offered, and document 02's counter that is started once.
+-- Document 01's last box: "Proved in one table, by computation on the definitions: 192, 128, codes
+-- 34952 and 65520 at p = 0, 3, 4, 8, JK 11, delay 0, the four ticks above." With them the presets
+-- that are offered, and document 02's counter that is started once.
 use Prim.Native.Nat.{ℕ}
 use Prim.Native.String.{String}
 use mathlib.Core.Path.{_≡_, refl}
@@ -67,7 +68,8 @@ lookup code p = level (workOut 4 code clearState (slotsOf p) .out)
 jk11 : Bool → Entry
 jk11 bit = level (workOut 13 0 (bitState clearState bit) (slots true true true false) .out)
 
--- a delay of duration 0 in the tick of its trigger, which has a clock edge too; and at the next clock edge
+-- a delay of duration 0 in the tick of its trigger, which has a clock edge too; and at the next
+-- clock edge
 triggered : Worked
 triggered = workOut 9 0 clearState (slots true true false false)
 
@@ -112,7 +114,8 @@ run =
     ∷ quick
     ∷ []
 
--- document 02: a counter of type 22, started by TTL0 and stopped by TTL1, its clock in every tick; its count bars a start, and `F=0` frees it
+-- document 02: a counter of type 22, started by TTL0 and stopped by TTL1, its clock in every tick;
+-- its count bars a start, and `F=0` frees it
 counterRun : List Call
 counterRun =
     line "36CCA Y=22"
@@ -190,7 +193,8 @@ box =
           ∷ ran 0x0000 0x0000 0x0000 0
           ∷ []),
     )
-    -- "22 obeys start only while its count is 0": started, its count written while it is active, stopped, barred, freed, started
+    -- "22 obeys start only while its count is 0": started, its count written while it is active,
+    -- stopped, barred, freed, started
     ∷ (
       replies (answers cellCount fresh counterRun),
       replies (

@@ -1,5 +1,6 @@
--- Document 01, "Addresses": which bases are cells' and connectors', and what an address is made of: its base, whether it is inverted, whether it is an
--- edge. What it reads stands in ticks/specs/Reading.
+-- Document 01, "Addresses": which bases are cells' and connectors', and what an address is made of:
+-- its base, whether it is inverted, whether it is an edge. What it reads stands in
+-- ticks/specs/Reading.
 use Prim.Native.Nat.{ℕ, _+_, _%_}
 use mathlib.Core.Bool.{Bool, _&&_, _||_, cond}
 use lib.Dec.{leb, ltb, eqb}
@@ -26,7 +27,8 @@ frontCount = 8
 abbrev pub onBackplane : ℕ → Bool
 onBackplane k = leb frontCount k
 
--- "1-16 cells, 33-40 front connectors BNC1-8, 41-48 backplane TTL0-7": the first base of the cells and of the connectors
+-- "1-16 cells, 33-40 front connectors BNC1-8, 41-48 backplane TTL0-7": the first base of the cells
+-- and of the connectors
 abbrev pub firstCell : ℕ
 firstCell = 1
 

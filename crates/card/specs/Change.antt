@@ -28,7 +28,8 @@ changed n c (Source source) = setSource c source
 abbrev pub pointed : (n : ℕ) → Card → (i : ℕ) → Bool
 pointed n c i = atCell n c && eqb i (c .pointer - firstCell)
 
--- "A cell is edited by an accepted CCA or CCB write to it or a preset that sets it; by HOME ... all are"
+-- "A cell is edited by an accepted CCA or CCB write to it or a preset that sets it; by HOME ... all
+-- are"
 unfoldable pub editsCell : (n : ℕ) → Card → Change → (i : ℕ) → Bool
 editsCell n c Nothing i = false
 editsCell n c (Pointer p) i = false

@@ -1,5 +1,6 @@
--- Document 01, "Lines": what an accepted line does to the card. No line alters the memory, which has the outputs, the levels and the driven word.
--- "Edited" is document 01's term for a cell that a write has touched since the last tick that ran.
+-- Document 01, "Lines": what an accepted line does to the card. No line alters the memory, which
+-- has the outputs, the levels and the driven word. "Edited" is document 01's term for a cell that a
+-- write has touched since the last tick that ran.
 use Prim.Native.Nat.{ℕ, _+_, _-_, _^_}
 use mathlib.Core.Bool.{Bool, true, false, not, _&&_, cond}
 use mathlib.Core.List.{List, [], _∷_, _++_, map}
@@ -128,7 +129,8 @@ configured cell config = cellOf (cell .kind) config (cell .slots) (configuredSta
 unfoldable pub setConfig : (n : ℕ) → Card → (config : ℕ) → Card
 setConfig n c config = putCell n c (configured (currentCell n c) config)
 
--- "F the state: 0 or 1 for flip-flops, the count for timers, ending a pulse"; a type that keeps no state has none to set
+-- "F the state: 0 or 1 for flip-flops, the count for timers, ending a pulse"; a type that keeps no
+-- state has none to set
 abbrev pub bitState : State → Bool → State
 bitState s bit = record { bit = bit; count = s .count; pulse = s .pulse }
 

@@ -1,4 +1,5 @@
--- Document 01, "Lines", its last sentence: the card as it powers up, with everything low and no cell edited.
+-- Document 01, "Lines", its last sentence: the card as it powers up, with everything low and no
+-- cell edited.
 use Prim.Native.Nat.{ℕ, _-_, _^_}
 use mathlib.Core.Bool.{false}
 use mathlib.Core.List.{List, [], _++_}
@@ -47,8 +48,8 @@ started size trigger cells connectors edited =
       tallies = noTallies;
     }
 
--- "pointer 1, cells constant 0, BNCs push-pull from 0, backplane inputs from 0, trigger 0"; "a fresh card has none edited": a card of n cells, with
--- room behind them
+-- "pointer 1, cells constant 0, BNCs push-pull from 0, backplane inputs from 0, trigger 0"; "a
+-- fresh card has none edited": a card of n cells, with room behind them
 abbrev pub freshOf : ℕ → Card
 freshOf n = started n 0 (replicate n freshCell ++ replicate (cellRoom - n) freshCell) freshConnectors 0
 

@@ -12,7 +12,8 @@ use Rattle.cells.specs.declared.cell.Cell.{Cell}
 use Rattle.card.specs.Address.{cellCount, cellRoom, connectorCount, firstCell, among}
 use Rattle.card.specs.Presets.{whole, largePreset, presetCell, presetSource}
 
--- the rows of the two tables: no preset has a number past the first, and none past the second sets a cell
+-- the rows of the two tables: no preset has a number past the first, and none past the second sets
+-- a cell
 abbrev pub sourceRows : ℕ
 sourceRows = 60
 
@@ -27,7 +28,8 @@ rowByte w i = w / 2 ^ (8 * i) % 256
 abbrev pub offsetAddress : (step : Bool) (place a : ℕ) → ℕ
 offsetAddress step place a = cond step ((a + place) % 2 ^ 8) a
 
--- the source of the connector at index k: the connectors are byte 4, those with the first address byte 3, the addresses bytes 2 and 1
+-- the source of the connector at index k: the connectors are byte 4, those with the first address
+-- byte 3, the addresses bytes 2 and 1
 unfoldable pub sourceUnder : (w k : ℕ) → Option ℕ
 sourceUnder w k = cond (bitAt w (32 + k)) (some (offsetAddress (bitAt w 0) k (cond (bitAt w (24 + k)) (rowByte w 2) (rowByte w 1)))) none
 

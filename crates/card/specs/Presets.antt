@@ -40,7 +40,8 @@ and4 x y z f = whole 10 0 (x ∷ y ∷ z ∷ f ∷ [])
 
 -- ---- the entries
 
--- what a preset sets: cells by their number, and front connectors BNC1-8 by theirs, each with its source address
+-- what a preset sets: cells by their number, and front connectors BNC1-8 by theirs, each with its
+-- source address
 pub record Setting : Type 0 where
   pub cells : List (ℕ × Cell)
   pub sources : List (ℕ × ℕ)
@@ -73,7 +74,8 @@ abbrev pub isIn : ℕ → List ℕ → Bool
 isIn n [] = false
 isIn n (m ∷ ms) = eqb n m || isIn n ms
 
--- the laser presets "source the BNCs named in the source's Description from 10, the group's others from 0"
+-- the laser presets "source the BNCs named in the source's Description from 10, the group's others
+-- from 0"
 abbrev pub laser : (group lit : List ℕ) → List (ℕ × ℕ)
 laser group lit = map (λ (b : ℕ). (b, cond (isIn b lit) 10 0)) group
 
@@ -102,7 +104,8 @@ cellPresets =
     ∷ sets 36 ((10, and2 8 64) ∷ [])
     ∷ []
 
--- "13: cell 12 type 3 code 168 (44, 10, 1), BNC4 from 12. 31: AND4 6 ... for BNC5, 7 and 7 ... for BNC6, 8"
+-- "13: cell 12 type 3 code 168 (44, 10, 1), BNC4 from 12. 31: AND4 6 ... for BNC5, 7 and 7 ... for
+-- BNC6, 8"
 abbrev pub mixedPresets : List Entry
 mixedPresets =
     (13, record { cells = (12, lookup3 168 44 10 1) ∷ []; sources = (4, 12) ∷ [] })
@@ -212,7 +215,8 @@ abbrev pub sourcesOf : Option Setting → List (ℕ × ℕ)
 sourcesOf none = []
 sourcesOf (some s) = s .sources
 
--- what a preset makes of the cell at an index, and the source of the connector at an index; BNC1 is at 0
+-- what a preset makes of the cell at an index, and the source of the connector at an index; BNC1 is
+-- at 0
 unfoldable pub presetCell : (v i : ℕ) → Option Cell
 presetCell v i = find (firstCell + i) (cellsOf (settingOf v))
 

@@ -1,4 +1,5 @@
--- Document 01, rows 5 to 13 of "When the card says no", as tests of single values; and the settings that lines can set, which a record may hold.
+-- Document 01, rows 5 to 13 of "When the card says no", as tests of single values; and the settings
+-- that lines can set, which a record may hold.
 use Prim.Native.Nat.{ℕ}
 use mathlib.Core.Bool.{Bool, true, false, not, _&&_, _||_, cond}
 use mathlib.Core.List.{List, [], _∷_}
@@ -66,7 +67,8 @@ frontDriven trigger kind = eqb trigger frontTrigger && isOutput kind
 
 -- ---- settings
 
--- 15: "unused slot or configuration not 0; edge slot under 128", else an address that a line could set
+-- 15: "unused slot or configuration not 0; edge slot under 128", else an address that a line could
+-- set
 unfoldable pub validSlot : (n : ℕ) (used edge : Bool) (a : ℕ) → Bool
 validSlot n used edge a = cond used (not (badAddress n a) && (not edge || entryOf n a .edge)) (eqb a 0)
 
@@ -90,7 +92,8 @@ unfoldable pub every : {A : Type 0} → (A → Bool) → List A → Bool
 every f [] = true
 every f (x ∷ xs) = f x && every f xs
 
--- settings of a card of n cells as a record holds them. A list may have cells behind the first n; nothing is asked of them
+-- settings of a card of n cells as a record holds them. A list may have cells behind the first n;
+-- nothing is asked of them
 unfoldable pub valid : (n trigger : ℕ) → List Cell → List Connector → Bool
 valid n trigger cells connectors =
     ((not (badClock trigger) && not (frontDriven trigger (getD connectors 0 noConnector .kind)))
@@ -117,7 +120,8 @@ isCounted Counted = true
 unfoldable pub noConfig : ℕ → Bool
 noConfig kind = not (rowOf kind .configured || isCounted (rowOf kind .kept))
 
--- 12: "no state, or over 1 in a flip-flop"; document 02, "Long exposures": "A counter's F over 65535 gives 12"
+-- 12: "no state, or over 1 in a flip-flop"; document 02, "Long exposures": "A counter's F over
+-- 65535 gives 12"
 unfoldable pub badStateAs : Kept → ℕ → Bool
 badStateAs Stateless v = true
 badStateAs Bit v = ltb 1 v

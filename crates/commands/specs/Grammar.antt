@@ -1,4 +1,5 @@
--- Document 01, "Lines": the forms of a line, from its bytes to a command. Bytes are written as numbers; the letters are named below.
+-- Document 01, "Lines": the forms of a line, from its bytes to a command. Bytes are written as
+-- numbers; the letters are named below.
 use Prim.Native.Nat.{ℕ, suc, _+_}
 use mathlib.Core.Bool.{Bool, true, false, not, _&&_, _||_, cond}
 use mathlib.Core.List.{List, [], _∷_}
@@ -144,7 +145,8 @@ unfoldable pub ccbForm : List ℕ → Parsed
 ccbForm t =
     cond ((eqb (charAt t 5) blank && eqb (charAt t 7) query) && eqb (length t) 8) (slotForm (slotOf (charAt t 6))) (pairsOf t 5)
 
--- `36RDADC X?` front levels, `Y?` backplane, `Z?` cells; document 02, "Thirty-two cells": "`36RDADC F?` reads cells 17 to 32", where there are any
+-- `36RDADC X?` front levels, `Y?` backplane, `Z?` cells; document 02, "Thirty-two cells": "`36RDADC
+-- F?` reads cells 17 to 32", where there are any
 unfoldable pub readOf : ℕ → Slot → Parsed
 readOf n X = Here Front
 readOf n Y = Here Back

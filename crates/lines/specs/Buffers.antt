@@ -1,5 +1,6 @@
--- Document 01, row 1 of "When the card says no", by the lengths of the two buffers, and document 02's "a store of that size", 308, or 516 on thirty-two cells:
--- lines to a fresh card, by computation. With them the longest reply, which the shortest reply buffer holds.
+-- Document 01, row 1 of "When the card says no", by the lengths of the two buffers, and document
+-- 02's "a store of that size", 308, or 516 on thirty-two cells: lines to a fresh card, by
+-- computation. With them the longest reply, which the shortest reply buffer holds.
 use Prim.Native.Nat.{ℕ}
 use Prim.Native.String.{String}
 use mathlib.Core.Path.{_≡_, refl}

@@ -1,5 +1,5 @@
--- The examples of document 01's table "When the card says no", with the cases of precedence and those of document 02, as one table by computation;
--- and the whole text of some replies.
+-- The examples of document 01's table "When the card says no", with the cases of precedence and
+-- those of document 02, as one table by computation; and the whole text of some replies.
 use Prim.Native.Nat.{ℕ}
 use Prim.Native.String.{String}
 use mathlib.Core.Path.{_≡_, refl}
@@ -110,13 +110,15 @@ numbers =
     ∷ (number (typedCard 5) "36CCB X=41 Y=192", 0)
     ∷ (number fresh "HOME E", 0)
     ∷ (number fresh "! E", 0)
-    -- document 02, "Long exposures": below the limit of a line's number, a large one meets the next rule; "`M E=70000` now gives 5"
+    -- document 02, "Long exposures": below the limit of a line's number, a large one meets the next
+    -- rule; "`M E=70000` now gives 5"
     ∷ (number fresh "M E=70000", 5)
     ∷ (number fresh "PM E=70000", 7)
     ∷ (number fresh "36CCA Y=70000", 7)
     ∷ (number (at 33) "36CCA Y=70000", 7)
     ∷ (number fresh "36CCA X=70000", 8)
-    -- "lookup codes, constants and counter cells do not" go above 65535, and gates have no configuration; the source of a connector is an address
+    -- "lookup codes, constants and counter cells do not" go above 65535, and gates have no
+    -- configuration; the source of a connector is an address
     ∷ (number fresh "36CCA Z=70000", 9)
     ∷ (number (typedCard 4) "36CCA Z=65536", 9)
     ∷ (number (typedCard 4) "36CCA Z=65535", 0)

@@ -1,4 +1,5 @@
--- Document 02, "Thirty-two cells": the numbers that a card of sixteen cells and one of thirty-two give to the same line, by computation.
+-- Document 02, "Thirty-two cells": the numbers that a card of sixteen cells and one of thirty-two
+-- give to the same line, by computation.
 use Prim.Native.Nat.{ℕ}
 use Prim.Native.String.{String}
 use mathlib.Core.Path.{_≡_, refl}
@@ -22,7 +23,8 @@ use Rattle.commands.specs.Grammar.{readOf, readForm, cardForm, plainForm, addre
 use Rattle.lines.specs.Refusal.{refusal}
 use Rattle.lines.specs.Line.{changeFor, responseTo, decision, decisionFor, lineDecision, lineOutcome}
 
--- the number of a line with room for its reply and a store of some length, on a card of each size made from a fresh one
+-- the number of a line with room for its reply and a store of some length, on a card of each size
+-- made from a fresh one
 both : (ℕ → Card → Card) → (store : ℕ) → String → ℕ × ℕ
 both made store text = (
   lineOutcome cellCount (made cellCount (freshOf cellCount)) (bytesOf text) 16 store .k,

@@ -1,4 +1,5 @@
--- Document 01, "Lines": what a line answers, what it does to the card, and what it leaves in the two lent buffers.
+-- Document 01, "Lines": what a line answers, what it does to the card, and what it leaves in the
+-- two lent buffers.
 use Prim.Native.Nat.{ℕ}
 use mathlib.Core.Bool.{Bool, true, false, _&&_, cond}
 use mathlib.Core.List.{List, [], _∷_, _++_}
@@ -170,7 +171,8 @@ lineReply n c text reply store =
     let o = lineOutcome n c text reply store in
     replyWith reply (o .k) (o .response)
 
--- "`36SS Z` writes the record to the front of the store"; a refused line, and any other, leaves the store as it was
+-- "`36SS Z` writes the record to the front of the store"; a refused line, and any other, leaves the
+-- store as it was
 abbrev pub storeWith : ℕ → Card → Outcome → List ℕ → List ℕ
 storeWith n c o store = cond (eqb (o .k) 0 && o .response .saves) (savedTo n configWidth c store) store
 
@@ -185,7 +187,8 @@ pub record LineResult : Type 0 where
   pub reply : List ℕ
   pub store : List ℕ
 
--- the answer to an outcome of card c, which has n cells: the reply is "at the front of the reply buffer", which is as it was beyond
+-- the answer to an outcome of card c, which has n cells: the reply is "at the front of the reply
+-- buffer", which is as it was beyond
 abbrev pub resultFor : ℕ → Card → Outcome → (reply store : List ℕ) → LineResult
 resultFor n c o reply store =
     record {

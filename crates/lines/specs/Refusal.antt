@@ -1,4 +1,5 @@
--- Document 01, "When the card says no": the lowest number that applies to a command, 0 where none does.
+-- Document 01, "When the card says no": the lowest number that applies to a command, 0 where none
+-- does.
 use Prim.Native.Nat.{ℕ}
 use mathlib.Core.Bool.{Bool, true, false, _&&_, _||_, not, cond}
 use lib.Dec.{eqb, ltb}
@@ -24,7 +25,8 @@ when test k = cond test k 0
 abbrev pub orElse : (a b : ℕ) → ℕ
 orElse a b = cond (eqb a 0) b a
 
--- 4: "number over" the largest; document 02, "Long exposures": "A line's number has 1 to 10 digits, and 4 is given above that limit", 4,294,967,295
+-- 4: "number over" the largest; document 02, "Long exposures": "A line's number has 1 to 10 digits,
+-- and 4 is given above that limit", 4,294,967,295
 abbrev pub largestNumber : ℕ
 largestNumber = 4294967295
 
@@ -53,7 +55,8 @@ alone NoSlot = slots false false false false
 abbrev pub judged : (v : ℕ) (bad : Bool) (k : ℕ) → ℕ
 judged v bad k = orElse (when (tooLarge v) 4) (when bad k)
 
--- the rows of the table that a command can meet, lowest number first; "Reads meet 6, 9, 10 and 12 as writes do"
+-- the rows of the table that a command can meet, lowest number first; "Reads meet 6, 9, 10 and 12
+-- as writes do"
 unfoldable pub refusal : (n : ℕ) → Context → (store : ℕ) → Command → ℕ
 refusal n x store (Move v) = judged v (badPlace n v) 5
 refusal n x store Where = 0

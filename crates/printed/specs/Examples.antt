@@ -35,12 +35,14 @@ longCard =
 -- given, expected
 abbrev table : List (List ℕ × List ℕ)
 table =
-    -- a fresh card, "For cells 1 to 16: `M E`, `36CCA Y`, `36CCA Z` where the type has a configuration", also 0
+    -- a fresh card, "For cells 1 to 16: `M E`, `36CCA Y`, `36CCA Z` where the type has a
+    -- configuration", also 0
     (take 52 (wiringText cellCount fresh), bytesOf "M E=1\n36CCA Y=0\n36CCA Z=0\nM E=2\n36CCA Y=0\n36CCA Z=0\n")
     -- "Then connectors 33 to 48 ... Then `PM E`. Each ends LF"
     ∷ (take 27 (drop 423 (wiringText cellCount fresh)), bytesOf "M E=33\n36CCA Y=2\n36CCA Z=0\n")
     ∷ (drop 828 (wiringText cellCount fresh), bytesOf "M E=48\n36CCA Y=0\n36CCA Z=0\nPM E=0\n")
-    -- a counter has a configuration to be read and none to be written; slots in the order X Y Z F, the clock 128 or more
+    -- a counter has a configuration to be read and none to be written; slots in the order X Y Z F,
+    -- the clock 128 or more
     ∷ (printedCell 19 0 (41 ∷ 192 ∷ 0 ∷ 42 ∷ []), bytesOf "M E=1\n36CCA Y=19\n36CCB X=41 Y=192 Z=0 F=42\n")
     -- edge slots as they are stored, and the others
     ∷ (printedCell 16 0 (169 ∷ 192 ∷ 64 ∷ 170 ∷ []), bytesOf "M E=1\n36CCA Y=16\n36CCA Z=0\n36CCB X=169 Y=192 Z=64 F=170\n")
@@ -49,7 +51,8 @@ table =
     ∷ (printedCell 2 8 (105 ∷ 42 ∷ 0 ∷ 0 ∷ []), bytesOf "M E=1\n36CCA Y=2\n36CCA Z=8\n36CCB X=105 Y=42\n")
     -- a type past the table, on a card that no calls reach
     ∷ (printedCell 200 7 (1 ∷ 2 ∷ 3 ∷ 4 ∷ []), bytesOf "M E=1\n36CCA Y=200\n")
-    -- "16, when the text is longer than the buffer", "It returns k and the text's length, 0 when refused": a fresh card's text has 862 bytes
+    -- "16, when the text is longer than the buffer", "It returns k and the text's length, 0 when
+    -- refused": a fresh card's text has 862 bytes
     ∷ (printNumber cellCount fresh 861 ∷ printLength cellCount fresh 861 ∷ [], 16 ∷ 0 ∷ [])
     ∷ (printNumber cellCount fresh 862 ∷ printLength cellCount fresh 862 ∷ [], 0 ∷ 862 ∷ [])
     -- "the buffer is then untouched"; else what lies beyond the text is

@@ -1,5 +1,6 @@
--- Document 02, 12: "In any list of rack calls from that start, replacing quick by full rack ticks changes nothing that demand 3 compares, in any card", and
--- "from that start each card always gets its four, whatever the others hold".
+-- Document 02, 12: "In any list of rack calls from that start, replacing quick by full rack ticks
+-- changes nothing that demand 3 compares, in any card", and "from that start each card always gets
+-- its four, whatever the others hold".
 use Prim.Native.Nat.{ℕ, _≤_, _<_}
 use mathlib.Core.Path.{_≡_}
 use mathlib.Core.Bool.{Bool, false}

@@ -1,4 +1,5 @@
--- Document 02, 12: what a row of cards answers, by computation, in the numbers of the document: the supply, who pulls a line low, and what is no rack.
+-- Document 02, 12: what a row of cards answers, by computation, in the numbers of the document: the
+-- supply, who pulls a line low, and what is no rack.
 use Prim.Native.Nat.{ℕ}
 use Prim.Native.String.{String}
 use mathlib.Core.Path.{_≡_, refl}
@@ -95,7 +96,8 @@ ticked answers = tickReply (record { k = 0; answers = answers })
 ticks : ℕ → Answer → Answer → Exchange
 ticks code one two = (tickOf code, ticked (one ∷ two ∷ replicate 2 idleAnswer))
 
--- a record of constants 0 with this trigger, the eight front connectors of one type and the eight of the backplane of another, all from 0
+-- a record of constants 0 with this trigger, the eight front connectors of one type and the eight
+-- of the backplane of another, all from 0
 recordWith : (trigger front back : ℕ) → List ℕ
 recordWith trigger front back =
     encode configWidth trigger (replicate cellCount freshCell)
@@ -107,8 +109,9 @@ Session = List Card × List Exchange
 
 -- ---- the supply
 
--- "the sum over the cards of the larger of 4 and the card's push-pull front connectors is then at most 16": three cards with 8, 1 and 0 draw 16, whatever is
--- open-drain or on the backplane. Then five on the second are one too many; 13 and 15 come before that
+-- "the sum over the cards of the larger of 4 and the card's push-pull front connectors is then at
+-- most 16": three cards with 8, 1 and 0 draw 16, whatever is open-drain or on the backplane. Then
+-- five on the second are one too many; 13 and 15 come before that
 supplySession : Session
 supplySession = (
   startRow cellCount 3,
@@ -119,8 +122,9 @@ supplySession = (
       ++ (refused 2 "36CCA X=19" 13 ":N-13\r\n" ∷ []),
 )
 
--- on a row that draws too much already, three fresh cards with 24: what changes no front type is free, a preset on connectors that are push-pull already too;
--- a change that leaves the row over 16 is refused, open-drain and `PM E=4` among them
+-- on a row that draws too much already, three fresh cards with 24: what changes no front type is
+-- free, a preset on connectors that are push-pull already too; a change that leaves the row over 16
+-- is refused, open-drain and `PM E=4` among them
 overSession : Session
 overSession = (
   replicate 3 (freshOf cellCount),
@@ -128,7 +132,8 @@ overSession = (
       ++ (refused 1 "36CCA Y=1" 19 ":N-19\r\n" ∷ refused 1 "PM E=4" 19 ":N-19\r\n" ∷ accepts 1 ("PM E=3" ∷ [])),
 )
 
--- "a lent row of 1 to 4 cards": four take a start, a load of open-drain fronts, four push-pull ones on the last and no fifth, and a tick with a front for each
+-- "a lent row of 1 to 4 cards": four take a start, a load of open-drain fronts, four push-pull ones
+-- on the last and no fifth, and a tick with a front for each
 fourSession : Session
 fourSession = (
   startRow cellCount 4,
@@ -146,7 +151,8 @@ fourSession = (
 
 -- ---- who pulls a line low
 
--- card 1 has TTL0 open-drain from 0: both cards see it low. It idles and its connector becomes an input: it goes on pulling, until it runs again
+-- card 1 has TTL0 open-drain from 0: both cards see it low. It idles and its connector becomes an
+-- input: it goes on pulling, until it runs again
 idleSession : Session
 idleSession = (
   startRow cellCount 2,
@@ -156,7 +162,8 @@ idleSession = (
       ∷ ticks 0 idleAnswer (ran 0) ∷ said 2 "36RDADC Y?" ":A 255\r\n" ∷ []),
 )
 
--- "before its first tick it drives nothing"; "push-pull there counts as open-drain": card 1 drives TTL0 high and card 2 low, and it is low for both
+-- "before its first tick it drives nothing"; "push-pull there counts as open-drain": card 1 drives
+-- TTL0 high and card 2 low, and it is low for both
 driverSession : Session
 driverSession = (
   startRow cellCount 2,
@@ -165,9 +172,10 @@ driverSession = (
       ∷ ticks 1 idleAnswer (ran 0) ∷ ticks 0 (ran 0x0100) idleAnswer ∷ said 1 "36RDADC Y?" ":A 254\r\n" ∷ []),
 )
 
--- "one backplane sample" for all, and for each card its own front, each with its attached bits: BNC2 of card 1, BNC3 of card 2 and, of the backplane, TTL1 and
--- TTL3 to TTL7 are high. Card 1 drives TTL0 high, push-pull, and it is low, for the sample is; then it drives it low, and card 2 sees it; then both drive it
--- low, and it is low
+-- "one backplane sample" for all, and for each card its own front, each with its attached bits:
+-- BNC2 of card 1, BNC3 of card 2 and, of the backplane, TTL1 and TTL3 to TTL7 are high. Card 1
+-- drives TTL0 high, push-pull, and it is low, for the sample is; then it drives it low, and card 2
+-- sees it; then both drive it low, and it is low
 apartSession : Session
 apartSession = (
   startRow cellCount 2,
@@ -185,7 +193,8 @@ apartSession = (
 
 -- ---- what a start leaves
 
--- "makes every card of the row fresh, but with all front connectors as inputs": pointer, trigger, cells, levels, types, sources, and the record that it saves
+-- "makes every card of the row fresh, but with all front connectors as inputs": pointer, trigger,
+-- cells, levels, types, sources, and the record that it saves
 startSession : Session
 startSession = (
   replicate 2 (freshOf cellCount),
@@ -215,7 +224,8 @@ sessions = supplySession ∷ overSession ∷ fourSession ∷ idleSession ∷ dri
 
 -- ---- tallies
 
--- a rack tick counts; "A load clears them", a start too, and of a row the load of one card leaves the other's
+-- a rack tick counts; "A load clears them", a start too, and of a row the load of one card leaves
+-- the other's
 tallyRows : List (List RackCall × List ℕ)
 tallyRows =
     (tickOf 0 ∷ tickOf 1 ∷ tickOf 0 ∷ [], 2 ∷ 2 ∷ [])

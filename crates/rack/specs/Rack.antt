@@ -23,7 +23,8 @@ use Rattle.rack.specs.declared.job.Replied.{Replied}
 use Rattle.rack.specs.Shared.{pulls, sharedTick}
 use Rattle.rack.specs.Supply.{mostCards, drawsOf, over}
 
--- ---- 20: "a rack of 0 or over 4 cards or with one of 32 cells, a card number outside it or samples not one for each card"
+-- ---- 20: "a rack of 0 or over 4 cards or with one of 32 cells, a card number outside it or
+-- samples not one for each card"
 
 abbrev pub noRack : ℕ
 noRack = 20
@@ -109,7 +110,8 @@ rowAnswers n full r cards =
 abbrev pub rowTicked : ℕ → Bool → RackInput → List Card → RackTicked
 rowTicked n full r cards = record { k = tickNumber cards r; answers = rowAnswers n full r cards }
 
--- ---- a line and a load to one card: refused with 20 at once, with 19 where all else would be accepted
+-- ---- a line and a load to one card: refused with 20 at once, with 19 where all else would be
+-- accepted
 
 -- the card of a number; a started card stands for one past the row
 abbrev pub cardOf : (n : ℕ) → List Card → (number : ℕ) → Card
@@ -118,8 +120,9 @@ cardOf n cards number = getD cards (number - 1) (startCard n)
 abbrev pub overSupply : ℕ
 overSupply = 19
 
--- what the rack itself refuses of a call that would give number k and connectors b for a: 20 where row and number are no rack's; 19 where all else is accepted
--- and the supply does not bear it; 0 where it leaves the call as it is
+-- what the rack itself refuses of a call that would give number k and connectors b for a: 20 where
+-- row and number are no rack's; 19 where all else is accepted and the supply does not bear it; 0
+-- where it leaves the call as it is
 abbrev pub refusalIn : (bad : Bool) → (numbers : List ℕ) → (place : ℕ) → (a b : Connectors) → (k : ℕ) → ℕ
 refusalIn bad numbers place a b k = cond bad noRack (cond (eqb k 0 && over numbers place a b) overSupply 0)
 
@@ -157,7 +160,8 @@ abbrev pub lineIn : ℕ → (bad : Bool) → (numbers : List ℕ) → (place : �
 lineIn n bad numbers place c text reply store =
     resultFor n c (outcomeIn bad numbers place c (lineOutcome n c text (length reply) (length store))) reply store
 
--- what a line to a card of a row answers and leaves: its number and the reply's length, the row, and the two buffers
+-- what a line to a card of a row answers and leaves: its number and the reply's length, the row,
+-- and the two buffers
 pub record RowResult : Type 0 where
   pub k : ℕ
   pub len : ℕ

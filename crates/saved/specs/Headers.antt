@@ -1,5 +1,6 @@
--- Document 01, row 14 of "When the card says no", byte by byte: what a record has besides its values. Nothing is written and compared here; the law
--- is that a load gives 14 exactly where this fails (proofs/Headers.antt).
+-- Document 01, row 14 of "When the card says no", byte by byte: what a record has besides its
+-- values. Nothing is written and compared here; the law is that a load gives 14 exactly where this
+-- fails (proofs/Headers.antt).
 use Prim.Native.Nat.{ℕ, zero, suc, _+_, _*_, _/_, _%_, _<_}
 use mathlib.Core.Bool.{Bool, true, _&&_, _||_}
 use mathlib.Core.List.{List}
@@ -30,7 +31,8 @@ numberedAt bytes at tag size number = startsAt bytes at tag size && eqb number (
 unfoldable pub triggerHeaded : List ℕ → Bool
 triggerHeaded bytes = startsAt bytes 0 1 1
 
--- "tag 2 cell number, type, configuration (2, high first), slots (8 in all), sixteen in order": besides the configuration there are six bytes
+-- "tag 2 cell number, type, configuration (2, high first), slots (8 in all), sixteen in order":
+-- besides the configuration there are six bytes
 unfoldable pub cellHeaded : (width : ℕ) (bytes : List ℕ) (i : ℕ) → Bool
 cellHeaded width bytes i = numberedAt bytes (triggerLength + i * cellLength width) 2 (6 + width) (i + firstCell)
 
@@ -39,12 +41,14 @@ unfoldable pub connectorHeaded : (n width : ℕ) (bytes : List ℕ) (k : ℕ) �
 connectorHeaded n width bytes k =
     numberedAt bytes (triggerLength + n * cellLength width + k * connectorLength) 3 3 (k + firstConnector)
 
--- what 14 asks for, by one form: "record not 276 bytes; a field's length, tag, or a cell number or connector address out of order"
+-- what 14 asks for, by one form: "record not 276 bytes; a field's length, tag, or a cell number or
+-- connector address out of order"
 unfoldable pub headed : (n width : ℕ) (bytes : List ℕ) → Bool
 headed n width bytes =
     eqb (length bytes) (recordLength n width)
     && (triggerHeaded bytes && (everyBelow (cellHeaded width bytes) n && everyBelow (connectorHeaded n width bytes) connectorCount))
 
--- by either form, of which the older is only that of a card of sixteen cells: "The 276-byte record still loads"
+-- by either form, of which the older is only that of a card of sixteen cells: "The 276-byte record
+-- still loads"
 unfoldable pub headedEither : ℕ → List ℕ → Bool
 headedEither n bytes = (leb n cellCount && headed n narrowWidth bytes) || headed n configWidth bytes

@@ -1,5 +1,6 @@
--- Document 01, "Saved record", and document 02, "Constants are 0 or 1" and "Long exposures": the settings as bytes, and a load. Stated over the number
--- n of cells and the width of a configuration, which is the form of a record.
+-- Document 01, "Saved record", and document 02, "Constants are 0 or 1" and "Long exposures": the
+-- settings as bytes, and a load. Stated over the number n of cells and the width of a
+-- configuration, which is the form of a record.
 use Prim.Native.Nat.{ℕ, zero, suc, _+_, _-_, _*_, _/_, _%_, _^_, _<_, _≤_}
 use mathlib.Core.Path.{_≡_, refl}
 use mathlib.Core.Bool.{Bool, true, false, _&&_, cond}
@@ -34,7 +35,8 @@ bigEndian (suc w) v = v / 256 ^ w % 256 ∷ bigEndian w v
 abbrev pub triggerField : ℕ → List ℕ
 triggerField trigger = field 1 (trigger ∷ [])
 
--- "tag 2 cell number, type, configuration (2, high first), slots (8 in all), sixteen in order"; now "a four-byte configuration"
+-- "tag 2 cell number, type, configuration (2, high first), slots (8 in all), sixteen in order"; now
+-- "a four-byte configuration"
 unfoldable pub cellField : (width i : ℕ) → Cell → List ℕ
 cellField width i cell = field 2 ((i + firstCell) ∷ cell .kind ∷ bigEndian width (cell .config) ++ cell .slots)
 
@@ -57,7 +59,8 @@ configWidth = 4
 abbrev pub narrowWidth : ℕ
 narrowWidth = 2
 
--- the lengths of the fields, and of the record of n cells: of sixteen "so a record is 308 bytes", and in the old form "276 bytes"
+-- the lengths of the fields, and of the record of n cells: of sixteen "so a record is 308 bytes",
+-- and in the old form "276 bytes"
 
 abbrev pub triggerLength : ℕ
 triggerLength = 4
@@ -100,7 +103,8 @@ connectorIn n width bytes k =
 abbrev pub cellsIn : (n width : ℕ) (bytes : List ℕ) → List Cell
 cellsIn n width bytes = listed (cellIn width bytes) n
 
--- document 02, "Constants are 0 or 1": "A stored record with a larger number still loads, as 1": a cell in its normal form
+-- document 02, "Constants are 0 or 1": "A stored record with a larger number still loads, as 1": a
+-- cell in its normal form
 abbrev pub normalConfig : (kind config : ℕ) → ℕ
 normalConfig kind config = cond (eqb kind constantType && ltb largestConstant config) largestConstant config
 
@@ -126,9 +130,10 @@ sameBytes [] (b ∷ bs) = false
 sameBytes (a ∷ s) [] = false
 sameBytes (a ∷ s) (b ∷ bs) = eqb a b && sameBytes s bs
 
--- by one form. 14: "record not 276 bytes; a field's length, tag, or a cell number or connector address out of order": the settings read out of the
--- bytes, written again, are not these bytes; byte by byte in specs/Headers. 15: "record value no line could set" and what else `valid` says, of the
--- settings in normal form: a constant's own number is no cause for it
+-- by one form. 14: "record not 276 bytes; a field's length, tag, or a cell number or connector
+-- address out of order": the settings read out of the bytes, written again, are not these bytes;
+-- byte by byte in specs/Headers. 15: "record value no line could set" and what else `valid` says,
+-- of the settings in normal form: a constant's own number is no cause for it
 unfoldable pub loadNumberAs : (n width : ℕ) (bytes : List ℕ) → ℕ
 loadNumberAs n width bytes =
     cond (sameBytes (encode width (triggerIn bytes) (cellsIn n width bytes) (connectorsIn n width bytes)) bytes)
@@ -144,7 +149,8 @@ loadedAs n width c bytes =
     cond (eqb (loadNumberAs n width bytes) 0)
     (poweredUp n (c .size) (triggerIn bytes) (loadCells n width bytes ++ drop n (c .cells)) (fromEach (connectorsIn n width bytes))) c
 
--- "The 276-byte record still loads": the form that the length of a record tells. Other lengths than the two are 14 in either form
+-- "The 276-byte record still loads": the form that the length of a record tells. Other lengths than
+-- the two are 14 in either form
 abbrev pub widthOf : ℕ → List ℕ → ℕ
 widthOf n bytes = cond (leb n cellCount && eqb (length bytes) (recordLength n narrowWidth)) narrowWidth configWidth
 
@@ -159,8 +165,8 @@ loadNumber n bytes = loadNumberAs n (widthOf n bytes) bytes
 unfoldable pub loaded : ℕ → Card → List ℕ → Card
 loaded n c bytes = loadedAs n (widthOf n bytes) c bytes
 
--- the settings that the bytes hold in the one form, constants above 1 made 1, written in the other: what a save after an accepted load writes,
--- "saved as 1 afterwards"
+-- the settings that the bytes hold in the one form, constants above 1 made 1, written in the other:
+-- what a save after an accepted load writes, "saved as 1 afterwards"
 unfoldable pub normalRecord : (n from to : ℕ) → List ℕ → List ℕ
 normalRecord n from to bytes = encode to (triggerIn bytes) (loadCells n from bytes) (connectorsIn n from bytes)
 
@@ -168,6 +174,7 @@ normalRecord n from to bytes = encode to (triggerIn bytes) (loadCells n from byt
 abbrev pub SmallConstants : (n width : ℕ) (bytes : List ℕ) → Type 0
 SmallConstants n width bytes = (i : ℕ) → i < n → cellIn width bytes i .kind ≡ constantType → cellIn width bytes i .config ≤ largestConstant
 
--- the store after a save: the record at its front and beyond it as it was; a store too short is untouched
+-- the store after a save: the record at its front and beyond it as it was; a store too short is
+-- untouched
 unfoldable pub savedTo : (n width : ℕ) → Card → (store : List ℕ) → List ℕ
 savedTo n width c store = cond (ltb (length store) (recordLength n width)) store (sets store 0 (recordOf n width c))

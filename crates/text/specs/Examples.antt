@@ -1,4 +1,5 @@
--- Document 01, "Lines", and document 02, "A line's number has 1 to 10 digits": texts that are numbers and texts that are none, by computation.
+-- Document 01, "Lines", and document 02, "A line's number has 1 to 10 digits": texts that are
+-- numbers and texts that are none, by computation.
 use Prim.Native.Nat.{ℕ}
 use Prim.Native.String.{String}
 use mathlib.Core.Path.{_≡_, refl}
