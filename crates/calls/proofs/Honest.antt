@@ -1,5 +1,5 @@
--- The card's memory is honest: over every list its edits are those that the calls made since the last tick that ran, and what it remembers is
--- what that tick read. So who wakes in a quick tick goes by the calls.
+-- The card's memory is the history of its calls: over every list its edits are those that the calls made since the
+-- last tick that ran, and what it remembers is what that tick read. So who wakes in a quick tick goes by the calls.
 use Prim.Native.Nat.{ℕ, _-_, _^_, _≤_, _<_}
 use mathlib.Core.Path.{_≡_, refl, ap, ap₂, _∙_}
 use mathlib.Core.Bool.{Bool, true, false, cond}

@@ -25,7 +25,8 @@ use Rattle.card.specs.Change.{changed}
 use Rattle.card.specs.Fresh.{fresh, freshOf}
 use Rattle.card.specs.Presets.{presetTable, settingOf, offered}
 use Rattle.card.specs.Valid.{permittedBase, badPlace, badCellType, badConnectorType, badClock, badConfig, unusedSlot, badAddress, noConfig, badStateAs}
-use Rattle.card.specs.Valid.{badState, noState, frontDriven, validSlot, validSlots, validCell, validConnector, every, valid}
+use Rattle.text.specs.Digits.{every}
+use Rattle.card.specs.Valid.{badState, noState, frontDriven, validSlot, validSlots, validCell, validConnector, valid}
 use Rattle.ticks.specs.Reading.{levelAt, readsLevels, reads, slotsRead, mixed, view}
 use Rattle.ticks.specs.Levels.{effectiveSample, drivenWord, levelsFrom, linesOf}
 use Rattle.ticks.specs.Tick.{readNow, readLast, named, turnAt, outputsBelow, turned, tick}
@@ -176,10 +177,10 @@ largeSession =
     ∷ []
 
 replies : answers cellCount fresh (map (λ (e : Call × Reply). e .0) session) ≡ map (λ (e : Call × Reply). e .1) session
-unfolding lineWith said refused tickOf constants pushed inputs bytes bytesOf ones onesIn withBit wordOf bitAt listed valueBy isDigit digitsOf leads plain numberIn numberAt decimalFrom decimal rowOf slotsOf taken raised workAs workOut stirredAs stirred disagree wakes levelAt readsLevels reads slotsRead mixed view effectiveSample linesOf move setTrigger home currentCell currentConnector putCell putConnectors typed setType configuredState configured setConfig statedAs stated setState wired setSlots setConnectorType setSource configShown stateAs fresh presetTable settingOf offered readNow readLast named turnAt outputsBelow turned tick permittedBase badPlace badCellType badConnectorType badClock badConfig unusedSlot badAddress noConfig badStateAs badState noState frontDriven validSlot validSlots validCell validConnector every valid bigEndian cellField connectorField fieldsFrom encode bigValue cellIn connectorIn normalCell recordOf sameBytes loadNumberAs loadedAs loadNumber loaded isWord isWhole toEnd slotOf gave give pairRead pairsOf writeOf ccaWrite ccaRead ccaForm slotForm ccbForm readOf readForm cardForm plainForm addressed parse alone refusal slotIndex changed changeFor responseTo decision decisionFor lineDecision lineOutcome replyOf Line.lineReply savedBytes afterCall answer answersOf kindAt sourceAt withKind withSource each fromEach wellFormed drivenWord levelsFrom
+unfolding lineWith said refused tickOf constants pushed inputs bytes ones onesIn withBit wordOf bitAt listed valueBy isDigit digitsOf leads plain numberIn numberAt decimalFrom decimal rowOf slotsOf taken raised workAs workOut stirredAs stirred disagree wakes levelAt readsLevels reads slotsRead mixed view effectiveSample linesOf move setTrigger home currentCell currentConnector putCell putConnectors typed setType configuredState configured setConfig statedAs stated setState wired setSlots setConnectorType setSource configShown stateAs fresh presetTable settingOf offered readNow readLast named turnAt outputsBelow turned tick permittedBase badPlace badCellType badConnectorType badClock badConfig unusedSlot badAddress noConfig badStateAs badState noState frontDriven validSlot validSlots validCell validConnector every valid bigEndian cellField connectorField fieldsFrom encode bigValue cellIn connectorIn normalCell recordOf sameBytes loadNumberAs loadedAs loadNumber loaded isWord isWhole toEnd slotOf gave give pairRead pairsOf writeOf ccaWrite ccaRead ccaForm slotForm ccbForm readOf readForm cardForm plainForm addressed parse alone refusal slotIndex changed changeFor responseTo decision decisionFor lineDecision lineOutcome replyOf Line.lineReply savedBytes afterCall answer answersOf kindAt sourceAt withKind withSource each fromEach wellFormed drivenWord levelsFrom
 replies = refl
 
 -- the number of ones is left as it is written: counted out, it takes as many steps as the word says
 large-replies : answers cellRoom (freshOf cellRoom) (map (λ (e : Call × Reply). e .0) largeSession) ≡ map (λ (e : Call × Reply). e .1) largeSession
-unfolding lineWith said refused bytesOf withBit wordOf bitAt listed valueBy isDigit digitsOf leads plain numberIn numberAt decimalFrom decimal rowOf slotsOf taken raised workAs workOut stirredAs stirred disagree wakes levelAt readsLevels reads slotsRead mixed view effectiveSample linesOf move setTrigger home currentCell currentConnector putCell putConnectors typed setType configuredState configured setConfig statedAs stated setState wired setSlots setConnectorType setSource configShown stateAs fresh presetTable settingOf offered readNow readLast named turnAt outputsBelow turned tick permittedBase badPlace badCellType badConnectorType badClock badConfig unusedSlot badAddress noConfig badStateAs badState noState frontDriven validSlot validSlots validCell validConnector every valid bigEndian cellField connectorField fieldsFrom encode bigValue cellIn connectorIn normalCell recordOf sameBytes loadNumberAs loadedAs loadNumber loaded isWord isWhole toEnd slotOf gave give pairRead pairsOf writeOf ccaWrite ccaRead ccaForm slotForm ccbForm readOf readForm cardForm plainForm addressed parse alone refusal slotIndex changed changeFor responseTo decision decisionFor lineDecision lineOutcome replyOf Line.lineReply savedBytes afterCall answer answersOf kindAt sourceAt withKind withSource each fromEach wellFormed drivenWord levelsFrom
+unfolding lineWith said refused withBit wordOf bitAt listed valueBy isDigit digitsOf leads plain numberIn numberAt decimalFrom decimal rowOf slotsOf taken raised workAs workOut stirredAs stirred disagree wakes levelAt readsLevels reads slotsRead mixed view effectiveSample linesOf move setTrigger home currentCell currentConnector putCell putConnectors typed setType configuredState configured setConfig statedAs stated setState wired setSlots setConnectorType setSource configShown stateAs fresh presetTable settingOf offered readNow readLast named turnAt outputsBelow turned tick permittedBase badPlace badCellType badConnectorType badClock badConfig unusedSlot badAddress noConfig badStateAs badState noState frontDriven validSlot validSlots validCell validConnector every valid bigEndian cellField connectorField fieldsFrom encode bigValue cellIn connectorIn normalCell recordOf sameBytes loadNumberAs loadedAs loadNumber loaded isWord isWhole toEnd slotOf gave give pairRead pairsOf writeOf ccaWrite ccaRead ccaForm slotForm ccbForm readOf readForm cardForm plainForm addressed parse alone refusal slotIndex changed changeFor responseTo decision decisionFor lineDecision lineOutcome replyOf Line.lineReply savedBytes afterCall answer answersOf kindAt sourceAt withKind withSource each fromEach wellFormed drivenWord levelsFrom
 large-replies = refl

@@ -40,10 +40,6 @@ abbrev pub PerTick : Type 0
 PerTick = Bool → Card → Lines → ℕ
 
 module _ (n : ℕ) where
-  -- the rules name cell i in a tick, a full one too
-  abbrev pub namedIn : Bool → Card → Lines → ℕ → Bool
-  namedIn full c l i = namedOn n full c (l .levels) i
-
   -- after a call: "Once the tick total is 4,294,967,295 all of them stand still", and until then a
   -- tick that ran counts; "A load clears them", if it is accepted; nothing else counts
   unfoldable pub sumNext : PerTick → Card → Call → Summed → Summed
@@ -63,10 +59,10 @@ module _ (n : ℕ) where
     pub ran : totalOf c ≡ summed (λ full c l. 1) calls
     -- "for each cell, in how many ticks the waking rules named it, also in full ticks"
     pub times : (i : ℕ) → i < n
-        → tallyOf (c .tallies) i ≡ summed (λ full c l. bitNumber (namedIn full c l i)) calls
+        → tallyOf (c .tallies) i ≡ summed (λ full c l. bitNumber (namedOn n full c (l .levels) i)) calls
     -- "the sum taken cell by cell equals the sum, tick by tick up to the standstill, of the sizes
     -- of the sets that the rules name (in a full tick too)"
-    pub sums : sumOf (tallyOf (c .tallies)) n ≡ summed (λ full c l. countOf (namedIn full c l) n) calls
+    pub sums : sumOf (tallyOf (c .tallies)) n ≡ summed (λ full c l. countOf (namedOn n full c (l .levels)) n) calls
     -- "no cell's tally exceeds the tick total"
     pub most : (i : ℕ) → i < n → tallyOf (c .tallies) i ≤ totalOf c
 
@@ -80,7 +76,7 @@ module _ (n : ℕ) where
   WhoIsNamed = (calls : List Call) (full : Bool) (l : Lines) (i : ℕ) → i < n
       → let c = end n (freshOf n) calls in
       let cell = getD (c .cells) i noCell in
-      namedIn full c l i
+      namedOn n full c (l .levels) i
       ≡ wakes (cell .kind) (stateOf cell) (editedSince n (freshOf n) calls i false) (readOn n full c (l .levels) i (cell .slots))
       (readSince n (freshOf n) calls i lowReadings (cell .slots))
 

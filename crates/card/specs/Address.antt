@@ -5,11 +5,12 @@ use Prim.Native.Nat.{ℕ, _+_, _%_}
 use mathlib.Core.Bool.{Bool, _&&_, _||_, cond}
 use lib.Dec.{leb, ltb, eqb}
 
--- the number of cells, and of connectors, of the card
+-- document 01: "1-16 cells", the number of cells of a small card
 abbrev pub cellCount : ℕ
 cellCount = 16
 
--- the room for cells: the number of a large card
+-- document 02, "Thirty-two cells": the number of cells of a large card, for which every card has
+-- room
 abbrev pub cellRoom : ℕ
 cellRoom = 32
 
@@ -17,6 +18,7 @@ cellRoom = 32
 unfoldable pub cellsFor : ℕ → ℕ
 cellsFor size = cond (eqb size cellRoom) cellRoom cellCount
 
+-- "33-40 front connectors BNC1-8, 41-48 backplane TTL0-7"
 abbrev pub connectorCount : ℕ
 connectorCount = 16
 
@@ -27,8 +29,7 @@ frontCount = 8
 abbrev pub onBackplane : ℕ → Bool
 onBackplane k = leb frontCount k
 
--- "1-16 cells, 33-40 front connectors BNC1-8, 41-48 backplane TTL0-7": the first base of the cells
--- and of the connectors
+-- the first base of the cells and of the connectors
 abbrev pub firstCell : ℕ
 firstCell = 1
 

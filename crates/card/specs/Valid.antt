@@ -5,6 +5,7 @@ use mathlib.Core.Bool.{Bool, true, false, not, _&&_, _||_, cond}
 use mathlib.Core.List.{List, [], _∷_}
 use lib.Dec.{leb, ltb, eqb}
 use lib.ListN.{length, getD, take}
+use Rattle.text.specs.Digits.{every}
 use Rattle.cells.specs.declared.table.Slots.{Slots}
 use Rattle.cells.specs.declared.table.Row.{Row}
 use Rattle.cells.specs.declared.table.Kept.{Kept}
@@ -22,7 +23,7 @@ use Rattle.card.specs.Connectors.{pushPull, isOutput, noConnector, each,
 
 -- ---- single values
 
--- the largest address, clock code and type of a connector
+-- the largest address, and the largest clock code
 abbrev pub largestAddress : ℕ
 largestAddress = 255
 
@@ -86,11 +87,6 @@ validCell n cell =
 
 unfoldable pub validConnector : ℕ → Connector → Bool
 validConnector n k = not (badConnectorType (k .kind)) && not (badAddress n (k .source))
-
--- every entry of a list passes the test
-unfoldable pub every : {A : Type 0} → (A → Bool) → List A → Bool
-every f [] = true
-every f (x ∷ xs) = f x && every f xs
 
 -- settings of a card of n cells as a record holds them. A list may have cells behind the first n;
 -- nothing is asked of them

@@ -25,7 +25,7 @@ use cells::table::row_of;
 // What a read gives: anything that the card holds, and nothing is wider than a configuration.
 pub type Value = Config;
 
-// A small part of the card: no line looks at more before it changes something. `celled` says that the pointer stands at a cell.
+// A small part of the card: no line looks at more before it changes something. `celled` says whether the pointer is at a cell.
 pub struct Context {
     pub pointer: u8,
     pub celled: bool,

@@ -212,11 +212,11 @@ expected : List ℕ
 expected = map (λ (e : String × ℕ). e .1) forms
 
 on-either : (map (λ (e : String × ℕ). number cellCount (e .0)) forms ≡ expected) × (map (λ (e : String × ℕ). number cellRoom (e .0)) forms ≡ expected)
-unfolding form number expected bytesOf valueBy isDigit digitsOf leads plain numberIn numberAt isWord isWhole toEnd slotOf gave give pairRead pairsOf writeOf ccaWrite ccaRead ccaForm slotForm ccbForm readOf readForm cardForm plainForm addressed parse
+unfolding form number expected valueBy isDigit digitsOf leads plain numberIn numberAt isWord isWhole toEnd slotOf gave give pairRead pairsOf writeOf ccaWrite ccaRead ccaForm slotForm ccbForm readOf readForm cardForm plainForm addressed parse
 on-either = (refl, refl)
 
 by-size : map (λ (e : ℕ × ℕ). e .0) sizes ≡ map (λ (e : ℕ × ℕ). e .1) sizes
-unfolding form number bytesOf valueBy isDigit digitsOf leads plain numberIn numberAt isWord isWhole toEnd slotOf gave give pairRead pairsOf writeOf ccaWrite ccaRead ccaForm slotForm ccbForm readOf readForm cardForm plainForm addressed parse
+unfolding form number valueBy isDigit digitsOf leads plain numberIn numberAt isWord isWhole toEnd slotOf gave give pairRead pairsOf writeOf ccaWrite ccaRead ccaForm slotForm ccbForm readOf readForm cardForm plainForm addressed parse
 by-size = refl
 
 -- document 02, "Thirty-two cells": at sixteen cells as before, `36RDADC X?` front levels, `Y?`

@@ -32,7 +32,7 @@ letterOf NoSlot = 0
 
 -- a card command, behind the card's address: "The card's address is 36"
 abbrev pub cardLine : List ℕ → List ℕ
-cardLine text = 51 ∷ 54 ∷ text
+cardLine text = bytesOf "36" ++ text
 
 -- `36CCA p=n`, `36CCA p?`
 abbrev pub ccaText : Slot → ℕ → List ℕ
@@ -163,5 +163,5 @@ rows =
     ∷ []
 
 written : (map (λ (e : Command × String). commandText (e .0)) rows ≡ map (λ (e : Command × String). bytesOf (e .1)) rows) × (!-E ≡ bytesOf "! E")
-unfolding commandText pairsText bytesOf decimalFrom decimal
+unfolding commandText pairsText decimalFrom decimal
 written = (refl, refl)

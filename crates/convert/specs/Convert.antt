@@ -10,7 +10,7 @@ use Rattle.cells.specs.declared.cell.Cell.{Cell}
 use Rattle.cells.specs.Table.{constantType}
 use Rattle.card.specs.declared.card.Connector.{Connector}
 use Rattle.card.specs.Address.{cellRoom, firstCell, among, baseOf}
-use Rattle.card.specs.Valid.{every}
+use Rattle.text.specs.Digits.{every}
 use Rattle.saved.specs.Record.{configWidth, narrowWidth, recordLength, encode, triggerIn, loadCells, connectorsIn, widthOf, loadNumber}
 
 -- ---- the record that is given

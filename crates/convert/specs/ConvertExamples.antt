@@ -9,7 +9,8 @@ use Rattle.words.specs.Listed.{listed}
 use Rattle.cells.specs.Table.{rowOf}
 use Rattle.card.specs.Address.{cellCount}
 use Rattle.card.specs.Valid.{permittedBase, badClock, frontDriven, badCellType, badConnectorType, badAddress, validSlot, validSlots, validCell}
-use Rattle.card.specs.Valid.{validConnector, every, valid}
+use Rattle.text.specs.Digits.{every}
+use Rattle.card.specs.Valid.{validConnector, valid}
 use Rattle.saved.specs.Record.{bigEndian, cellField, connectorField, fieldsFrom, encode, bigValue, cellIn, connectorIn, normalCell, sameBytes, loadNumberAs}
 use Rattle.saved.specs.Record.{loadNumber, normalRecord}
 use Rattle.saved.specs.RecordExamples.{whole, part, oldCell, old, changed, constantField, large, oldLarge}

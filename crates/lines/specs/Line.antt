@@ -2,11 +2,12 @@
 -- two lent buffers.
 use Prim.Native.Nat.{ℕ}
 use mathlib.Core.Bool.{Bool, true, false, _&&_, cond}
-use mathlib.Core.List.{List, [], _∷_, _++_}
+use mathlib.Core.List.{List, [], _++_}
 use lib.Dec.{eqb, ltb}
 use lib.ListN.{length}
 use lib.Seq.{sets}
 use Rattle.text.specs.Decimal.{decimal}
+use Rattle.text.specs.Written.{bytesOf}
 use Rattle.card.specs.declared.card.Card.{Card}
 use Rattle.card.specs.declared.change.Change.{Change}
 use Rattle.card.specs.declared.change.Change.the-variants as Changes
@@ -150,14 +151,14 @@ lineOutcome n c text reply store = outcomeOf n c (lineDecision n (contextOf n c)
 
 -- CR LF
 abbrev pub ending : List ℕ
-ending = 13 ∷ 10 ∷ []
+ending = bytesOf "\r\n"
 
 -- "The reply is `:A` or `:A n`, refused `:N-k`, each with CR LF"
 abbrev pub acceptance : Response → List ℕ
-acceptance r = 58 ∷ 65 ∷ cond (r .number) (32 ∷ decimal (r .value)) [] ++ ending
+acceptance r = bytesOf ":A" ++ cond (r .number) (bytesOf " " ++ decimal (r .value)) [] ++ ending
 
 abbrev pub refusalText : ℕ → List ℕ
-refusalText k = 58 ∷ 78 ∷ 45 ∷ decimal k ++ ending
+refusalText k = bytesOf ":N-" ++ decimal k ++ ending
 
 unfoldable pub replyOf : ℕ → Response → List ℕ
 replyOf k r = cond (eqb k 0) (acceptance r) (refusalText k)

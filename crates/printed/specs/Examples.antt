@@ -16,7 +16,8 @@ use Rattle.card.specs.Address.{cellCount}
 use Rattle.card.specs.Fresh.{started, fresh}
 use Rattle.card.specs.Presets.{whole}
 use Rattle.card.specs.Valid.{permittedBase, badCellType, badConnectorType, badClock, badAddress, frontDriven, validSlot, validSlots, validCell}
-use Rattle.card.specs.Valid.{validConnector, every, valid, validCard}
+use Rattle.text.specs.Digits.{every}
+use Rattle.card.specs.Valid.{validConnector, valid, validCard}
 use Rattle.commands.specs.Texts.{pairsText, commandText}
 use Rattle.printed.specs.Wiring.{cellCommands, connectorCommands, commandsFrom, wiring}
 use Rattle.printed.specs.Parts.{linesText, commandsText}
@@ -63,7 +64,7 @@ table =
     ∷ []
 
 one-table : map (λ (e : List ℕ × List ℕ). e .0) table ≡ map (λ (e : List ℕ × List ℕ). e .1) table
-unfolding printedCell longCard bytesOf decimal decimalFrom rowOf fresh cellCommands connectorCommands commandsFrom wiring pairsText commandText linesText commandsText wiringText kindAt sourceAt each bitAt listed
+unfolding printedCell longCard decimal decimalFrom rowOf fresh cellCommands connectorCommands commandsFrom wiring pairsText commandText linesText commandsText wiringText kindAt sourceAt each bitAt listed
 one-table = refl
 
 long-valid : validCard cellCount longCard ≡ true

@@ -1,5 +1,5 @@
 -- What a rack shares with a card by itself: a quick tick wakes the cells that the rules name,
--- whatever lines are pulled low; a timer keeps its word; and a row of one card without push-pull
+-- whatever lines are pulled low; a timer's promise holds; and a row of one card without push-pull
 -- lines on the backplane ticks as that card alone. With such a line it may not: "push-pull there
 -- counts as open-drain".
 use Prim.Native.Nat.{ℕ, _<_}
@@ -37,8 +37,8 @@ SharedTicks = Bool × (Input × ℕ)
 abbrev pub sharedStep : ℕ → Card → SharedTicks → Step
 sharedStep n c t = record { full = t .0; code = t .1 .0 .code; lines = sharedLines n c (t .1 .0) (t .1 .1) }
 
--- document 02, 14: a card in a rack keeps its word, whatever the other cards pull low in each of
--- its ticks
+-- document 02, 14: the promise of timers holds in a rack too, whatever the other cards pull low in
+-- each of its ticks
 unfoldable pub SharedKeepsWord : ℕ → Type 0
 SharedKeepsWord n = KeepsWordOn n SharedTicks (sharedStep n) × IgnoresAllOn n SharedTicks (sharedStep n)
 

@@ -1,11 +1,13 @@
 -- Document 01, row 14 of "When the card says no", byte by byte: what a record has besides its
 -- values. Nothing is written and compared here; the law is that a load gives 14 exactly where this
 -- fails (proofs/Headers.antt).
-use Prim.Native.Nat.{ℕ, zero, suc, _+_, _*_, _/_, _%_, _<_}
-use mathlib.Core.Bool.{Bool, true, _&&_, _||_}
+use Prim.Native.Nat.{ℕ, _+_, _*_, _/_, _%_, _<_}
+use mathlib.Core.Bool.{Bool, _&&_, _||_}
 use mathlib.Core.List.{List}
 use lib.Dec.{eqb, leb}
 use lib.ListN.{length, getD}
+use Rattle.words.specs.Listed.{listed}
+use Rattle.text.specs.Digits.{every}
 use Rattle.card.specs.Address.{cellCount, firstCell, firstConnector, connectorCount}
 use Rattle.saved.specs.Record.{configWidth, narrowWidth, triggerLength, cellLength, connectorLength, recordLength}
 
@@ -14,9 +16,8 @@ abbrev pub Bytes : List ℕ → Type 0
 Bytes l = (i : ℕ) → getD l i 0 < 256
 
 -- the test passes at every index below n
-unfoldable pub everyBelow : (ℕ → Bool) → ℕ → Bool
-everyBelow f zero = true
-everyBelow f (suc n) = everyBelow f n && f n
+abbrev pub everyBelow : (ℕ → Bool) → ℕ → Bool
+everyBelow f n = every f (listed (λ i. i) n)
 
 -- "Fields of tag (1 byte), length (2 bytes, high first)": one starts at this place
 unfoldable pub startsAt : List ℕ → (at tag size : ℕ) → Bool

@@ -18,7 +18,8 @@ use Rattle.card.specs.declared.card.Card.{Card}
 use Rattle.card.specs.Edits.{withPointer}
 use Rattle.card.specs.Tally.{ticks, tallyOf}
 use Rattle.card.specs.Valid.{permittedBase, badClock, frontDriven, badCellType, badConnectorType, badAddress, validSlot, validSlots, validCell}
-use Rattle.card.specs.Valid.{validConnector, every, valid}
+use Rattle.text.specs.Digits.{every}
+use Rattle.card.specs.Valid.{validConnector, valid}
 use Rattle.saved.specs.Record.{bigEndian, cellField, connectorField, fieldsFrom, encode, configWidth, bigValue, triggerIn, cellIn, connectorIn, recordOf}
 use Rattle.saved.specs.Record.{normalCell, sameBytes, loadNumberAs, loadedAs, loadNumber, loaded}
 

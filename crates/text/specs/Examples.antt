@@ -26,5 +26,5 @@ numbers =
     ∷ []
 
 examples : map (λ (e : String × Option ℕ). numberOf (bytesOf (e .0))) numbers ≡ map (λ (e : String × Option ℕ). e .1) numbers
-unfolding every valueBy isDigit leads plain numberOf bytesOf
+unfolding every valueBy isDigit leads plain numberOf
 examples = refl

@@ -39,8 +39,8 @@ pub record KeptWord (t : Ticked) (i : ℕ) (k : Class) (d p : ℕ) : Type 0 wher
   pub answer : t .answer .ran ≡ true → bitAt (t .answer .cells) i ≡ shown k d p
 
 module _ (n : ℕ) (T : Type 0) (on : Card → T → Step) where
-  -- t is the tick of the trigger, whose own clock is not counted, and ts are those after it. "While its reset stays low and no other trigger is taken" the
-  -- word is kept after the last of them, and so after each, since the list may end anywhere
+  -- t is the tick of the trigger, whose own clock is not counted, and ts are those after it. "While its reset stays low and no other trigger is taken" this
+  -- holds after the last of them, and so after each, since the list may end anywhere
   unfoldable pub KeepsWordOn : Type 0
   KeepsWordOn = (c : Card) (t : T) (ts : List T) (i : ℕ) → i < n → TakesTrigger n c (on c t) i
       → let next = tickBy n T on c t .card in
