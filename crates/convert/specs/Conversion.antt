@@ -12,9 +12,10 @@ use Rattle.cells.specs.Table.{rowOf}
 use Rattle.card.specs.declared.card.Card.{Card}
 use Rattle.card.specs.Address.{cellRoom}
 use Rattle.card.specs.Fresh.{freshCell}
-use Rattle.card.specs.Valid.{every, validCell, validCard}
+use Rattle.text.specs.Digits.{every}
+use Rattle.card.specs.Valid.{validCell, validCard}
 use Rattle.saved.specs.Record.{narrowWidth, recordLength, widthOf, poweredUp, loadNumber, loaded, normalRecord, SmallConstants}
-use Rattle.convert.specs.Convert.{largeLength, otherWidth, otherLength, shortFor, loaderNumber, narrowCell, isBlank, aboveSmall, convertNumber}
+use Rattle.convert.specs.Convert.{largeLength, cellsOf, otherWidth, otherLength, shortFor, narrowCell, isBlank, aboveSmall, convertNumber}
 use Rattle.convert.specs.Convert.{otherForm, convertLength, convertedTo}
 
 -- of a small card's record that a buffer of this room takes
@@ -64,5 +65,5 @@ pub record Conversion (n : ℕ) : Type 0 where
       aboveSmall n bytes ≡ (not (every isBlank (drop n (take cellRoom (large .cells)))) || not (validCard n large))
   -- every other record that loads converts: of a known length, with room for the result, there is
   -- no number but 17 and 18
-  pub others : (room : ℕ) (bytes : List ℕ) → otherLength n bytes ≡ false → shortFor n room bytes ≡ false → loaderNumber n bytes ≡ 0
+  pub others : (room : ℕ) (bytes : List ℕ) → otherLength n bytes ≡ false → shortFor n room bytes ≡ false → loadNumber (cellsOf n bytes) bytes ≡ 0
       → (convertNumber n room bytes ≡ 17 → ⊥) → (convertNumber n room bytes ≡ 18 → ⊥) → convertNumber n room bytes ≡ 0

@@ -2,13 +2,13 @@
 use Prim.Native.Nat.{ℕ, zero, suc, _+_, _^_, _≤_, _<_}
 use mathlib.Core.Path.{_≡_, refl, sym, ap, ap₂, _∙_}
 use mathlib.Core.Bool.{Bool, true, false, not, _&&_, cond}
-use mathlib.Core.List.{List, [], _∷_, _++_, map}
+use mathlib.Core.List.{List, [], _++_}
 use native.Mathlib.Omega.{arith}
 use native.Mathlib.Nat.{zero-add, le-refl}
 use borrow.Author.Tests.{eqb-true, le-ltb, lt-ltb, ltb-true, ltb-false}
 use lib.Dec.{eqb, ltb, lit≤, lit<}
-use lib.ListN.{length, take, drop, getD, length-append, length-drop, length-map, List·getD-append, List·getD-map}
-use lib.Seq.{sets, sets-eq, take-append-seam, drop-at, getD-take}
+use lib.ListN.{length, take, drop, length-append, length-drop}
+use lib.Seq.{sets, sets-eq, take-append-seam, drop-at}
 use Rattle.words.specs.Bits.{bitAt, wordOf}
 use Rattle.words.proofs.Laws.{built-same, built-of-bits}
 use Rattle.cells.specs.declared.cell.State.{State}
@@ -17,10 +17,8 @@ use Rattle.cells.specs.Work.{placeOf, slotsOf, workAs, workOut}
 use Rattle.cells.proofs.Gates.{looked-and, looked-or}
 use Rattle.card.specs.declared.card.Card.{Card}
 use Rattle.card.specs.Address.{cellCount, cellRoom, connectorCount, firstCell, firstConnector}
-use Rattle.card.specs.Edits.{clearedCell, clearedCells, home}
-use Rattle.card.specs.Fresh.{noCell, freshOf}
 use Rattle.card.specs.Valid.{validCard}
-use Rattle.card.proofs.ValidLaws.{sound}
+use Rattle.card.proofs.ValidLaws.{home-clears}
 use Rattle.ticks.proofs.Counting.{counts-on}
 use Rattle.ticks.proofs.Effective.{effective-bit}
 use Rattle.ticks.proofs.Exact.{works-exactly}
@@ -173,14 +171,6 @@ sees-line : (n : ℕ) → n ≤ cellRoom → (i below others levels k : ℕ) →
 unfolding view
 sees-line n few i below others levels k h = level-connector n (mixed i below others) (bitAt levels) k few h
 
-home-clears : (n : ℕ) (c : Card) (i : ℕ) → validCard n c ≡ true → i < n → getD (home n c .cells) i noCell ≡ clearedCell (getD (c .cells) i noCell)
-unfolding home
-home-clears n c i ok h =
-    let cleared = map clearedCell (take n (c .cells)) in
-    let long : length cleared ≡ n = length-map (take n (c .cells)) clearedCell ∙ sound n c ok .cell-count in
-    List·getD-append cleared (drop n (c .cells)) noCell i (rw long h) ∙ List·getD-map clearedCell (take n (c .cells)) i noCell
-    ∙ ap clearedCell (getD-take n (c .cells) i noCell h)
-
 -- ---- the theorem
 
 module _ (n : ℕ) (more : cellCount ≤ n) (few : n ≤ cellRoom) where
@@ -199,7 +189,7 @@ module _ (n : ℕ) (more : cellCount ≤ n) (few : n ≤ cellRoom) where
         lookup = lookup-code;
         sees-cell = sees-cell n;
         sees-line = sees-line n few;
-        home = home-clears n;
+        home = λ c i ok h. home-clears n c ok i h;
       }
 
   demand-3 : Demand3 n
