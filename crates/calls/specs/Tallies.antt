@@ -14,7 +14,7 @@ use Rattle.card.specs.Fresh.{freshOf, noCell}
 use Rattle.card.specs.Tally.{standstill, tallyOf}
 use Rattle.ticks.specs.declared.connectors.Lines.{Lines}
 use Rattle.ticks.specs.Tick.{readOn, tickOn}
-use Rattle.ticks.specs.Exact.{namedOn}
+use Rattle.ticks.specs.Exact.{cellNamed}
 use Rattle.ticks.specs.Rest.{totalOf}
 use Rattle.saved.specs.Record.{loadNumber}
 use Rattle.calls.specs.Runs.{since}
@@ -59,10 +59,10 @@ module _ (n : ℕ) where
     pub ran : totalOf c ≡ summed (λ full c l. 1) calls
     -- "for each cell, in how many ticks the waking rules named it, also in full ticks"
     pub times : (i : ℕ) → i < n
-        → tallyOf (c .tallies) i ≡ summed (λ full c l. bitNumber (namedOn n full c (l .levels) i)) calls
+        → tallyOf (c .tallies) i ≡ summed (λ full c l. bitNumber (cellNamed n full c (l .levels) i)) calls
     -- "the sum taken cell by cell equals the sum, tick by tick up to the standstill, of the sizes
     -- of the sets that the rules name (in a full tick too)"
-    pub sums : sumOf (tallyOf (c .tallies)) n ≡ summed (λ full c l. countOf (namedOn n full c (l .levels)) n) calls
+    pub sums : sumOf (tallyOf (c .tallies)) n ≡ summed (λ full c l. countOf (cellNamed n full c (l .levels)) n) calls
     -- "no cell's tally exceeds the tick total"
     pub most : (i : ℕ) → i < n → tallyOf (c .tallies) i ≤ totalOf c
 
@@ -76,7 +76,7 @@ module _ (n : ℕ) where
   WhoIsNamed = (calls : List Call) (full : Bool) (l : Lines) (i : ℕ) → i < n
       → let c = end n (freshOf n) calls in
       let cell = getD (c .cells) i noCell in
-      namedOn n full c (l .levels) i
+      cellNamed n full c (l .levels) i
       ≡ wakes (cell .kind) (stateOf cell) (editedSince n (freshOf n) calls i false) (readOn n full c (l .levels) i (cell .slots))
       (readSince n (freshOf n) calls i lowReadings (cell .slots))
 

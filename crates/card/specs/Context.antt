@@ -24,7 +24,7 @@ abbrev pub contextOf : ℕ → Card → Context
 contextOf n c =
     record {
       pointer = c .pointer;
-      celled = atCell n c;
+      «at_cell» = atCell n c;
       trigger = c .trigger;
       cell = currentCell n c;
       connector = currentConnector c;
@@ -38,14 +38,14 @@ contextOf n c =
 -- "`36CCA p?` reads Y, Z or F": the type; the configuration of a cell or the source of a connector;
 -- the state
 abbrev pub typeRead : Context → ℕ
-typeRead x = cond (x .celled) (x .cell .kind) (x .connector .kind)
+typeRead x = cond (x .«at_cell») (x .cell .kind) (x .connector .kind)
 
 -- document 02: of a counter "a CCA Z read gives the count"
 unfoldable pub configShown : Cell → ℕ
 configShown cell = cond (isCounted (rowOf (cell .kind) .kept)) (cell .count .0) (cell .config)
 
 abbrev pub configRead : Context → ℕ
-configRead x = cond (x .celled) (configShown (x .cell)) (x .connector .source)
+configRead x = cond (x .«at_cell») (configShown (x .cell)) (x .connector .source)
 
 -- a flip-flop's bit, a timer's count, a counter's
 unfoldable pub stateAs : Kept → State → ℕ

@@ -103,7 +103,7 @@ reading outputs =
     record {
       pointer = 1;
       trigger = 0;
-      celled = true;
+      «at_cell» = true;
       cell = getD (c .cells) 0 noCell;
       connector = record { kind = 0; source = 0 };
       levels = 0;

@@ -24,7 +24,7 @@ use Rattle.ticks.proofs.Effective.{effective-bit}
 use Rattle.ticks.proofs.Exact.{works-exactly}
 use Rattle.ticks.proofs.Quarters.{reads-entry}
 use Rattle.ticks.specs.Reading.{mixed, view}
-use Rattle.ticks.proofs.Timing.{keeps-word, ignores-all}
+use Rattle.ticks.proofs.Timing.{timer-promise, ignores-all}
 use Rattle.ticks.proofs.Views.{level-cell, level-connector}
 use Rattle.survey.proofs.Ticks.{unreached}
 use Rattle.saved.specs.Record.{configWidth, recordLength, recordOf, savedTo, loadNumber, loaded}
@@ -39,7 +39,7 @@ use Rattle.lines.specs.Line.{shortestReply, replyWith, replyOf, lineOutcome, li
 use Rattle.calls.specs.Calls.{Call, savedBytes, end}
 use Rattle.calls.specs.RequiredExamples.{one-table}
 use Rattle.calls.specs.SaveLoad.{Saves}
-use Rattle.calls.proofs.Honest.{who-wakes}
+use Rattle.calls.proofs.MemoryIsHistory.{who-wakes}
 use Rattle.calls.proofs.Lists.{refused-kept, demand3}
 use Rattle.calls.proofs.Reached.{fresh-reached-valid}
 use Rattle.calls.proofs.Rest.{rest-lasts}
@@ -50,11 +50,11 @@ use Rattle.printed.specs.Print.{wiringText, tooLong, printNumber, printLength, 
 use Rattle.printed.proofs.Feeds.{feeds-back}
 use Rattle.printed.proofs.Longest.{longest-text}
 use Rattle.printed.proofs.Settable.{valid-is-settable}
-use Rattle.rack.proofs.Alone.{alone-in-row, shared-keeps-word}
+use Rattle.rack.proofs.Alone.{alone-in-row, shared-timer-promise}
 use Rattle.rack.proofs.Buffers.{rack-buffers}
 use Rattle.rack.proofs.Cards.{is-card, reached}
 use Rattle.rack.proofs.Racks.{rack-demand3}
-use Rattle.rack.proofs.Supplies.{within-supply, gets-its-four}
+use Rattle.rack.proofs.Supplies.{within-supply, share-guaranteed}
 use Rattle.steady.proofs.Laws.{keeps-all, rests-forever, makes-all, makes-some}
 use Rattle.steady.proofs.Lists.{stands-for-ticks, answers-for-ticks}
 use Rattle.demands.specs.Demands.{Holds, ifAccepted, LineLeaves, PrintLeaves, ConvertLeaves, Demand1, Demand2, Demand3}
@@ -200,7 +200,7 @@ module _ (n : ℕ) (more : cellCount ≤ n) (few : n ≤ cellRoom) where
       record {
         interchangeable = rack-demand3 n;
         within-supply = within-supply n;
-        four-each = gets-its-four n;
+        four-each = share-guaranteed n;
         is-card = is-card n;
         reached = reached;
         buffers = rack-buffers n;
@@ -223,8 +223,8 @@ module _ (n : ℕ) (more : cellCount ≤ n) (few : n ≤ cellRoom) where
         racks = racks;
         tallies = record { every-list = every-list-tallied n; named = who-is-named n; grows = grows-as-answered n };
         takes-trigger = λ c s i timer duration ran took. record { timer = timer; duration = duration; ran = ran; took = took };
-        timers = keeps-word n;
-        shared-timers = shared-keeps-word n;
+        timers = timer-promise n;
+        shared-timers = shared-timer-promise n;
       }
 
   added : Added n

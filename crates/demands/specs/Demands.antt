@@ -25,7 +25,7 @@ use Rattle.ticks.specs.Exact.{WorksExactly}
 use Rattle.ticks.specs.Levels.{effectiveSample}
 use Rattle.ticks.specs.Reading.{reads, readsLevels, view}
 use Rattle.ticks.specs.Runs.{Step, stepRuns, stepReads, cellAt}
-use Rattle.ticks.specs.Timing.{classOf, TakesTrigger, KeepsWord, IgnoresAll}
+use Rattle.ticks.specs.Timing.{classOf, TakesTrigger, TimerPromise, IgnoresAll}
 use Rattle.survey.specs.Unreached.{Unreached}
 use Rattle.saved.specs.Headers.{Bytes, headedEither}
 use Rattle.saved.specs.Record.{loadNumber, loaded}
@@ -45,10 +45,10 @@ use Rattle.printed.specs.Feeds.{FeedsBack}
 use Rattle.printed.specs.Longest.{Longest}
 use Rattle.printed.specs.Print.{wiringText, printNumber, printLength, printedTo}
 use Rattle.printed.specs.Settable.{ValidIsSettable}
-use Rattle.rack.specs.Alone.{AloneInRow, SharedKeepsWord}
+use Rattle.rack.specs.Alone.{AloneInRow, SharedTimerPromise}
 use Rattle.rack.specs.Calls.{RackBuffers}
 use Rattle.rack.specs.Cards.{IsCard, Reached}
-use Rattle.rack.specs.Demand3.{RackDemand3, WithinSupply, GetsItsFour}
+use Rattle.rack.specs.Demand3.{RackDemand3, WithinSupply, ShareGuaranteed}
 use Rattle.steady.specs.Laws.{KeepsAll, RestsForever, MakesAll, MakesSome}
 use Rattle.steady.specs.Lists.{StandsForTicks, AnswersForTicks}
 
@@ -144,7 +144,7 @@ pub record FourSlots : Type 0 where
 pub record Racks (n : ℕ) : Type 0 where
   pub interchangeable : RackDemand3 n
   pub within-supply : WithinSupply n
-  pub four-each : GetsItsFour n
+  pub four-each : ShareGuaranteed n
   -- each card of a rack is the end of a list of its own calls, so that all that is said of lists
   -- holds of it
   pub is-card : IsCard n
@@ -188,8 +188,8 @@ pub record Requests (n : ℕ) : Type 0 where
   -- list of ticks, quick and full", and in racks
   pub takes-trigger : (c : Card) (s : Step) (i : ℕ) → isTimer (classOf (cellAt c i)) ≡ true → 1 ≤ cellAt c i .config → stepRuns c s ≡ true
       → takes (cellAt c i .kind) (stateOf (cellAt c i)) (stepReads n c s i) ≡ true → TakesTrigger n c s i
-  pub timers : KeepsWord n
-  pub shared-timers : SharedKeepsWord n
+  pub timers : TimerPromise n
+  pub shared-timers : SharedTimerPromise n
 
 -- ---- What was added to the two documents: a card at rest, and many steady ticks at once
 

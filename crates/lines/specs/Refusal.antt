@@ -64,16 +64,16 @@ refusal n x store (Trigger v) = judged v (badClock v) 7
 refusal n x store Home = 0
 refusal n x store (Preset v) = orElse (judged v (not (offered n v)) 8) (when (presetDrives n x v) 13)
 refusal n x store (SetKind v) =
-    cond (x .celled) (judged v (badCellType v) 7) (orElse (judged v (badConnectorType v) 7) (when (drivesFront x v) 13))
-refusal n x store (SetConfig v) = cond (x .celled) (judged v (badConfig (x .cell .kind) v) 9) (judged v (badAddress n v) 11)
-refusal n x store (SetState v) = orElse (judged v (not (x .celled)) 6) (when (badState (x .cell .kind) v) 12)
+    cond (x .«at_cell») (judged v (badCellType v) 7) (orElse (judged v (badConnectorType v) 7) (when (drivesFront x v) 13))
+refusal n x store (SetConfig v) = cond (x .«at_cell») (judged v (badConfig (x .cell .kind) v) 9) (judged v (badAddress n v) 11)
+refusal n x store (SetState v) = orElse (judged v (not (x .«at_cell»)) 6) (when (badState (x .cell .kind) v) 12)
 refusal n x store GetKind = 0
-refusal n x store GetConfig = when (x .celled && noConfig (x .cell .kind)) 9
-refusal n x store GetState = orElse (when (not (x .celled)) 6) (when (noState (x .cell .kind)) 12)
+refusal n x store GetConfig = when (x .«at_cell» && noConfig (x .cell .kind)) 9
+refusal n x store GetState = orElse (when (not (x .«at_cell»)) 6) (when (noState (x .cell .kind)) 12)
 refusal n x store (SetSlots p) =
-    orElse (orElse (when (anyTooLarge p) 4) (when (not (x .celled)) 6))
+    orElse (orElse (when (anyTooLarge p) 4) (when (not (x .«at_cell»)) 6))
     (orElse (when (unusedSlot (x .cell .kind) (p .given)) 10) (when (anyBadAddress n p) 11))
-refusal n x store (GetSlot s) = orElse (when (not (x .celled)) 6) (when (unusedSlot (x .cell .kind) (alone s)) 10)
+refusal n x store (GetSlot s) = orElse (when (not (x .«at_cell»)) 6) (when (unusedSlot (x .cell .kind) (alone s)) 10)
 refusal n x store Front = 0
 refusal n x store Back = 0
 refusal n x store Cells = 0

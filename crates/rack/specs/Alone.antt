@@ -15,7 +15,7 @@ use Rattle.card.specs.Fresh.{noCell}
 use Rattle.ticks.specs.declared.view.Input.{Input}
 use Rattle.ticks.specs.Tick.{wiresOf, named, outputsBelow, tick}
 use Rattle.ticks.specs.Runs.{Step}
-use Rattle.ticks.specs.Timing.{KeepsWordOn, IgnoresAllOn}
+use Rattle.ticks.specs.Timing.{TimerPromiseOn, IgnoresAllOn}
 use Rattle.rack.specs.declared.pass.RackInput.{RackInput}
 use Rattle.rack.specs.Shared.{sharedLines, sharedTick}
 use Rattle.rack.specs.Supply.{mostCards}
@@ -39,8 +39,8 @@ sharedStep n c t = record { full = t .0; code = t .1 .0 .code; lines = sharedLin
 
 -- document 02, 14: the promise of timers holds in a rack too, whatever the other cards pull low in
 -- each of its ticks
-unfoldable pub SharedKeepsWord : ℕ → Type 0
-SharedKeepsWord n = KeepsWordOn n SharedTicks (sharedStep n) × IgnoresAllOn n SharedTicks (sharedStep n)
+unfoldable pub SharedTimerPromise : ℕ → Type 0
+SharedTimerPromise n = TimerPromiseOn n SharedTicks (sharedStep n) × IgnoresAllOn n SharedTicks (sharedStep n)
 
 -- no line of the backplane is push-pull
 abbrev pub NoPush : Card → Type 0

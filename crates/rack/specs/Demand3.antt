@@ -53,6 +53,6 @@ unfoldable pub WithinSupply : ℕ → Type 0
 WithinSupply n = (cards : ℕ) (calls : List RackCall) → cards ≤ mostCards → draws (end n (startRow n cards) calls) ≤ supply
 
 -- so a change that leaves a card with at most four push-pull front connectors is never 19
-unfoldable pub GetsItsFour : ℕ → Type 0
-GetsItsFour n = (cards : ℕ) (calls : List RackCall) (i : ℕ) (d : Card) → cards ≤ mostCards → i < cards → pushes (d .connectors) ≤ share
+unfoldable pub ShareGuaranteed : ℕ → Type 0
+ShareGuaranteed n = (cards : ℕ) (calls : List RackCall) (i : ℕ) (d : Card) → cards ≤ mostCards → i < cards → pushes (d .connectors) ≤ share
     → let row = end n (startRow n cards) calls in over (drawsOf row) i (getD row i (startCard n) .connectors) (d .connectors) ≡ false
