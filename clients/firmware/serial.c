@@ -3,10 +3,10 @@
  * the reply. float.c is the loop of the card's ticks; a float has both.
  *
  * A line ends with CR, LF, or CR LF, and each line has one reply. No line is obeyed in part: one
- * whose bytes stop coming for TIME_OUT milliseconds, or that has a byte which was broken on its way,
- * is dropped up to its end and answered as an empty line is, with `:N-2`. The rest of such a line
- * could be a line as well: `PM E=1` without its first byte moves the pointer. A line that is longer
- * than the card takes is answered `:N-2` too, once, however long it is.
+ * whose bytes stop coming for TIME_OUT milliseconds, or that has a byte which was broken on its
+ * way, is dropped up to its end and answered as an empty line is, with `:N-2`. The rest of such a
+ * line could be a line as well: `PM E=1` without its first byte moves the pointer. A line that is
+ * longer than the card takes is answered `:N-2` too, once, however long it is.
  */
 #include "trigger.h"
 #include "uart.h"

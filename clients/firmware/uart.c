@@ -1,7 +1,7 @@
 /*
- * A serial line on Linux, for serial.c: the bytes of the standard input come in, and what is sent is
- * printed. The byte 16 (DLE) and a letter stand for what is no byte: `q` for a time without bytes that
- * is longer than any that was asked for, `f` for a byte that was broken on its way.
+ * A serial line on Linux, for serial.c: the bytes of the standard input come in, and what is sent
+ * is printed. The byte 16 (DLE) and a letter stand for what is no byte: `q` for a time without
+ * bytes that is longer than any that was asked for, `f` for a byte that was broken on its way.
  */
 #include "bare/bare.h"
 #include "uart.h"

@@ -1,7 +1,7 @@
-"""How pip builds the package (PEP 517), with Python's own library alone, so that it works offline.
+"""How pip builds the package (PEP 517): with Python's own library alone, so that it works offline.
 
-The wheel holds the package and what clients/python/make has built for the processor in target/python. The environment may
-name another processor, TRIGGER_CARD_TARGET (x86-64 or aarch64).
+The wheel holds the package and what clients/python/make has built for the processor in
+target/python. The environment may name another processor, TRIGGER_CARD_TARGET (x86-64 or aarch64).
 """
 
 import base64
@@ -16,7 +16,7 @@ HERE = Path(__file__).resolve().parent
 ROOT = HERE.parent.parent
 NAME = "trigger_card"
 
-# The library needs nothing of a C library but memcpy, memmove and memset, so it works with any of these.
+# The library needs nothing of a C library but memcpy, memmove and memset, so it works with any.
 TAGS = {
     "x86-64": "manylinux_2_17_x86_64.manylinux2014_x86_64",
     "aarch64": "manylinux_2_17_aarch64.manylinux2014_aarch64",

@@ -1,7 +1,8 @@
 /*
- * Ticks for Python: one, and a row of them. No proof covers this file. Each tick in it is the proved call of trigger.h;
- * what is added is the loop over the samples, and the copies of words to where Python reads them. `make` compiles it into
- * the shared library beside the proved calls, and its own calls have names that start with python_.
+ * Ticks for Python: one, and a row of them. No proof covers this file. Each tick in it is the
+ * proved call of trigger.h; what is added is the loop over the samples, and the copies of words to
+ * where Python reads them. `make` compiles it into the shared library beside the proved calls, and
+ * its own calls have names that start with python_.
  */
 #include "trigger.h"
 
@@ -37,9 +38,9 @@ void python_tick(trigger_card *card, python_row *row)
 }
 
 /*
- * A tick for each of `count` samples, and of each the words. `attached` has a word for each tick where `attached_step` is
- * 1, and one for all where it is 0. The answer is whether the ticks ran: all do, or none, since ticks leave the card's clock
- * as it is.
+ * A tick for each of `count` samples, and of each the words. `attached` has a word for each tick
+ * where `attached_step` is 1, and one for all where it is 0. The answer is whether the ticks ran:
+ * all do, or none, since ticks leave the card's clock as it is.
  */
 bool python_run(trigger_card *card, uint8_t clock, bool full, size_t count, const uint16_t *samples,
                 const uint16_t *attached, size_t attached_step, uint16_t *driven, uint32_t *cells, uint32_t *woken,

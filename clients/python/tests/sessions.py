@@ -1,4 +1,4 @@
-"""Stored sessions of the repository, answered by cards of this package and printed as the programs of the gate print."""
+"""Stored sessions of the repository, answered by cards and printed as by the gate."""
 
 from __future__ import annotations
 
@@ -108,7 +108,7 @@ def _tallies_at() -> int:
 
 
 def hand_in(card: Card, numbers: List[int]) -> None:
-    """A card with these tallies, the total first. No call does this; the stored sessions ask for it."""
+    """A card with these tallies, the total first. Stored sessions need it; no call does it."""
     cells = numbers[1:] + [0] * (33 - len(numbers))
     struct.pack_into("=33I", card._memory, _tallies_at(), *cells, numbers[0])
 
@@ -168,7 +168,7 @@ def _bytes(digits: str) -> bytes:
 
 
 def _converted(room: int, record: bytes) -> Optional[str]:
-    # This package always has room for the result; rows with less are the library's own to answer.
+    # This package always has room for the result; rows with less are for the library alone.
     try:
         made = convert(record)
     except Refused as refused:
@@ -207,7 +207,7 @@ class RackSession:
         return "ok"
 
     def _start(self) -> str:
-        # A row that is no rack is refused with 20 by every call, and by this package when it is made.
+        # A row that is no rack is refused with 20 by every call, here when it is made.
         self.started = self.rack is not None
         if self.rack is None:
             return "20"

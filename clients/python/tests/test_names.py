@@ -18,7 +18,7 @@ PLDRAW = shutil.which("pldraw", path=str(ROOT / "target" / "bin"))
 
 
 def test_every_address() -> None:
-    """Each address that a card takes has one name, and the name stands for it: those that a card does not refuse."""
+    """Each address that a card takes has a name that stands for it, and the others are refused."""
     for cells in (16, 32):
         card = Card(cells)
         card.wire("M E=33")

@@ -1,4 +1,4 @@
-"""Random calls: a card against plrun, `run` against `tick`, and a rack against cards that are ticked alone."""
+"""Random calls: a card against plrun, `run` against `tick`, a rack of one against a card."""
 
 from __future__ import annotations
 
@@ -18,7 +18,8 @@ PLRUN = ROOT / "target" / "bin" / "plrun"
 def random_line(rng: random.Random) -> str:
     """A line that is mostly accepted."""
     value = rng.choice([0, 1, 2, 5, 41, 42, 64, 65, 128, 192, rng.randrange(256), rng.randrange(70000), 4294967295])
-    slots = " ".join(f"{letter}={rng.choice([0, 1, 2, 33, 41, 42, 64, 192, 20])}" for letter in "XYZF"[: rng.randint(1, 4)])
+    sources = [0, 1, 2, 33, 41, 42, 64, 192, 20]
+    slots = " ".join(f"{letter}={rng.choice(sources)}" for letter in "XYZF"[: rng.randint(1, 4)])
     return rng.choice(
         [
             f"M E={rng.choice([*range(1, 17), *range(33, 49), 17, 50])}",

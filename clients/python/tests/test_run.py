@@ -67,4 +67,8 @@ def test_numpy() -> None:
 def test_numpy_is_not_needed() -> None:
     """The package does not import numpy by itself."""
     code = "import sys, trigger_card; trigger_card.Card().run([1, 2]); sys.exit('numpy' in sys.modules)"
-    assert subprocess.run([sys.executable, "-c", code], check=False).returncode == 0
+    try:
+        done = subprocess.run([sys.executable, "-c", code], check=False)
+    except OSError as error:
+        pytest.skip(f"this Python runs under an emulator, and starts no other: {error}")
+    assert done.returncode == 0

@@ -1,4 +1,4 @@
-"""Threads: calls on one card or rack come one after the other, and cards of their own run side by side."""
+"""Threads: calls on one card come one after the other, and cards of their own run side by side."""
 
 from __future__ import annotations
 

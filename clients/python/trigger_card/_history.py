@@ -1,4 +1,4 @@
-"""What a card was given since it powered up, as plrun and pldraw take it, so that pldraw can draw it."""
+"""What a card was given since it powered up, as pldraw takes it, so that it can be drawn."""
 
 from __future__ import annotations
 
@@ -60,7 +60,7 @@ class History:
         return b"".join(call + b"\n" if isinstance(call, bytes) else _tick_line(call) for call in self._calls)
 
     def drawn(self, cells: int) -> Optional[str]:
-        """The picture that pldraw draws of the last ticks, or None where it is not there or draws none."""
+        """The picture that pldraw draws of the last ticks; None where it is not there or fails."""
         program, text = pldraw(), self.text()
         if program is None or text is None or self._ticks == 0:
             return None
@@ -92,7 +92,7 @@ def _tick_line(call: _Tick) -> bytes:
 
 
 def pldraw() -> Optional[str]:
-    """The built program pldraw: the one that TRIGGER_CARD_PLDRAW names, the one beside the package, or that of PATH."""
+    """The built program: the one that TRIGGER_CARD_PLDRAW names, beside the package, or in PATH."""
     named = os.environ.get("TRIGGER_CARD_PLDRAW")
     if named:
         return named

@@ -1,4 +1,4 @@
-"""The shared library: the proved calls by pointers of trigger.h, and those of loop.c, as functions."""
+"""The shared library: the proved calls by pointers of trigger.h, and those of loop.c."""
 
 from __future__ import annotations
 
@@ -18,14 +18,14 @@ def _path() -> Path:
     path = Path(named) if named else Path(__file__).with_name("libtrigger_card.so")
     if not path.is_file():
         raise ImportError(
-            f"trigger_card: there is no library {path}. Install the package's wheel; in the repository, clients/python/make"
-            " builds it, and TRIGGER_CARD_LIBRARY names another file"
+            f"trigger_card: there is no library {path}. Install the package's wheel; in the repository,"
+            " clients/python/make builds the library, and TRIGGER_CARD_LIBRARY names another file"
         )
     return path
 
 
 _FILE = str(_path())
-# Calls that take long let other threads of Python run meanwhile; for one tick that would cost more than the tick.
+# A long call lets other threads of Python run meanwhile; for one tick that would cost more than it.
 _LONG = ctypes.CDLL(_FILE)
 _SHORT = ctypes.PyDLL(_FILE)
 

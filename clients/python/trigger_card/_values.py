@@ -40,7 +40,7 @@ def truth(value: Any, what: str) -> bool:
 
 
 def line_bytes(text: Text) -> bytes:
-    """The bytes of a line. The card refuses those that are not ASCII, as it refuses any that no line has."""
+    """The bytes of a line. The card refuses those that are not ASCII."""
     if isinstance(text, str):
         return text.encode("utf-8", "surrogatepass")
     if isinstance(text, (bytes, bytearray)):
@@ -74,7 +74,7 @@ def _is_path(text: str) -> bool:
 
 def _in_place(view: memoryview) -> Values:
     if view.ndim != 1 or view.format != "H":
-        raise TypeError(f"samples in an array are one row of uint16; this one has {view.ndim} axes and format {view.format!r}")
+        raise TypeError(f"an array of samples is one row of uint16, not {view.ndim} axes of {view.format!r}")
     if view.readonly or not view.contiguous or len(view) == 0:
         return _copied(view.tolist(), "a sample")
     owner = (ctypes.c_uint16 * len(view)).from_buffer(view)

@@ -7,7 +7,7 @@ from typing import Dict, Union
 
 _KINDS = {"": 0, "not ": 64, "rise of ": 128, "fall of ": 192}
 
-# Base 0 is always low, so its inverse is high; its rise is never high, and its fall is high in every tick.
+# Base 0 is always low, so its inverse is high. Document 01 makes its fall high in every tick.
 _BASE_0 = {"low": 0, "high": 64, "never": 128, "every tick": 192}
 
 CONNECTORS = tuple(f"BNC{n}" for n in range(1, 9)) + tuple(f"TTL{n}" for n in range(8))

@@ -33,10 +33,13 @@ class Closed(ValueError):
 
 
 class Answer(NamedTuple):
-    """What a tick answers. Bit 0 of a word is BNC1 or cell 1; bits 8 to 15 of driven and levels are TTL0 to TTL7."""
+    """What a tick answers.
+
+    Bit 0 of a word is BNC1 or cell 1; bits 8 to 15 of `driven` and `levels` are TTL0 to TTL7.
+    """
 
     ran: bool
-    """False where the card takes ticks of another clock. Then nothing changed, and the words but levels are 0."""
+    """False where the card takes ticks of another clock; then all but `levels` is 0."""
     driven: int
     """What the card drives at its connectors."""
     cells: int
@@ -56,7 +59,7 @@ class Answer(NamedTuple):
 
 
 class Run(NamedTuple):
-    """The words of many ticks, an array of each: of numpy where the samples came in one, else array.array."""
+    """The words of many ticks: array.array, or arrays of numpy where the samples came in one."""
 
     driven: Words
     cells: Words
@@ -65,14 +68,14 @@ class Run(NamedTuple):
 
 
 class Survey(NamedTuple):
-    """What depends on a connector: the numbers of cells and the names of connectors that a change of it can reach."""
+    """What a change of a connector can reach: the numbers of cells, and the names of connectors."""
 
     cells: Tuple[int, ...]
     connectors: Tuple[str, ...]
 
 
 class Tallies(NamedTuple):
-    """How many ticks ran since the card powered up, and in how many the waking rules named each cell, from cell 1 on."""
+    """How many ticks ran since the power-up, and in how many the waking rules named each cell."""
 
     ticks: int
     cells: Tuple[int, ...]
@@ -108,9 +111,10 @@ class Card:
 
     @classmethod
     def load(cls, record: Any, cells: Optional[int] = None) -> Card:
-        """A card that powers up with a record: of 308 bytes, or 276 for an old one, or 516 for thirty-two cells.
+        """A card that powers up with a record.
 
-        `cells` is the card's number of cells; without it, the record's length says it.
+        A record has 308 bytes, an old one 276, and one of thirty-two cells 516. `cells` is the card's
+        number of cells; without it, the record's length says it.
         """
         content = record_bytes(record)
         if cells is None:
@@ -164,9 +168,10 @@ class Card:
     # ---- lines
 
     def line(self, text: Text) -> Optional[int]:
-        """One line, without a line end. The number that it is answered with, or None; `Refused` where it is refused.
+        """One line, without a line end: the number that it is answered with, or None.
 
-        `36SS Z` writes the record to `store`; `record` gives it at once.
+        Raises `Refused` where it is refused. `36SS Z` writes the record to `store`; `record` gives it
+        at once.
         """
         content = line_bytes(text)
         with self._lock:
@@ -184,8 +189,8 @@ class Card:
     def wire(self, wiring: Union[Text, "os.PathLike[str]"]) -> None:
         """A whole wiring: all its lines, or none where one is refused.
 
-        The lines come in a str or bytes, or in a file: a str without a line end that has a dot or a slash is its path.
-        A line ends with LF or CR LF; blank lines are left out.
+        The lines come in a str or bytes, or in a file: a str of one line that has a dot or a slash is
+        its path. A line ends with LF or CR LF; blank lines are left out.
         """
         lines = wiring_lines(wiring)
         with self._lock:
@@ -228,7 +233,7 @@ class Card:
             return bytes(self._store)
 
     def power_up(self, record: Any) -> None:
-        """The card powers up with a record, as `Card.load`, and keeps its number of cells. A refusal leaves it as it was."""
+        """The card powers up with a record, as `Card.load`, and keeps its number of cells."""
         content = record_bytes(record)
         with self._lock:
             self._check_open()
@@ -239,7 +244,11 @@ class Card:
     # ---- ticks
 
     def tick(self, sample: int, attached: int = ALL_ATTACHED, full: bool = False, clock: int = 0) -> Answer:
-        """One tick: the levels at the connectors, which have something attached, full or quick, and the clock's code."""
+        """One tick.
+
+        `sample` has the levels at the connectors, `attached` says which have something attached, and
+        `clock` is the code of the clock. A full tick works out every cell.
+        """
         with self._lock:
             try:
                 _pack(self._row, 0, clock, sample, attached, full)
@@ -259,10 +268,11 @@ class Card:
         number(clock, 0xFF, "clock")
 
     def run(self, samples: Any, attached: Any = ALL_ATTACHED, full: bool = False, clock: int = 0) -> Run:
-        """A tick for each sample, at the speed of the library. Other threads of Python run meanwhile.
+        """A tick for each sample, at the speed of the library; other threads run meanwhile.
 
-        `samples` is a sequence of ints, or an array of uint16, of numpy or array.array. `attached` is one word for all
-        ticks, or a word for each. ValueError where the card takes ticks of another clock, so that none of them ran.
+        `samples` is a sequence of ints, or an array of uint16, of numpy or array.array. `attached` is
+        one word for all ticks, or a word for each. Raises ValueError where the card takes ticks of
+        another clock, so that none of them ran.
         """
         given = words(samples)
         single = hasattr(attached, "__index__") and not hasattr(attached, "__len__")
@@ -288,7 +298,7 @@ class Card:
             self._history.tick((clock, given.owner[i], lines.owner[0 if single else i], full))
 
     def at_rest(self, sample: int, attached: int = ALL_ATTACHED, clock: int = 0) -> bool:
-        """Whether quick ticks with this input wake no cell and change nothing but the count of ticks."""
+        """Whether quick ticks with this input wake no cell and change only the count of ticks."""
         with self._lock:
             try:
                 _pack(self._row, 0, clock, sample, attached, False)
@@ -305,7 +315,10 @@ class Card:
         return self._cells
 
     def survey(self, connector: Union[str, int]) -> Survey:
-        """What depends on a connector, by its name or its place, 33 to 48; `Refused` with 5 for another place."""
+        """What depends on a connector, by its name or its place, 33 to 48.
+
+        Raises `Refused` with 5 for another place.
+        """
         at, found = place(connector), library.memory(_surveyed.size)
         with self._lock:
             self._check_open()
@@ -323,7 +336,7 @@ class Card:
         return Tallies(ticks, tuple(cells[: self._cells]))
 
     def _repr_svg_(self) -> Optional[str]:
-        """The timing diagram that pldraw draws of the last ticks, for notebooks; None where pldraw is not there."""
+        """For notebooks, the timing diagram that pldraw draws of the last ticks, where it is there."""
         with self._lock:
             if self._memory is None:
                 return None
@@ -345,7 +358,10 @@ def _as_given(samples: Any, made: Tuple[Any, ...]) -> List[Any]:
 
 
 def convert(record: Any) -> bytes:
-    """A record in its other form: the old one of 276 bytes of one of 308 or 516, the present one of 308 of an old one."""
+    """A record in its other form.
+
+    One of 308 or 516 bytes becomes an old one of 276, and an old one becomes one of 308.
+    """
     content = record_bytes(record)
     buffer, length = (ctypes.c_uint8 * library.LARGEST_RECORD)(), c_size_t()
     accepted(library.convert(content, len(content), buffer, len(buffer), byref(length)))

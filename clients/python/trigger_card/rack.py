@@ -25,9 +25,10 @@ _NO_RACK = 20
 
 
 class Rack:
-    """A row of 1 to 4 cards of sixteen cells on one backplane, numbered from 1, as `start` leaves them.
+    """A row of 1 to 4 cards of sixteen cells on one backplane, numbered from 1.
 
-    Threads may share a rack: each call has it for itself until it ends. A closed rack raises `Closed`.
+    `start` has been called. Threads may share a rack: each call has it for itself until it ends. A
+    closed rack raises `Closed`.
 
     >>> rack = Rack(2)
     >>> rack.line(2, "M E=41"), rack.line(2, "W E")
@@ -85,10 +86,11 @@ class Rack:
     def tick(
         self, fronts: Sequence[Front], backplane: int = 0xFF, attached: int = 0xFF, full: bool = False, clock: int = 0
     ) -> Tuple[Answer, ...]:
-        """A tick of all cards: all drive, then all sample, then all work out their cells. An answer for each card.
+        """A tick of all cards: all drive, then all sample, then all work out their cells.
 
-        `fronts` has for each card the levels at BNC1 to BNC8, or a pair of these and which have something attached.
-        `backplane` and `attached` are those of TTL0 to TTL7, one byte each.
+        `fronts` has for each card the levels at BNC1 to BNC8, or a pair of these and which have
+        something attached. `backplane` and `attached` are those of TTL0 to TTL7, one byte each. There
+        is an answer for each card.
         """
         rows = [_front(front) for front in fronts]
         code, sample = number(clock, 0xFF, "clock"), number(backplane, 0xFF, "backplane")
@@ -124,7 +126,7 @@ class Rack:
             accepted(library.rack_load(self._memory, self._count, _card(n), content, len(content)))
 
     def card(self, n: int) -> Card:
-        """A card of its own that is equal to the one of a number: to read its wiring, its record or its tallies."""
+        """A card of its own that is equal to the one of a number, to read its record or tallies."""
         with self._lock:
             self._check_open()
             if not 1 <= _card(n) <= self._count:

@@ -9,7 +9,7 @@ RULES = {
     2: "the line has another form, or another length than 1 to 80 bytes",
     3: "two digits other than 36 are before a card command, so another card is meant",
     4: "a number is over 4294967295",
-    5: "the pointer has no such place: cells have their numbers, connectors 33 to 48",
+    5: "no such place: cells have their numbers, connectors 33 to 48",
     6: "CCB and CCA F are for cells, and the pointer is at a connector",
     7: "a cell type is over 22, a connector type over 2, or a clock over 4",
     8: "this preset is not offered",
@@ -26,7 +26,7 @@ RULES = {
     19: "the front lamps of the rack would draw more than 16 from their supply",
     20: "no such rack or card: a rack has 1 to 4 cards of sixteen cells, and a tick one front for each",
 }
-"""The rule of each refusal number: "When the card says no" in document 01, and the new numbers of document 02."""
+"""The rules of document 01, "When the card says no", and of document 02's new numbers."""
 
 
 class Refused(Exception):
