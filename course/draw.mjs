@@ -1,4 +1,5 @@
-// The drawings of wirings, by the page in Chromium:  course/make --drawings  starts it with [{ file, hash }, ...] on standard input.
+// The drawings of wirings, by the page in Chromium. `course/make --drawings` starts it, with
+// [{ file, hash }, ...] on standard input.
 import fs from 'node:fs';
 import path from 'node:path';
 import { fileURLToPath, pathToFileURL } from 'node:url';

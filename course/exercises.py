@@ -1,4 +1,4 @@
-"""What the scripts of the course share: the exercises of the folder, the programs, and what plcheck says of a wiring."""
+"""What the scripts of the course share: the exercises, the programs, and what plcheck says of a wiring."""
 import collections
 import glob
 import os
@@ -28,9 +28,16 @@ def exercise(folder):
     name = os.path.basename(folder)
     task = text_of(folder, "task.md")
     wrong = sorted(glob.glob(os.path.join(folder, "wrong-*.lines")) + glob.glob(os.path.join(folder, "given.lines")))
-    return Exercise(name=name, number=int(name[:2]), title=re.match(r"# Exercise \d+: (.*)\n", task).group(1), folder=folder, task=task,
-                    ticks=text_of(folder, "answers.ticks"), solution=text_of(folder, "solution.lines"),
-                    wrong={os.path.basename(path)[:-len(".lines")]: text_of(path) for path in wrong})
+    return Exercise(
+        name=name,
+        number=int(name[:2]),
+        title=re.match(r"# Exercise \d+: (.*)\n", task).group(1),
+        folder=folder,
+        task=task,
+        ticks=text_of(folder, "answers.ticks"),
+        solution=text_of(folder, "solution.lines"),
+        wrong={os.path.basename(path)[: -len(".lines")]: text_of(path) for path in wrong},
+    )
 
 
 def named(word):
@@ -46,13 +53,18 @@ def program(name):
     built = os.path.join(TOP, "target", "bin", name)
     found = built if os.path.exists(built) else shutil.which(name)
     if not found:
-        sys.exit("%s is missing. `rt check %s` at the top of the repository builds it; a release has it ready: put it on the PATH." % (name, name))
+        sys.exit(
+            "%s is missing. `rt check %s` at the top of the repository builds it; a release has it: put it on the PATH."
+            % (name, name)
+        )
     return found
 
 
 def run(name, given):
     """What a program writes to standard output."""
-    return subprocess.run([program(name)], input=given.encode("latin-1"), stdout=subprocess.PIPE, stderr=subprocess.DEVNULL, check=True).stdout.decode("latin-1")
+    return subprocess.run(
+        [program(name)], input=given.encode("latin-1"), stdout=subprocess.PIPE, stderr=subprocess.DEVNULL, check=True
+    ).stdout.decode("latin-1")
 
 
 HEAD = re.compile(r"Line \d+(?:, (?:after )?tick (\d+))?: .*")
@@ -68,13 +80,17 @@ def verdict(wiring, e):
     for i, line in enumerate(lines):
         if line.startswith("    expected  "):
             tick, expected, came = int(HEAD.fullmatch(lines[i - 1]).group(1) or 0), line[14:], lines[i + 1][14:]
-            reasons = [said[4:] for said in lines[i + 2:-1] if said.startswith("    ")]
+            reasons = [said[4:] for said in lines[i + 2 : -1] if said.startswith("    ")]
     return Verdict(agree, differ, int(refused.group(1)) if refused else 0, tick, expected, came, reasons, text)
 
 
 def tick_lines(e):
     """The tick lines of an exercise, as plrun takes them."""
-    return [line[2:] if line.startswith("> ") else line for line in e.ticks.splitlines() if re.match(r"(> )?T \d", line) and not re.match(r"T [0-9a-f]{4} ", line)]
+    return [
+        line[2:] if line.startswith("> ") else line
+        for line in e.ticks.splitlines()
+        if re.match(r"(> )?T \d", line) and not re.match(r"T [0-9a-f]{4} ", line)
+    ]
 
 
 def wrong_table():
@@ -105,8 +121,13 @@ def answers_in(ticks):
 
 
 def rack_verdict(wiring, e):
-    """Two cards of a rack get the wiring, and then the ticks of rack.ticks: the number of the first tick that differs, 0 where none does."""
+    """Two cards of a rack get the wiring, and then the ticks of rack.ticks.
+
+    The result is the number of the first tick that differs, 0 where none does.
+    """
     ticks = answers_in(text_of(e.folder, "rack.ticks"))
     calls = ["rack 2", "start"] + ["line %d 16 %s" % (card, line) for card in (1, 2) for line in wiring.splitlines()]
-    came = run("plrack", "".join(call + "\n" for call in calls + [tick for tick, _ in ticks])).splitlines()[len(calls):]
+    came = run("plrack", "".join(call + "\n" for call in calls + [tick for tick, _ in ticks])).splitlines()[
+        len(calls) :
+    ]
     return next((i + 1 for i, (_, answer) in enumerate(ticks) if i >= len(came) or came[i] != answer), 0)

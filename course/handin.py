@@ -21,17 +21,26 @@ class Notes:
         self.found[kind] += 1
 
     def words(self):
-        return [kind if kind not in ("tick", "question") else "%d %s%s left in" % (n, kind, "s" * (n > 1)) for kind, n in self.found.items()]
+        return [
+            kind if kind not in ("tick", "question") else "%d %s%s left in" % (n, kind, "s" * (n > 1))
+            for kind, n in self.found.items()
+        ]
 
 
 def decoded(data, notes):
     if data.startswith((codecs.BOM_UTF16_LE, codecs.BOM_UTF16_BE)) or b"\0" in data[:2]:
         notes.add("UTF-16")
-        order = "utf-16" if data.startswith((codecs.BOM_UTF16_LE, codecs.BOM_UTF16_BE)) else "utf-16-be" if data[0] == 0 else "utf-16-le"
+        order = (
+            "utf-16"
+            if data.startswith((codecs.BOM_UTF16_LE, codecs.BOM_UTF16_BE))
+            else "utf-16-be"
+            if data[0] == 0
+            else "utf-16-le"
+        )
         return data.decode(order, "replace")
     if data.startswith(codecs.BOM_UTF8):
         notes.add("byte order mark")
-        data = data[len(codecs.BOM_UTF8):]
+        data = data[len(codecs.BOM_UTF8) :]
     return data.decode("utf-8", "replace")
 
 

@@ -9,22 +9,34 @@ import exercises
 
 PAGE = "../docs/card.html"
 
-# Exercises whose ticks are predicted before anything is wired, each on the wiring with which a class finds the error by itself.
-PREDICTED = {"01-shift-register": "wrong-in-order", "03-trigger-with-clock": "solution", "04-lookup-from-words": "wrong-copied-34953",
-             "05-gate-on-an-edge": "solution"}
+# Exercises whose ticks are predicted before anything is wired, each on the wiring with which a
+# class finds the error by itself.
+PREDICTED = {
+    "01-shift-register": "wrong-in-order",
+    "03-trigger-with-clock": "solution",
+    "04-lookup-from-words": "wrong-copied-34953",
+    "05-gate-on-an-edge": "solution",
+}
 
-PREDICT = ("The wiring is there, and its ticks are covered. Predict them one after the other: which cells and connectors will be high, and which cells wake? "
-           "Then uncover the tick. Where you were wrong, read why.")
+PREDICT = (
+    "The wiring is there, and its ticks are covered. Predict them one after the other: "
+    "which cells and connectors will be high, and which cells wake? "
+    "Then uncover the tick. Where you were wrong, read why."
+)
 
 
 def packed(text):
     deflate = zlib.compressobj(9, zlib.DEFLATED, -15)
-    return base64.urlsafe_b64encode(deflate.compress(text.encode("ascii")) + deflate.flush()).decode("ascii").rstrip("=")
+    return (
+        base64.urlsafe_b64encode(deflate.compress(text.encode("ascii")) + deflate.flush()).decode("ascii").rstrip("=")
+    )
 
 
 def link(text, title, brief, **more):
     """`more` are the letters that link.js lists: t, x, l."""
-    parts = [("w", packed(text)), ("n", urllib.parse.quote(title, safe=""))] + list(more.items()) + [("d", packed(brief))]
+    parts = (
+        [("w", packed(text)), ("n", urllib.parse.quote(title, safe=""))] + list(more.items()) + [("d", packed(brief))]
+    )
     return "#" + "&".join("%s=%s" % part for part in parts)
 
 
@@ -43,7 +55,9 @@ def entered(e):
 
 
 def find_link(e):
-    return link(e.wrong.get("given", "") + entered(e), "Exercise %d: %s" % (e.number, e.title), brief(e), t=packed(e.ticks))
+    return link(
+        e.wrong.get("given", "") + entered(e), "Exercise %d: %s" % (e.number, e.title), brief(e), t=packed(e.ticks)
+    )
 
 
 def predict_link(e):
@@ -55,8 +69,11 @@ def predict_link(e):
 def row(e):
     find = '<a href="%s%s">wire it</a>' % (PAGE, html.escape(find_link(e)))
     predict = '<a href="%s%s">predict it</a>' % (PAGE, html.escape(predict_link(e))) if e.name in PREDICTED else ""
-    return '<tr><td>%d</td><td>%s</td><td>%s</td><td>%s</td><td><a href="exercises/%s/worksheet.html">worksheet</a></td></tr>' % (
-        e.number, html.escape(e.title), predict, find, e.name)
+    return (
+        "<tr><td>%d</td><td>%s</td><td>%s</td><td>%s</td>"
+        '<td><a href="exercises/%s/worksheet.html">worksheet</a></td></tr>'
+        % (e.number, html.escape(e.title), predict, find, e.name)
+    )
 
 
 def page(every):
@@ -70,12 +87,14 @@ body { font: 16px/1.5 sans-serif; max-width: 44em; margin: 2em auto; padding: 0 
 td, th { padding: 0.25em 0.8em; text-align: left; border-bottom: 1px solid #ccc; }
 </style>
 <h1>The exercises of the course</h1>
-<p>Each link opens the card in the browser with the exercise in it. <i>Predict it</i>: the wiring is there, and you say what it will do. <i>Wire it</i>: the
-ticks are there with the answers that must come, and you write the wiring above them. The tab <i>Exercise</i> has the task, says how far you are, and copies
-your result to be handed in.</p>
+<p>Each link opens the card in the browser with the exercise in it. <i>Predict it</i>: the wiring is there, and you say
+what it will do. <i>Wire it</i>: the ticks are there with the answers that must come, and you write the wiring above
+them. The tab <i>Exercise</i> has the task, says how far you are, and copies your result to be handed in.</p>
 <table>
 <tr><th>no.</th><th>exercise</th><th>first</th><th>then</th><th>on paper</th></tr>
 %s
 </table>
 </html>
-""" % "\n".join(row(e) for e in every)
+""" % "\n".join(
+        row(e) for e in every
+    )

@@ -1,4 +1,4 @@
-"""Worksheets: the text of an exercise, its ticks with the levels that come in, and room for what comes out and for the lines. No answers."""
+"""Worksheets: the text of an exercise, its ticks with the levels that come in, and room to write. No answers."""
 import html
 import re
 
@@ -9,7 +9,9 @@ WIDTH, LABEL, ROW, SWING = 180, 22, 8.4, 5  # mm: the diagram, its names, a row,
 
 
 def inline(text):
-    return re.sub(r"\*([^*]+)\*", r"<i>\1</i>", re.sub(r"`([^`]+)`", r"<code>\1</code>", html.escape(text, quote=False)))
+    return re.sub(
+        r"\*([^*]+)\*", r"<i>\1</i>", re.sub(r"`([^`]+)`", r"<code>\1</code>", html.escape(text, quote=False))
+    )
 
 
 def block(text):
@@ -28,6 +30,7 @@ def body(task):
 
 
 # ---- the ticks
+
 
 def places(wiring):
     """Cells that a wiring sets, and connectors that it drives, by number."""
@@ -58,8 +61,12 @@ def label(y, text):
 
 def torn(ticks, bit, y, step):
     """Where the line has nothing attached."""
-    return "".join('<rect class="torn" x="%.2f" y="%.2f" width="%.2f" height="%.2f"/>' % (LABEL + i * step, y + 0.6, step, ROW - 1.2)
-                   for i, tick in enumerate(ticks) if not int(tick.split()[3], 16) >> bit & 1)
+    return "".join(
+        '<rect class="torn" x="%.2f" y="%.2f" width="%.2f" height="%.2f"/>'
+        % (LABEL + i * step, y + 0.6, step, ROW - 1.2)
+        for i, tick in enumerate(ticks)
+        if not int(tick.split()[3], 16) >> bit & 1
+    )
 
 
 def rows_of(e, ticks):
@@ -79,7 +86,9 @@ def diagram(e):
     rows = rows_of(e, ticks)
     step = min(10, (WIDTH - LABEL) / len(ticks))
     width, height = LABEL + step * len(ticks), 5 + ROW * len(rows)
-    parts = ['<text class="number" x="%.2f" y="3.6">%d</text>' % (LABEL + (i + 0.5) * step, i + 1) for i in range(len(ticks))]
+    parts = [
+        '<text class="number" x="%.2f" y="3.6">%d</text>' % (LABEL + (i + 0.5) * step, i + 1) for i in range(len(ticks))
+    ]
     for n, (name, levels, bit) in enumerate(rows):
         y = 5 + n * ROW
         parts.append('<path class="grid" d="M0 %.2fH%.2f"/>' % (y + ROW, width))
@@ -87,9 +96,15 @@ def diagram(e):
         if levels:
             parts += [torn(ticks, bit, y, step), wave(levels, y, step)]
     parts += ['<path class="grid" d="M%.2f 4V%.2f"/>' % (LABEL + i * step, height) for i in range(len(ticks) + 1)]
-    note = "<p class=\"small\">Grey: nothing is attached. What the row shows there is what the switch would bring.</p>" if any(" ffff " not in t for t in ticks) else ""
-    return '<svg xmlns="http://www.w3.org/2000/svg" viewBox="0 0 %.2f %.2f" width="%.2fmm" height="%.2fmm">%s</svg>%s' % (
-        width, height + 0.2, width, height + 0.2, "".join(parts), note)
+    note = (
+        '<p class="small">Grey: nothing is attached. What the row shows there is what the switch would bring.</p>'
+        if any(" ffff " not in t for t in ticks)
+        else ""
+    )
+    return (
+        '<svg xmlns="http://www.w3.org/2000/svg" viewBox="0 0 %.2f %.2f" width="%.2fmm" height="%.2fmm">%s</svg>%s'
+        % (width, height + 0.2, width, height + 0.2, "".join(parts), note)
+    )
 
 
 STYLE = """@page { size: A4; margin: 14mm 15mm; }
@@ -127,4 +142,14 @@ def sheet(e):
 <p><b>My answers</b></p>
 <ol class="lines">%s</ol>
 </html>
-""" % (e.number, html.escape(e.title), STYLE, e.number, html.escape(e.title), body(e.task), diagram(e), "<li></li>" * 18, "<li></li>" * 4)
+""" % (
+        e.number,
+        html.escape(e.title),
+        STYLE,
+        e.number,
+        html.escape(e.title),
+        body(e.task),
+        diagram(e),
+        "<li></li>" * 18,
+        "<li></li>" * 4,
+    )

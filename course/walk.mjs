@@ -1,6 +1,8 @@
-// Opens every link of links.html in the page, in Chromium, as a student does:  node course/walk.mjs  (course/check --page starts it)
+// Opens every link of links.html in the page, in Chromium, as a student does. `course/check --page`
+// starts it.
 //
-// A link to wire: the task is there, the solution written above the ticks agrees everywhere, and the first wrong wiring differs. A link to predict: every tick is covered.
+// A link to wire: the task is there, the solution written above the ticks agrees everywhere, and the
+// first wrong wiring differs. A link to predict: every tick is covered.
 import fs from 'node:fs';
 import path from 'node:path';
 import { fileURLToPath, pathToFileURL } from 'node:url';
@@ -9,8 +11,10 @@ import { openChromium } from '../clients/web/driver.mjs';
 const HERE = path.dirname(fileURLToPath(import.meta.url));
 const folders = fs.readdirSync(path.join(HERE, 'exercises')).sort();
 const read = (...parts) => fs.readFileSync(path.join(HERE, 'exercises', ...parts), 'utf8');
-const links = [...fs.readFileSync(path.join(HERE, 'links.html'), 'utf8').matchAll(/href="(\.\.[^"]*)">(wire|predict) it/g)]
-  .map(([, href, kind]) => ({ kind, url: new URL(href.replaceAll('&amp;', '&'), pathToFileURL(path.join(HERE, 'links.html'))).href }));
+const list = path.join(HERE, 'links.html');
+const urlOf = (href) => new URL(href.replaceAll('&amp;', '&'), pathToFileURL(list)).href;
+const links = [...fs.readFileSync(list, 'utf8').matchAll(/href="(\.\.[^"]*)">(wire|predict) it/g)]
+  .map(([, href, kind]) => ({ kind, url: urlOf(href) }));
 
 let passed = 0;
 let failed = 0;
@@ -25,7 +29,13 @@ const { page, close } = await openChromium();
 async function checkedWith(wiring) {
   const text = await page.evaluate('document.getElementById("text").value');
   const lines = wiring + text.slice(text.search(/^T /m));
-  await page.evaluate(`(() => { const t = document.getElementById('text'); t.focus(); t.value = ${JSON.stringify(lines)}; t.dispatchEvent(new Event('input', { bubbles: true })); t.blur(); })()`);
+  await page.evaluate(`(() => {
+    const t = document.getElementById('text');
+    t.focus();
+    t.value = ${JSON.stringify(lines)};
+    t.dispatchEvent(new Event('input', { bubbles: true }));
+    t.blur();
+  })()`);
   await page.click('#tab-task');
   return page.text('#panel pre.plcheck');
 }
@@ -44,13 +54,13 @@ async function wires(folder, url) {
 
 async function predicts(url) {
   await page.open(url, true);
-  const shown = await page.texts('#answers b');
+  const covered = async () => (await page.texts('#answers b')).filter((answer) => answer === '?').length;
   const ticks = (await page.evaluate('document.getElementById("text").value')).match(/^T /gm).length;
-  expect(`${url.slice(-20)}: every tick is covered`, shown.filter((answer) => answer === '?').length === ticks && ticks > 5, shown);
+  expect(`${url.slice(-20)}: every tick is covered`, await covered() === ticks && ticks > 5, await covered());
   await page.click('#tab-task');
   await page.press('[data-next]');
   await page.press('[data-uncover]');
-  expect('the first tick is uncovered', (await page.texts('#answers b')).filter((answer) => answer === '?').length === ticks - 1, '');
+  expect('the first tick is uncovered', await covered() === ticks - 1, await covered());
 }
 
 expect('twelve links to wire', links.filter((link) => link.kind === 'wire').length === 12, links.length);

@@ -1,13 +1,13 @@
-"""What the words of each exercise ask for, worked out without a card: for each tick which cells are high, from the levels of the lines alone.
+"""What the words of each exercise ask for, worked out without a card: which cells are high in each tick.
 
-`course/check` compares the transcripts with it. A transcript was printed by plrun for the solution, so it says what the solution does; that this is what
-the text asks for is said here a second time, in other words.
+`course/check` compares the transcripts with it. A transcript was printed by plrun for the solution, so it says what
+the solution does. That this is what the text asks for is said here a second time, in other words.
 """
 BNC1, BNC2, TTL0, TTL1, TTL2, TTL3 = 0x0001, 0x0002, 0x0100, 0x0200, 0x0400, 0x0800
 
 
 class Line:
-    """A line from tick to tick: its level, and whether it rose or fell in this tick. Before the first tick it is low."""
+    """A line from tick to tick: its level, and whether it rose or fell. Before the first tick it is low."""
 
     def __init__(self, bit):
         self.bit, self.high, self.rose, self.fell, self.changed = bit, False, False, False, False
@@ -62,8 +62,13 @@ def gate_on_an_edge(samples):
     kept, rose, first = False, False, True
     for follows, reset in lines_of(samples, TTL0, TTL1):
         kept = (kept or follows.rose) and not reset.high
-        # Cell 1 wakes with its line, cell 2 when the edge begins and when it is over, cell 3 with its clock and its reset.
-        woken = {1: first or follows.changed, 2: first or rose != follows.rose, 3: first or follows.rose or reset.changed}
+        # Cell 1 wakes with its line, cell 2 when the edge begins and when it is over, cell 3
+        # with its clock and its reset.
+        woken = {
+            1: first or follows.changed,
+            2: first or rose != follows.rose,
+            3: first or follows.rose or reset.changed,
+        }
         rose, first = follows.rose, False
         yield {1: follows.high, 2: follows.rose, 3: kept, "woken": woken}
 
@@ -113,7 +118,10 @@ def refused_lines(samples):
 
 
 def two_cards(samples):
-    """The levels of one card: BNC3 is bit 2 of the front, TTL0 bit 0 of the backplane. A card pulls where its machine was busy in the tick before."""
+    """The levels of one card: BNC3 is bit 2 of the front, TTL0 bit 0 of the backplane.
+
+    A card pulls TTL0 low where its machine was busy in the tick before.
+    """
     was_busy = was_high = False
     for sample in samples:
         high = bool(sample & TTL0) and not was_busy
@@ -122,9 +130,19 @@ def two_cards(samples):
 
 
 # Which cell each front connector shows.
-SHOWS = {"01-shift-register": {1: 3, 2: 2, 3: 1}, "02-divide-by-four": {1: 1, 2: 2}, "03-trigger-with-clock": {1: 1}, "04-lookup-from-words": {1: 1, 2: 2},
-         "05-gate-on-an-edge": {1: 2, 2: 3}, "06-once-an-acquisition": {1: 2}, "07-lamp-unless-busy": {1: 1}, "08-pulses-then-rest": {1: 2},
-         "09-delay-promise": {1: 1}, "10-torn-cable": {1: 1}, "11-refused-lines": {1: 2}}
+SHOWS = {
+    "01-shift-register": {1: 3, 2: 2, 3: 1},
+    "02-divide-by-four": {1: 1, 2: 2},
+    "03-trigger-with-clock": {1: 1},
+    "04-lookup-from-words": {1: 1, 2: 2},
+    "05-gate-on-an-edge": {1: 2, 2: 3},
+    "06-once-an-acquisition": {1: 2},
+    "07-lamp-unless-busy": {1: 1},
+    "08-pulses-then-rest": {1: 2},
+    "09-delay-promise": {1: 1},
+    "10-torn-cable": {1: 1},
+    "11-refused-lines": {1: 2},
+}
 
 
 def word(levels):
@@ -143,8 +161,13 @@ def wanted(name, ticks):
     for tick, row in zip(ticks, rows):
         cells = {n: high for n, high in row.items() if isinstance(n, int)}
         driven = {bnc: before.get(cell, False) for bnc, cell in SHOWS[name].items()}
-        woken = 0xffff if tick.endswith("F") else word(row["woken"]) if "woken" in row else 0 if row.get("rest") else None
-        answers.append("T %04x %04x %s" % (word(driven), word(cells), "" if woken is None else "%04x %d" % (woken, bin(woken).count("1"))))
+        woken = (
+            0xFFFF if tick.endswith("F") else word(row["woken"]) if "woken" in row else 0 if row.get("rest") else None
+        )
+        answers.append(
+            "T %04x %04x %s"
+            % (word(driven), word(cells), "" if woken is None else "%04x %d" % (woken, bin(woken).count("1")))
+        )
         before = cells
     return answers
 
