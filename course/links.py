@@ -1,6 +1,7 @@
 """Links of the page for exercises, in the form that clients/web/link.js reads: deflated texts after #."""
 import base64
 import html
+import os
 import re
 import urllib.parse
 import zlib
@@ -9,19 +10,10 @@ import exercises
 
 PAGE = "../docs/card.html"
 
-# Exercises whose ticks are predicted before anything is wired, each on the wiring with which a
-# class finds the error by itself.
-PREDICTED = {
-    "01-shift-register": "wrong-in-order",
-    "03-trigger-with-clock": "solution",
-    "04-lookup-from-words": "wrong-copied-34953",
-    "05-gate-on-an-edge": "solution",
-}
-
 PREDICT = (
-    "The wiring is there, and its ticks are covered. Predict them one after the other: "
-    "which cells and connectors will be high, and which cells wake? "
-    "Then uncover the tick. Where you were wrong, read why."
+    "Its ticks are covered. Predict them one after the other: which cells and connectors will be high, and which cells "
+    "wake? The levels that come in are on the worksheet, and in the tick lines: 0100 is TTL0, 0200 TTL1, 0400 TTL2, "
+    "0800 TTL3. Then uncover the tick. Where you were wrong, read why."
 )
 
 
@@ -55,20 +47,27 @@ def entered(e):
 
 
 def find_link(e):
-    return link(
-        e.wrong.get("given", "") + entered(e), "Exercise %d: %s" % (e.number, e.title), brief(e), t=packed(e.ticks)
-    )
+    text = e.wrong.get("given", "") + entered(e)
+    return link(text, "%d %s" % (e.number, e.title), brief(e), t=packed(e.ticks))
+
+
+def is_predicted(e):
+    """Some exercises are predicted before anything is wired, on a wiring by which a class finds the error."""
+    return os.path.exists(os.path.join(e.folder, "predict.txt"))
 
 
 def predict_link(e):
-    wiring = e.solution if PREDICTED[e.name] == "solution" else e.wrong[PREDICTED[e.name]]
+    """predict.txt has the name of a wiring of the exercise, and below it what the wiring is."""
+    name, words = exercises.text_of(e.folder, "predict.txt").split("\n", 1)
+    wiring = e.solution if name == "solution" else e.wrong[name]
     quick = "".join(tick[:-1] + "Q\n" for tick in exercises.tick_lines(e))
-    return link(wiring + quick, "Predict: %s" % e.title, PREDICT, x=wiring.count("\n") + 1)
+    task = "%s\n\n%s" % (" ".join(words.split()), PREDICT)
+    return link(wiring + quick, "%d %s: predict" % (e.number, e.title), task, x=wiring.count("\n") + 1)
 
 
 def row(e):
     find = '<a href="%s%s">wire it</a>' % (PAGE, html.escape(find_link(e)))
-    predict = '<a href="%s%s">predict it</a>' % (PAGE, html.escape(predict_link(e))) if e.name in PREDICTED else ""
+    predict = '<a href="%s%s">predict it</a>' % (PAGE, html.escape(predict_link(e))) if is_predicted(e) else ""
     return (
         "<tr><td>%d</td><td>%s</td><td>%s</td><td>%s</td>"
         '<td><a href="exercises/%s/worksheet.html">worksheet</a></td></tr>'
