@@ -63,7 +63,11 @@ def program(name):
 def run(name, given):
     """What a program writes to standard output."""
     return subprocess.run(
-        [program(name)], input=given.encode("latin-1"), stdout=subprocess.PIPE, stderr=subprocess.DEVNULL, check=True
+        [program(name)],
+        input=given.encode("latin-1", "replace"),
+        stdout=subprocess.PIPE,
+        stderr=subprocess.DEVNULL,
+        check=True,
     ).stdout.decode("latin-1")
 
 
@@ -93,6 +97,14 @@ def tick_lines(e):
     ]
 
 
+def connectors_agree(wiring, e):
+    """Whether the outputs are driven as the transcript says in every tick, whatever the cells are."""
+    wanted = [answer.split()[1] for line, answer in answers_in(e.ticks) if line.startswith("T ")]
+    lines = [line for line in wiring.splitlines() if line]
+    came = run("plrun", "".join(line + "\n" for line in lines + tick_lines(e))).splitlines()[len(lines) :]
+    return wanted != [] and wanted == [answer.split()[1] for answer in came]
+
+
 def wrong_table():
     """What WRONG.md says of each wrong wiring: {(exercise, wiring): (tick, words of plcheck, what was thought)}."""
     table = {}
@@ -110,7 +122,8 @@ def tally_limit(e):
 
 
 def highest_tally(wiring, e):
-    said = run("pltally", wiring + "".join(t + "\n" for t in tick_lines(e)))
+    lines = [line for line in wiring.splitlines() if line] + tick_lines(e)
+    said = run("pltally", "".join(line + "\n" for line in lines))
     return max([int(n) for n in re.findall(r"^cell .*: (\d+), ", said, re.M)] or [0])
 
 
@@ -126,7 +139,8 @@ def rack_verdict(wiring, e):
     The result is the number of the first tick that differs, 0 where none does.
     """
     ticks = answers_in(text_of(e.folder, "rack.ticks"))
-    calls = ["rack 2", "start"] + ["line %d 16 %s" % (card, line) for card in (1, 2) for line in wiring.splitlines()]
+    lines = [line for line in wiring.splitlines() if line]
+    calls = ["rack 2", "start"] + ["line %d 16 %s" % (card, line) for card in (1, 2) for line in lines]
     came = run("plrack", "".join(call + "\n" for call in calls + [tick for tick, _ in ticks])).splitlines()[
         len(calls) :
     ]

@@ -4,7 +4,7 @@ import collections
 import re
 
 # The lines keep their numbers: what is left out is an empty line.
-HandIn = collections.namedtuple("HandIn", "wiring name mended")
+HandIn = collections.namedtuple("HandIn", "wiring name exercise mended")
 
 ANSWER = re.compile(r":A( \d+)?|:N-\d+|T -|T [0-9a-f]{4} [0-9a-f]{4} [0-9a-f]{4} \d+")
 TICK = re.compile(r"T \d .*")
@@ -80,13 +80,14 @@ def read(data):
     notes = Notes()
     text = with_line_ends(decoded(data, notes), notes)
     rows = text.split("\n")[:-1]
-    name = None
+    name = number = None
     if text.startswith("Exercise: ") and "Lines:" in rows:
         notes.add("a result of the page")
-        name = re.search(r"^Name: *(.+)$", text, re.M)
+        name, number = re.search(r"^Name: *(.+)$", text, re.M), re.match(r"Exercise: (\d+) ", text)
         at = rows.index("Lines:") + 1
         rows = [""] * at + rows[at:]
     elif "" in rows:
         notes.add("empty lines")
     lines = [line_of(row, notes) for row in rows]
-    return HandIn("".join(line + "\n" for line in lines), name.group(1).strip() if name else "", notes.words())
+    wiring = "".join(line + "\n" for line in lines)
+    return HandIn(wiring, name.group(1).strip() if name else "", int(number.group(1)) if number else 0, notes.words())
