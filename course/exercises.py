@@ -2,6 +2,7 @@
 import collections
 import glob
 import os
+import platform
 import re
 import shutil
 import subprocess
@@ -49,13 +50,15 @@ def named(word):
 
 
 def program(name):
-    """A program of the card: the one that was built here, else one of the search path."""
-    built = os.path.join(TOP, "target", "bin", name)
-    found = built if os.path.exists(built) else shutil.which(name)
+    """A program of the card: built here, of a release around this folder, or of the search path."""
+    processor = platform.machine().replace("_", "-")
+    for folder in (os.path.join(TOP, "target", "bin"), os.path.join(TOP, "bin", "linux-" + processor)):
+        if os.path.exists(os.path.join(folder, name)):
+            return os.path.join(folder, name)
+    found = shutil.which(name)
     if not found:
         sys.exit(
-            "%s is missing. `rt check %s` at the top of the repository builds it; a release has it: put it on the PATH."
-            % (name, name)
+            "%s is missing. `rt check %s` at the top of the repository builds it, and a release has it." % (name, name)
         )
     return found
 
