@@ -6,9 +6,9 @@
 import fs from 'node:fs';
 import path from 'node:path';
 import { fileURLToPath, pathToFileURL } from 'node:url';
-import { openChromium } from '../clients/web/driver.mjs';
+import { openChromium } from '../../clients/web/driver.mjs';
 
-const HERE = path.dirname(fileURLToPath(import.meta.url));
+const HERE = path.dirname(path.dirname(fileURLToPath(import.meta.url))); // the folder of the course
 const folders = fs.readdirSync(path.join(HERE, 'exercises')).sort();
 const read = (...parts) => fs.readFileSync(path.join(HERE, 'exercises', ...parts), 'utf8');
 const list = path.join(HERE, 'links.html');

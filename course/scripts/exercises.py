@@ -8,7 +8,7 @@ import shutil
 import subprocess
 import sys
 
-HERE = os.path.dirname(os.path.abspath(__file__))
+HERE = os.path.dirname(os.path.dirname(os.path.abspath(__file__)))  # the folder of the course
 TOP = os.path.dirname(HERE)
 
 Exercise = collections.namedtuple("Exercise", "name number title folder task ticks solution wrong")
@@ -109,9 +109,9 @@ def connectors_agree(wiring, e):
 
 
 def wrong_table():
-    """What WRONG.md says of each wrong wiring: {(exercise, wiring): (tick, words of plcheck, what was thought)}."""
+    """What wrong-wirings.md says: {(exercise, wiring): (tick, words of plcheck, what was thought)}."""
     table = {}
-    for part in text_of(HERE, "WRONG.md").split("\n## ")[1:]:
+    for part in text_of(HERE, "wrong-wirings.md").split("\n## ")[1:]:
         name, rows = part.split("\n", 1)
         for wiring, tick, said, thought in re.findall(r"^- `(\S+)`, tick (\d+): `([^`]*)`\n((?:  .*\n)+)", rows, re.M):
             table[name, wiring] = int(tick), said, " ".join(thought.split())

@@ -3,9 +3,10 @@
 import fs from 'node:fs';
 import path from 'node:path';
 import { fileURLToPath, pathToFileURL } from 'node:url';
-import { openChromium } from '../clients/web/driver.mjs';
+import { openChromium } from '../../clients/web/driver.mjs';
 
-const PAGE = pathToFileURL(path.join(path.dirname(fileURLToPath(import.meta.url)), '..', 'docs', 'card.html')).href;
+const HERE = path.dirname(fileURLToPath(import.meta.url));
+const PAGE = pathToFileURL(path.join(HERE, '..', '..', 'docs', 'card.html')).href;
 
 // What *Save as wiring.svg* would write to a file.
 const SAVED = `(() => {
