@@ -129,6 +129,16 @@ def two_cards(samples):
         was_busy, was_high = bool(sample & BNC1), high
 
 
+def rack_answers(busy):
+    """What plrack answers for two cards without cells; `busy` says for each tick whose machine is busy."""
+    was_busy, was_high, answers = (False, False), False, []
+    for now in busy:
+        driven = [TTL0 * (not pulls) + 4 * was_high for pulls in was_busy]
+        answers.append("0;" + ";".join("T %04x 0000 ffff 16" % word for word in driven))
+        was_busy, was_high = now, not any(was_busy)
+    return answers
+
+
 # Which cell each front connector shows.
 SHOWS = {
     "01-shift-register": {1: 3, 2: 2, 3: 1},
