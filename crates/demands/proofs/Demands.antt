@@ -57,7 +57,7 @@ use Rattle.rack.proofs.Racks.{rack-demand3}
 use Rattle.rack.proofs.Supplies.{within-supply, share-guaranteed}
 use Rattle.steady.proofs.Laws.{keeps-all, rests-forever, makes-all, makes-some}
 use Rattle.steady.proofs.Lists.{stands-for-ticks, answers-for-ticks}
-use Rattle.demands.specs.Demands.{Holds, ifAccepted, LineLeaves, PrintLeaves, ConvertLeaves, Demand1, Demand2, Demand3}
+use Rattle.demands.specs.Demands.{Holds, ifAccepted, PrintLeaves, ConvertLeaves, Demand1, Demand2, Demand3}
 use Rattle.demands.specs.Demands.{FourSlots, Racks, WakeTallies, Requests, Added, Size, Demands}
 use Rattle.demands.specs.Demands.Size.{small, large}
 
@@ -118,16 +118,10 @@ module _ (n : ℕ) (c : Card) (text reply store : List ℕ) where
       go true false e s = untouched store
       go false b e s = untouched store
 
-line-leaves : (n : ℕ) (c : Card) (text reply store : List ℕ) → validCard n c ≡ true → lineResult n c text reply store .len ≤ shortestReply
-    → LineLeaves n c text reply store
+length-replied : (n : ℕ) (c : Card) (text reply store : List ℕ)
+    → lineResult n c text reply store .len ≡ length (lineReply n c text (length reply) (length store))
 unfolding lineReply
-line-leaves n c text reply store ok most =
-    record {
-      refused = refused-kept n c text (length reply) (length store);
-      len = refl;
-      replied = replied n c text reply store most;
-      stored = stored n c text reply store ok;
-    }
+length-replied n c text reply store = refl
 
 print-leaves : (n : ℕ) (c : Card) (buffer : List ℕ) → PrintLeaves n c buffer
 print-leaves n c buffer = go (tooLong n c (length buffer)) refl
@@ -175,7 +169,16 @@ sees-line n few i below others levels k h = level-connector n (mixed i below oth
 
 module _ (n : ℕ) (more : cellCount ≤ n) (few : n ≤ cellRoom) where
   demand-1 : Demand1 n
-  demand-1 = record { line = line-leaves n; load = load-refused n; print = print-leaves n; convert = convert-leaves cellCount (lit< tt) (le-refl cellCount) }
+  demand-1 =
+      record {
+        line-refused = λ c text reply store. refused-kept n c text (length reply) (length store);
+        length-replied = length-replied n;
+        line-replied = replied n;
+        line-stored = stored n;
+        load = load-refused n;
+        print = print-leaves n;
+        convert = convert-leaves cellCount (lit< tt) (le-refl cellCount);
+      }
 
   demand-2 : Demand2 n
   demand-2 =

@@ -67,14 +67,6 @@ pub record Holds (bytes before after : List ℕ) : Type 0 where
 abbrev pub ifAccepted : (k : ℕ) → List ℕ → List ℕ
 ifAccepted k bytes = cond (eqb k 0) bytes []
 
--- a line: the card, the reply with its length, and the store, which gets the record where one is
--- saved and nothing else
-pub record LineLeaves (n : ℕ) (c : Card) (text reply store : List ℕ) : Type 0 where
-  pub refused : eqb (lineResult n c text reply store .k) 0 ≡ false → lineResult n c text reply store .card ≡ c
-  pub len : lineResult n c text reply store .len ≡ length (lineReply n c text (length reply) (length store))
-  pub replied : Holds (lineReply n c text (length reply) (length store)) reply (lineResult n c text reply store .reply)
-  pub stored : Holds (savedBytes n c text (length reply) (length store)) store (lineResult n c text reply store .store)
-
 -- the printed wiring; a print changes no card
 pub record PrintLeaves (n : ℕ) (c : Card) (buffer : List ℕ) : Type 0 where
   pub len : printLength n c (length buffer) ≡ length (ifAccepted (printNumber n c (length buffer)) (wiringText n c))
@@ -86,10 +78,20 @@ pub record ConvertLeaves (n : ℕ) (bytes buffer : List ℕ) : Type 0 where
   pub written : Holds (ifAccepted (convertNumber n (length buffer) bytes) (otherForm n bytes)) buffer (convertedTo n bytes buffer)
 
 pub record Demand1 (n : ℕ) : Type 0 where
-  -- on every card with settings that lines can set, which are those that calls reach (`reached`
-  -- below); that no reply is longer than 16 bytes is in the contract of `line`
-  pub line : (c : Card) (text reply store : List ℕ) → validCard n c ≡ true → lineResult n c text reply store .len ≤ shortestReply
-      → LineLeaves n c text reply store
+  -- "a refused one gives its number and changes nothing in the card"
+  pub line-refused : (c : Card) (text reply store : List ℕ) → eqb (lineResult n c text reply store .k) 0 ≡ false
+      → lineResult n c text reply store .card ≡ c
+  -- the reply's length is what is said, and the reply is at the front of its buffer. That no reply
+  -- is longer than 16 bytes is in the contract of `line`: values have the width of their types
+  pub length-replied : (c : Card) (text reply store : List ℕ)
+      → lineResult n c text reply store .len ≡ length (lineReply n c text (length reply) (length store))
+  pub line-replied : (c : Card) (text reply store : List ℕ) → lineResult n c text reply store .len ≤ shortestReply
+      → Holds (lineReply n c text (length reply) (length store)) reply (lineResult n c text reply store .reply)
+  -- the store gets the record where one is saved and nothing else, on every card with settings that
+  -- lines can set, which are those that calls reach (`reached` below)
+  pub line-stored : (c : Card) (text reply store : List ℕ) → validCard n c ≡ true
+      → Holds (savedBytes n c text (length reply) (length store)) store (lineResult n c text reply store .store)
+  -- a refused load, print and conversion
   pub load : (c : Card) (bytes : List ℕ) → eqb (loadNumber n bytes) 0 ≡ false → loaded n c bytes ≡ c
   pub print : (c : Card) (buffer : List ℕ) → PrintLeaves n c buffer
   -- the converter's records are those of a card of sixteen cells
