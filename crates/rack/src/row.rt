@@ -23,7 +23,7 @@ pub(crate) fn look_each(row: &mut [Card], pass: Pass) -> Pass
 }
 
 // A pass over the row: each card is handed by value to `visit`, and what that gives takes its place.
-fn each(row: &mut [Card], pass: Pass) -> Pass
+pub(crate) fn each(row: &mut [Card], pass: Pass) -> Pass
     ensures { λ p. ⌜ (p ≡ afterRow pass (now (row .entry))) × (now (row .exit) ≡ visitedRow pass (now (row .entry))) ⌝ }
 {
     let mut p = pass;
