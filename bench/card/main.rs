@@ -2,7 +2,7 @@
 //
 //     card CARD KIND N [show]
 //
-// CARD is fresh, counter, busy, still, delay (of hours, which runs) or wakeN (N cells wake in each tick), of sixteen cells, or with -32 behind it of thirty-two; KIND
+// CARD is fresh, counter, busy, still, delay (of hours, which runs) or wakeN (N cells wake in each tick), of sixteen cells, or with -32 after it of thirty-two; KIND
 // is full, quick, idle (quick, at a clock code that is not the card's) or none (the loop without ticks); with plain- before it the ticks are those of the card of
 // plain.rs, each compared with the library's where `show` is given. It prints a checksum of the driven and the cell words, and how
 // many cells all ticks woke. With `show` it prints what plrun is to be given for the same wiring and ticks, and on standard error what plrun must answer

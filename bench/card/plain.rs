@@ -30,7 +30,7 @@ pub struct Plain {
     total: u32,
 }
 
-/// What the addresses read, by quarters, and which of them read otherwise than in the last tick.
+/// What the addresses read, by quarters, and which of them have changed since the last tick.
 struct Views {
     now: [u64; 4],
     moved: [u64; 3],

@@ -26,7 +26,7 @@ static int line(const char *text)
     return a.k;
 }
 
-/* The number that a command gets with a number behind it. */
+/* The number of the refusal of a command that ends in a number. */
 static int with(const char *command, int number)
 {
     char text[40];
@@ -94,7 +94,7 @@ static void ranges(void)
         must(with("36CCA Y=", kind) == 0 && trigger_connector_type(&card, TRIGGER_TTL0 - TRIGGER_BNC1) == kind, "a connector's type");
     must(with("36CCA Z=", TRIGGER_HIGH) == 0 && with("36CCA Z=", TRIGGER_NEVER) == 0 && with("36CCA Z=", TRIGGER_EACH_TICK) == 0, "addresses without a base");
     must(with("36CCA Z=", TRIGGER_CONNECTORS_END - 1 + TRIGGER_FALL) == 0, "the last address");
-    must(with("36CCA Z=", TRIGGER_CONNECTORS_END + TRIGGER_FALL) == TRIGGER_REFUSED_ADDRESS, "one behind it");
+    must(with("36CCA Z=", TRIGGER_CONNECTORS_END + TRIGGER_FALL) == TRIGGER_REFUSED_ADDRESS, "one after it");
     line("M E=33");
     must(line("36CCA Y=0") == 0, "BNC1 an input");
     range("PM E=", 0, TRIGGER_LAST_SOURCE, TRIGGER_REFUSED_TYPE);

@@ -44,7 +44,7 @@ static int line(trigger_card *card, const char *text, size_t reply_len, size_t s
     memcpy(given, text, len);
     trigger_answered a = trigger_line(*card, given, len, reply, reply_len, store, store_len);
     must(a.len <= reply_len && (a.len > 0) == (reply_len >= TRIGGER_REPLY), "a reply has another length");
-    must(all_sevens(reply + a.len, reply_len - a.len), "bytes behind a reply are written");
+    must(all_sevens(reply + a.len, reply_len - a.len), "bytes after a reply are written");
     must(a.k == 0 || all_sevens(store, store_len), "a refused line writes to the store");
     *card = a.card;
     free(given);
@@ -69,7 +69,7 @@ static int print(const trigger_card *card, size_t len, size_t *written)
     uint8_t *buffer = sevens(len);
     trigger_printed p = trigger_print(*card, buffer, len);
     must(p.len <= len && (p.k == 0 || p.len == 0), "a text has another length");
-    must(all_sevens(buffer + p.len, len - p.len), "bytes behind a text are written");
+    must(all_sevens(buffer + p.len, len - p.len), "bytes after a text are written");
     *written = p.len;
     free(buffer);
     return p.k;
@@ -154,7 +154,7 @@ static void tallies(void)
     must(t.total == UINT32_MAX && t.cells[0] == 1 && t.cells[1] == 0, "the tick that reaches the limit");
     card.tallies = t;
     t = trigger_read_tallies(trigger_quick_tick(card, input).card);
-    must(t.total == UINT32_MAX && t.cells[0] == 1, "all stand still");
+    must(t.total == UINT32_MAX && t.cells[0] == 1, "none changes any more");
 }
 
 int main(void)

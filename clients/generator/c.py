@@ -136,7 +136,7 @@ def inner_types(calls):
 
 
 def inner(call):
-    """The declaration of a function of the module, and the types behind its pointers, by their places."""
+    """The declaration of a function of the module, and the types that its pointers point to, by place."""
     words, pointers = [], []
     if isinstance(call.result, Struct):
         words.append("%s *result" % inner_result(call))
