@@ -1,4 +1,5 @@
--- `cells::wake::counter_clock` meets its contract: in each arm the counter is known, and the code tests what the definition says of it.
+-- `cells::wake::counter_clock` meets its contract: in each arm the counter is known, and the code
+-- tests what the definition says of it.
 use borrow.Author.Needs.{needs}
 use Rattle.cells.proofs.wake.counter_clock.Statement.{statement}
 use Rattle.cells.proofs.wake.counter_clock.Tie as tie

@@ -1,4 +1,5 @@
--- `cells::wake::counter_stirred` meets its contract: start and stop where it has them, and the clock.
+-- `cells::wake::counter_stirred` meets its contract: start and stop where it has them, and the
+-- clock.
 use mathlib.Core.Path.{ap₂}
 use mathlib.Core.Bool.{Bool, _&&_, _||_}
 use borrow.Author.Needs.{needs}

@@ -1,4 +1,5 @@
--- `cells::wake::has_edges` meets its contract: the word is, bit by bit, what the table gives, which antt computes; past it the number has no row.
+-- `cells::wake::has_edges` meets its contract: the word is, bit by bit, what the table gives, which
+-- antt computes; past it the number has no row.
 use mathlib.Core.Path.{_≡_, refl, sym, ap, _∙_}
 use Rattle.words.specs.Bits.{bitAt, wordOf}
 use Rattle.words.proofs.Laws.{bit-built}

@@ -1,4 +1,5 @@
--- `cells::wake::stirred` meets its contract: the class and the used slots are those of the type's row.
+-- `cells::wake::stirred` meets its contract: the class and the used slots are those of the type's
+-- row.
 use mathlib.Core.Path.{ap, ap₂, _∙_}
 use Rattle.cells.specs.declared.table.Slots.{Slots}
 use Rattle.cells.specs.declared.table.Class.{Class}

@@ -1,4 +1,5 @@
--- `cells::wake::stirred_as` meets its contract: in each arm the family is known, and the definition answers by it.
+-- `cells::wake::stirred_as` meets its contract: in each arm the family is known, and the definition
+-- answers by it.
 use Rattle.cells.specs.Wake.{stirredAs}
 use borrow.Author.Needs.{needs}
 use Rattle.cells.proofs.wake.stirred_as.Statement.{statement}

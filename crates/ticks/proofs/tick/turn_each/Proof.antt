@@ -1,5 +1,6 @@
--- `ticks::tick::turn_each` meets its contract: after i turns the first i cells are those of the definition, the words of outputs and of named cells hold their
--- bits up to there, and the words that addresses are read from are those of reader i.
+-- `ticks::tick::turn_each` meets its contract: after i turns the first i cells are those of the
+-- definition, the words of outputs and of named cells hold their bits up to there, and the words
+-- that addresses are read from are those of reader i.
 use Prim.Native.Nat.{ℕ, _+_, _-_, _^_, _≤_, _<_, zero-le}
 use mathlib.Core.Path.{_≡_, refl, sym, ap, subst, _∙_}
 use mathlib.Core.Bool.{Bool, false, not, _||_, Bool·beq, true≢false}
@@ -19,7 +20,7 @@ use Rattle.cells.specs.declared.cell.Cell.{Cell}
 use Rattle.cells.specs.declared.table.Slots.{Slots}
 use Rattle.cells.specs.declared.work.Effect.{Effect}
 use Rattle.cells.specs.State.{stateOf, withState}
-use Rattle.cells.specs.Work.{workOut}
+use Rattle.cells.specs.Work.{lookedAt, workOut}
 use Rattle.cells.specs.Effect.{workedBy, StepsTo}
 use Rattle.card.specs.Address.{cellRoom}
 use Rattle.card.specs.Fresh.{noCell}
@@ -250,7 +251,8 @@ turn-here at inside =
     ∙ turn-same (a .n) (a .full) (getD (l .next .cells) (l .i) noCell) (l .i) (a .card .edited) wires below (l .outputs)
     (λ k h. output-bit (a .n) (a .full) (a .card .cells) (a .card .edited) wires (l .i) k h ∙ sym (l .inv .2 .1 k h))
 
--- the step that the code took: whether the rules name cell i, and the cell and the output of its effect, are those of the definition
+-- the step that the code took: whether the rules name cell i, and the cell and the output of its
+-- effect, are those of the definition
 pub record Taken (s : tie.After-stepped Inv-loop μ-loop) : Type 0 where
   pub names : (let at = s .before .before .before .before .before .before in
       let set = at .before .before .before .before in
@@ -290,7 +292,7 @@ taken s =
     let was = bitAt (a .card .edited) (l .i) in
     let turn = turn-here at (asked .before .loop-test .taken) in
     let is = subst
-    (λ (b : Bool). StepsTo r (a .full) (namedBy old b now last) (stateOf old) (workOut (old .kind) (old .config) (stateOf old) now))
+    (λ (b : Bool). StepsTo r (a .full) (namedBy old b now last) (stateOf old) (workOut (old .kind) (old .config) (stateOf old) now) (lookedAt (old .kind) now))
     (asked .bit .ensures) (s .stepped .ensures _ _ _ (l .inv .4) (l .inv .5)) in
     record {
       names = sym (ap (λ (t : Turn). t .named) turn ∙ step-named (a .full) old was out now last r is);
@@ -359,7 +361,8 @@ met m =
     (λ w. (w .4 ∙ put _ (w .1 .given .1), w .5 ∙ took .out _ (w .1 .given .1)))))))
     (m .match .came)
 
--- what the turn of cell i made: the outputs are those of the definition, and readers above see of it what readers up to it do unless it moved
+-- what the turn of cell i made: the outputs are those of the definition, and readers above see of
+-- it what readers up to it do unless it moved
 Turned-on : tie.Joined1 Inv-loop μ-loop → Type 0
 Turned-on j =
     let at = j .before .before .before .before .before .before .before .before .before .before .before in

@@ -1,8 +1,8 @@
--- `cells::wake::timer_wakes` meets its contract: the first test, or else the second.
+-- `cells::named::timer_wakes` meets its contract: the first test, or else the second.
 use Rattle.cells.proofs.Tests.{or-taken, or-passed}
 use borrow.Author.Needs.{needs}
-use Rattle.cells.proofs.wake.timer_wakes.Statement.{statement}
-use Rattle.cells.proofs.wake.timer_wakes.Tie as tie
+use Rattle.cells.proofs.named.timer_wakes.Statement.{statement}
+use Rattle.cells.proofs.named.timer_wakes.Tie as tie
 
 timer-stirred-requires : tie.Need-timer-stirred-requires
 timer-stirred-requires c κs = search needs

@@ -1,8 +1,8 @@
--- `cells::wake::moved4` meets its contract: the first test, or else the second.
+-- `cells::named::moved4` meets its contract: the first test, or else the second.
 use Rattle.cells.proofs.Tests.{or-taken, or-passed}
 use borrow.Author.Needs.{needs}
-use Rattle.cells.proofs.wake.moved4.Statement.{statement}
-use Rattle.cells.proofs.wake.moved4.Tie as tie
+use Rattle.cells.proofs.named.moved4.Statement.{statement}
+use Rattle.cells.proofs.named.moved4.Tie as tie
 
 moved2-requires : tie.Need-moved2-requires
 moved2-requires c κs = search needs

@@ -1,8 +1,8 @@
--- `cells::wake::gated_wakes` meets its contract: the first test, or else the second.
+-- `cells::named::gated_wakes` meets its contract: the first test, or else the second.
 use Rattle.cells.proofs.Tests.{or-taken, or-passed}
 use borrow.Author.Needs.{needs}
-use Rattle.cells.proofs.wake.gated_wakes.Statement.{statement}
-use Rattle.cells.proofs.wake.gated_wakes.Tie as tie
+use Rattle.cells.proofs.named.gated_wakes.Statement.{statement}
+use Rattle.cells.proofs.named.gated_wakes.Tie as tie
 
 counter-stirred-requires : tie.Need-counter-stirred-requires
 counter-stirred-requires c κs = search needs

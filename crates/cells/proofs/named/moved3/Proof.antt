@@ -1,8 +1,8 @@
--- `cells::wake::moved3` meets its contract: the first test, or else the second.
+-- `cells::named::moved3` meets its contract: the first test, or else the second.
 use Rattle.cells.proofs.Tests.{or-taken, or-passed}
 use borrow.Author.Needs.{needs}
-use Rattle.cells.proofs.wake.moved3.Statement.{statement}
-use Rattle.cells.proofs.wake.moved3.Tie as tie
+use Rattle.cells.proofs.named.moved3.Statement.{statement}
+use Rattle.cells.proofs.named.moved3.Tie as tie
 
 moved2-requires : tie.Need-moved2-requires
 moved2-requires c κs = search needs

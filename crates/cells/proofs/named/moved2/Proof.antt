@@ -1,8 +1,8 @@
--- `cells::wake::moved2` meets its contract: the first test, or else the second.
+-- `cells::named::moved2` meets its contract: the first test, or else the second.
 use Rattle.cells.proofs.Tests.{or-taken, or-passed}
 use borrow.Author.Needs.{needs}
-use Rattle.cells.proofs.wake.moved2.Statement.{statement}
-use Rattle.cells.proofs.wake.moved2.Tie as tie
+use Rattle.cells.proofs.named.moved2.Statement.{statement}
+use Rattle.cells.proofs.named.moved2.Tie as tie
 
 read-requires : tie.Need-read-requires
 read-requires c κs = search needs

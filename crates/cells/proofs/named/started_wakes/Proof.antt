@@ -1,8 +1,8 @@
--- `cells::wake::started_wakes` meets its contract: the first test, or else the second.
+-- `cells::named::started_wakes` meets its contract: the first test, or else the second.
 use Rattle.cells.proofs.Tests.{or-taken, or-passed}
 use borrow.Author.Needs.{needs}
-use Rattle.cells.proofs.wake.started_wakes.Statement.{statement}
-use Rattle.cells.proofs.wake.started_wakes.Tie as tie
+use Rattle.cells.proofs.named.started_wakes.Statement.{statement}
+use Rattle.cells.proofs.named.started_wakes.Tie as tie
 
 counter-stirred-requires : tie.Need-counter-stirred-requires
 counter-stirred-requires c κs = search needs
