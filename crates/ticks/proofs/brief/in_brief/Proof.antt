@@ -1,4 +1,5 @@
--- `ticks::brief::in_brief` meets its contract: the lines are the card's own, and where the tests of the fast path hold its law says what the tick comes to.
+-- `ticks::brief::in_brief` meets its contract: the lines are the card's own, and where the tests of
+-- the fast path hold its law says what the tick comes to.
 use Prim.Native.Nat.{ℕ, _^_, _≤_, _<_}
 use mathlib.Core.Path.{_≡_, sym, ap, subst, _∙_}
 use mathlib.Core.Bool.{Bool, false, true, false≢true}
@@ -94,7 +95,7 @@ returns-2 c =
     let room : n ≤ length (a .card .tallies .cells) = omega (arith, z .cells-for .ensures .1, tallies-long (z .before)) in
     let slept : q .is-quiet .result ≡ true → _ = λ h.
     sym (ap (λ (v : Wires). turned n false (a .card .cells) (a .card .edited) v) (w .wires-of .ensures))
-    ∙ q .is-quiet .ensures h
+    ∙ q .is-quiet .ensures .1 h
     ∙ ap (λ (v : Wires). sleptAll (a .card .cells) (v .outputs)) (w .wires-of .ensures) in
     subst (λ (k : ℕ). BriefOf k (a .card) (a .input) (c .slept2 .result)) (z .cells-for .ensures .0)
     (subst (λ (b : Brief). BriefOf n (a .card) (a .input) b) (sym (c .slept2 .ensures))

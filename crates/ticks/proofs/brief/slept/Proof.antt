@@ -1,4 +1,5 @@
--- `ticks::brief::slept` meets its contract: the total is the definition's, and the rest is written out.
+-- `ticks::brief::slept` meets its contract: the total is the definition's, and the rest is written
+-- out.
 use borrow.Author.Needs.{needs}
 use Rattle.ticks.proofs.brief.slept.Statement.{statement}
 use Rattle.ticks.proofs.brief.slept.Tie as tie

@@ -1,4 +1,5 @@
--- `ticks::quiet::rests` meets its contract: a type without edge slots is never stirred, and for any other the test is made.
+-- `ticks::quiet::rests` meets its contract: a type without edge slots is never stirred, and for any
+-- other the test is made.
 use mathlib.Core.Path.{sym, ap, _∙_}
 use mathlib.Core.Bool.{not}
 use borrow.Author.Tests.{not-true}

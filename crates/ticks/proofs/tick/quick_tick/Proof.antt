@@ -1,5 +1,6 @@
--- `ticks::tick::quick_tick` meets its contract: idle where the clock is not the chosen trigger source; else the connectors are those of the definition,
--- and then the cells, by the law of the fast path where the tick is quiet.
+-- `ticks::tick::quick_tick` meets its contract: idle where the clock is not the chosen trigger
+-- source; else the connectors are those of the definition, and then the cells, by the law of the
+-- fast path where the tick is quiet.
 use Prim.Native.Nat.{ℕ, _^_, _<_}
 use mathlib.Core.Path.{sym, ap, subst, _∙_}
 use mathlib.Core.Bool.{false}
@@ -64,7 +65,7 @@ returns-2 c =
     let n = z .cells-for .result in
     let fits = subst (λ (v : Memory). FitsMemory n v) (sym (s .seen-memory .ensures)) (trim-fits n (a .card .memory)) in
     let slept = sym (ap (λ (v : Wires). turned n false (a .card .cells) (a .card .edited) v) (w .wires-of .ensures))
-    ∙ quiet .is-quiet .ensures (c .before .if2 .taken)
+    ∙ quiet .is-quiet .ensures .1 (c .before .if2 .taken)
     ∙ ap (λ (v : Wires). sleptAll (a .card .cells) (v .outputs)) (w .wires-of .ensures) in
     rw (sym (p .before .is-own .ensures) ∙ not-false _ (p .if1 .left))
     (c .ran-with .ensures n (z .cells-for .ensures .1) (pow-pos n) ∙ ap (ranWith n (s .seen-memory .result) (a .card) (l .lines-in .result)) (sym slept)

@@ -1,4 +1,5 @@
--- `ticks::tick::quick_tick_on` meets its contract: the cells are turned under the lines, by the law of the fast path where the tick is quiet.
+-- `ticks::tick::quick_tick_on` meets its contract: the cells are turned under the lines, by the law
+-- of the fast path where the tick is quiet.
 use Prim.Native.Nat.{ℕ, _^_, _<_}
 use mathlib.Core.Path.{sym, ap, subst, _∙_}
 use mathlib.Core.Bool.{false}
@@ -42,7 +43,7 @@ returns c =
     let a = z .before .args in
     let n = z .cells-for .result in
     let slept = sym (ap (λ (v : Wires). turned n false (a .card .cells) (a .card .edited) v) (w .wires-of .ensures))
-    ∙ quiet .is-quiet .ensures (c .before .if1 .taken)
+    ∙ quiet .is-quiet .ensures .1 (c .before .if1 .taken)
     ∙ ap (λ (v : Wires). sleptAll (a .card .cells) (v .outputs)) (w .wires-of .ensures) in
     c .ran-with .ensures n (z .cells-for .ensures .1) (pow-pos n) ∙ ap (ranWith n (s .seen-memory .result) (a .card) (a .l)) (sym slept)
     ∙ whole-tick-on n false (a .card) (s .seen-memory .result) (a .l) (s .seen-memory .ensures)
