@@ -1,5 +1,5 @@
--- `cells::table::edge_of` meets its contract: the code's column is, entry by entry, what document 01's table gives, packed, which antt computes;
--- past it the number has no row.
+-- `cells::table::edge_of` meets its contract: the code's column is, entry by entry, what document
+-- 01's table gives, packed, which antt computes; past it the number has no row.
 use mathlib.Core.Path.{sym, ap, _∙_}
 use native.Mathlib.Omega.{arith}
 use borrow.Author.Needs.{needs}

@@ -1,5 +1,5 @@
--- `cells::table::largest_of` meets its contract: the code's column is, entry by entry, what document 01's table gives, which antt computes; past it the
--- number has no row.
+-- `cells::table::largest_of` meets its contract: the code's column is, entry by entry, what
+-- document 01's table gives, which antt computes; past it the number has no row.
 use mathlib.Core.Path.{sym, ap}
 use Rattle.words.specs.Listed.{listed}
 use Rattle.words.proofs.Listed.{listed-at}

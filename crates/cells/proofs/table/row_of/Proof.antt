@@ -1,4 +1,5 @@
--- `cells::table::row_of` meets its contract: each column is its callee's answer, or follows from another column as the laws of the table say.
+-- `cells::table::row_of` meets its contract: each column is its callee's answer, or follows from
+-- another column as the laws of the table say.
 use Prim.Native.Nat.{ℕ}
 use mathlib.Core.Path.{sym, ap, _∙_}
 use lib.Dec.{ltb}

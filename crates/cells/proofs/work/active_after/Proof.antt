@@ -1,4 +1,5 @@
--- `cells::work::active_after` meets its contract: in each arm the counter is known, and the code computes what the definition says of it.
+-- `cells::work::active_after` meets its contract: in each arm the counter is known, and the code
+-- computes what the definition says of it.
 use borrow.Author.Needs.{needs}
 use Rattle.cells.proofs.work.active_after.Statement.{statement}
 use Rattle.cells.proofs.work.active_after.Tie as tie

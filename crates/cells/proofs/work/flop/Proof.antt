@@ -1,4 +1,5 @@
--- `cells::work::flop` meets its contract: in each arm the type is known, and the others are neither 1 nor 12.
+-- `cells::work::flop` meets its contract: in each arm the type is known, and the others are neither
+-- 1 nor 12.
 use borrow.Author.Needs.{needs}
 use borrow.Author.Tests.{ne-eqb}
 use Rattle.cells.proofs.work.flop.Statement.{statement}

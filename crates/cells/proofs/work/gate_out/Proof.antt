@@ -1,4 +1,5 @@
--- `cells::work::gate_out` meets its contract: in each arm the gate is known, and the code answers what the definition says of it.
+-- `cells::work::gate_out` meets its contract: in each arm the gate is known, and the code answers
+-- what the definition says of it.
 use borrow.Author.Needs.{needs}
 use Rattle.cells.proofs.work.gate_out.Statement.{statement}
 use Rattle.cells.proofs.work.gate_out.Tie as tie

@@ -1,4 +1,5 @@
--- `cells::work::lookup` meets its contract: the place is below 16, so it lies within the word, and the bit there is the answer.
+-- `cells::work::lookup` meets its contract: the place is below 16, so it lies within the word, and
+-- the bit there is the answer.
 use borrow.Author.Needs.{needs}
 use Rattle.cells.proofs.work.lookup.Statement.{statement}
 use Rattle.cells.proofs.work.lookup.Tie as tie

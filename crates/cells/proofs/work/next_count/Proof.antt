@@ -1,4 +1,5 @@
--- `cells::work::next_count` meets its contract, branch by branch; a count of 0 less 1 is 0, so a clock edge leaves it.
+-- `cells::work::next_count` meets its contract, branch by branch; a count of 0 less 1 is 0, so a
+-- clock edge leaves it.
 use mathlib.Core.Path.{ap}
 use native.Mathlib.Omega.{arith}
 use Rattle.cells.specs.Work.{pulses}

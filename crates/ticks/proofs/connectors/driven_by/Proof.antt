@@ -1,4 +1,5 @@
--- `ticks::connectors::driven_by` meets its contract: of the outputs that are not left the driven word has the bits, and each turn takes the lowest.
+-- `ticks::connectors::driven_by` meets its contract: of the outputs that are not left the driven
+-- word has the bits, and each turn takes the lowest.
 use Prim.Native.Nat.{ℕ, _-_, _^_, _<_}
 use mathlib.Core.Path.{_≡_, refl, sym, ap, ap₂, _∙_}
 use mathlib.Core.Bool.{Bool, true, false, _&&_, _||_, cond}

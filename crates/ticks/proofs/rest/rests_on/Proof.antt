@@ -1,4 +1,5 @@
--- `ticks::rest::rests_on` meets its contract: what it tests is what the laws of rest ask of connectors and cells, both ways.
+-- `ticks::rest::rests_on` meets its contract: what it tests is what the laws of rest ask of
+-- connectors and cells, both ways.
 use mathlib.Core.Path.{_≡_, refl, sym, ap, ap₂, _∙_}
 use mathlib.Core.Bool.{Bool, false≢true, not, _||_}
 use lib.Dec.{eqb}

@@ -1,5 +1,5 @@
--- `ticks::tick::full_tick` meets its contract: idle where the clock is not the chosen trigger source; else the connectors and then the cells are those of
--- the definition.
+-- `ticks::tick::full_tick` meets its contract: idle where the clock is not the chosen trigger
+-- source; else the connectors and then the cells are those of the definition.
 use Prim.Native.Nat.{ℕ}
 use mathlib.Core.Path.{sym, ap, subst, _∙_}
 use mathlib.Core.Bool.{true}

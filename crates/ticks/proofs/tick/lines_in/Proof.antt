@@ -1,4 +1,5 @@
--- `ticks::tick::lines_in` meets its contract: the connectors read the words of two views as the views.
+-- `ticks::tick::lines_in` meets its contract: the connectors read the words of two views as the
+-- views.
 use Prim.Native.Nat.{ℕ}
 use mathlib.Core.Path.{ap, _∙_}
 use native.Mathlib.Nat.{le-refl}

@@ -1,4 +1,5 @@
--- `ticks::tick::lines_of` meets its contract: what the memory has above the cells' bits plays no part.
+-- `ticks::tick::lines_of` meets its contract: what the memory has above the cells' bits plays no
+-- part.
 use Prim.Native.Nat.{ℕ}
 use mathlib.Core.Path.{sym, ap, subst, _∙_}
 use Rattle.card.specs.declared.card.Memory.{Memory}

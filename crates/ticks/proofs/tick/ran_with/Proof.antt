@@ -1,4 +1,5 @@
--- `ticks::tick::ran_with` meets its contract: the tallies are those of the definition on a card of any number of cells that the named ones lie in.
+-- `ticks::tick::ran_with` meets its contract: the tallies are those of the definition on a card of
+-- any number of cells that the named ones lie in.
 use borrow.Author.Needs.{needs}
 use Rattle.ticks.proofs.tick.ran_with.Statement.{statement}
 use Rattle.ticks.proofs.tick.ran_with.Tie as tie

@@ -1,4 +1,5 @@
--- `ticks::tick::woken_by` meets its contract: in a full tick every bit is set, and a remainder keeps the bits below.
+-- `ticks::tick::woken_by` meets its contract: in a full tick every bit is set, and a remainder
+-- keeps the bits below.
 use Prim.Native.Nat.{ℕ, _^_, _<_, _≤_}
 use mathlib.Core.Path.{_≡_, ap, _∙_}
 use native.Mathlib.Omega.{arith}
