@@ -4,12 +4,6 @@ use borrow.Author.Needs.{needs}
 use Rattle.cells.proofs.named.moved2.Statement.{statement}
 use Rattle.cells.proofs.named.moved2.Tie as tie
 
-read-requires : tie.Need-read-requires
-read-requires c κs = search needs
-
-read-requires-2 : tie.Need-read-requires-2
-read-requires-2 c κs = search needs
-
 returns : tie.Need-returns
 returns c = or-taken _ _ _ (c .before .read .ensures) (c .if1 .taken)
 
@@ -17,4 +11,4 @@ returns-2 : tie.Need-returns-2
 returns-2 c = or-passed _ _ _ _ (c .before .before .read .ensures) (c .before .if1 .left) (c .read2 .ensures)
 
 pub moved2-spec : {M : Type 1} → statement M
-moved2-spec = tie.close (tie.spec read-requires read-requires-2 returns returns-2)
+moved2-spec = tie.close (tie.spec (λ c κs. search needs) (λ c κs. search needs) returns returns-2)

@@ -4,12 +4,6 @@ use borrow.Author.Needs.{needs}
 use Rattle.cells.proofs.named.timer_wakes.Statement.{statement}
 use Rattle.cells.proofs.named.timer_wakes.Tie as tie
 
-timer-stirred-requires : tie.Need-timer-stirred-requires
-timer-stirred-requires c κs = search needs
-
-read-requires : tie.Need-read-requires
-read-requires c κs = search needs
-
 returns : tie.Need-returns
 returns c = or-taken _ _ _ (c .before .timer-stirred .ensures) (c .if1 .taken)
 
@@ -17,4 +11,4 @@ returns-2 : tie.Need-returns-2
 returns-2 c = or-passed _ _ _ _ (c .before .before .timer-stirred .ensures) (c .before .if1 .left) (c .read .ensures)
 
 pub timer-wakes-spec : {M : Type 1} → statement M
-timer-wakes-spec = tie.close (tie.spec timer-stirred-requires read-requires returns returns-2)
+timer-wakes-spec = tie.close (tie.spec (λ c κs. search needs) (λ c κs. search needs) returns returns-2)

@@ -12,21 +12,6 @@ use borrow.Author.Needs.{needs}
 use Rattle.cells.proofs.wake.stirred.Statement.{statement}
 use Rattle.cells.proofs.wake.stirred.Tie as tie
 
-class-of-requires : tie.Need-class-of-requires
-class-of-requires c κs = search needs
-
-used-of-requires : tie.Need-used-of-requires
-used-of-requires c κs = search needs
-
-unpacked-requires : tie.Need-unpacked-requires
-unpacked-requires c κs = search needs
-
-within-requires : tie.Need-within-requires
-within-requires c κs = search needs
-
-stirred-as-requires : tie.Need-stirred-as-requires
-stirred-as-requires c κs = search needs
-
 returns : tie.Need-returns
 unfolding Wake.stirred
 returns c =
@@ -42,9 +27,9 @@ pub stirred-spec : {M : Type 1} → statement M
 stirred-spec =
     tie.close
     (tie.spec
-    class-of-requires
-    used-of-requires
-    unpacked-requires
-    within-requires
-    stirred-as-requires
+    (λ c κs. search needs)
+    (λ c κs. search needs)
+    (λ c κs. search needs)
+    (λ c κs. search needs)
+    (λ c κs. search needs)
     returns)

@@ -44,24 +44,6 @@ own-lines l =
 tallies-long : (c : tie.Start) → length (c .args .card .tallies .cells) ≡ cellRoom
 tallies-long c = search (as-long, c .good .0 .0 .1 .1 .1)
 
-cells-for-requires : tie.Need-cells-for-requires
-cells-for-requires c κs = search needs
-
-seen-memory-requires : tie.Need-seen-memory-requires
-seen-memory-requires c κs = search needs
-
-lines-in-requires : tie.Need-lines-in-requires
-lines-in-requires c κs = search needs
-
-wires-of-requires : tie.Need-wires-of-requires
-wires-of-requires c κs = search needs
-
-unchanged-requires : tie.Need-unchanged-requires
-unchanged-requires c κs = search needs
-
-slept-requires : tie.Need-slept-requires
-slept-requires c κs = search needs
-
 returns : tie.Need-returns
 returns c =
     let l = c .before .before .before .before .before .before in
@@ -77,9 +59,6 @@ is-quiet-requires c κs =
     let s = w .before .before .before .before in
     let n = s .before .cells-for .result in
     (s .before .cells-for .ensures .1, subst (λ (v : Wires). v .outputs < 2 ^ n) (sym (w .wires-of .ensures)) (fits s .0))
-
-slept-requires-2 : tie.Need-slept-requires-2
-slept-requires-2 c κs = search needs
 
 returns-2 : tie.Need-returns-2
 returns-2 c =
@@ -108,13 +87,13 @@ pub in-brief-spec : {M : Type 1} → statement M
 in-brief-spec =
     tie.close
     (tie.spec
-    cells-for-requires
-    seen-memory-requires
-    lines-in-requires
-    wires-of-requires
-    unchanged-requires
-    slept-requires
+    (λ c κs. search needs)
+    (λ c κs. search needs)
+    (λ c κs. search needs)
+    (λ c κs. search needs)
+    (λ c κs. search needs)
+    (λ c κs. search needs)
     returns
     is-quiet-requires
-    slept-requires-2
+    (λ c κs. search needs)
     returns-2)

@@ -27,9 +27,6 @@ returns : tie.Need-returns
 unfolding isQuiet
 returns c = (rw (ne-eqb _ 0 (c .if1 .taken)), λ h. absurd (false≢true h))
 
-unchanged-requires : tie.Need-unchanged-requires
-unchanged-requires c κs = search needs
-
 returns-2 : tie.Need-returns-2
 unfolding isQuiet
 returns-2 c =
@@ -39,12 +36,6 @@ returns-2 c =
       (sym (c .before .unchanged .ensures) ∙ not-true _ (c .if2 .taken)),
       λ h. absurd (false≢true h),
     )
-
-sees-requires : tie.Need-sees-requires
-sees-requires c κs = search needs
-
-all-rest-requires : tie.Need-all-rest-requires
-all-rest-requires c κs = search needs
 
 returns-3 : tie.Need-returns-3
 unfolding isQuiet
@@ -68,4 +59,4 @@ returns-3 c =
 pub is-quiet-spec : {M : Type 1} → statement M
 is-quiet-spec =
     tie.close
-    (tie.spec returns unchanged-requires returns-2 sees-requires all-rest-requires returns-3)
+    (tie.spec returns (λ c κs. search needs) returns-2 (λ c κs. search needs) (λ c κs. search needs) returns-3)

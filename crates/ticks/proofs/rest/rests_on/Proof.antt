@@ -17,9 +17,6 @@ use Rattle.ticks.proofs.AtRest.{StillMemory, viewLast, steady-memory, s
 use Rattle.ticks.proofs.rest.rests_on.Statement.{statement}
 use Rattle.ticks.proofs.rest.rests_on.Tie as tie
 
-lines-in-requires : tie.Need-lines-in-requires
-lines-in-requires c κs = search needs
-
 -- there are as many tallies as there is room for cells
 tallies-long : (c : tie.Start) → length (c .args .card .tallies .cells) ≡ cellRoom
 tallies-long c = search (as-long, c .good .0 .0 .1 .1 .1)
@@ -44,12 +41,6 @@ returns c =
           || not (eq-eqb _ _ (ap (λ (l : Lines). l .levels) lines ∙ s .levels) k))
           ∙ c .if1 .taken,
     )
-
-sees-requires : tie.Need-sees-requires
-sees-requires c κs = search needs
-
-all-rest-requires : tie.Need-all-rest-requires
-all-rest-requires c κs = search needs
 
 returns-2 : tie.Need-returns-2
 returns-2 c =
@@ -82,4 +73,4 @@ returns-2 c =
     )
 
 pub rests-on-spec : {M : Type 1} → statement M
-rests-on-spec = tie.close (tie.spec lines-in-requires returns sees-requires all-rest-requires returns-2)
+rests-on-spec = tie.close (tie.spec (λ c κs. search needs) returns (λ c κs. search needs) (λ c κs. search needs) returns-2)

@@ -15,15 +15,6 @@ use borrow.Author.Needs.{needs}
 use Rattle.ticks.proofs.tick.lines_in.Statement.{statement}
 use Rattle.ticks.proofs.tick.lines_in.Tie as tie
 
-sees-requires : tie.Need-sees-requires
-sees-requires c κs = search needs
-
-sees-requires-2 : tie.Need-sees-requires-2
-sees-requires-2 c κs = search needs
-
-effective-requires : tie.Need-effective-requires
-effective-requires c κs = search needs
-
 -- base 0 of a view is low
 drive-requires : tie.Need-drive-requires
 unfolding view
@@ -45,4 +36,4 @@ returns c n room fits =
     ∙ lines-built _ _ (a .connectors) sample
 
 pub lines-in-spec : {M : Type 1} → statement M
-lines-in-spec = tie.close (tie.spec sees-requires sees-requires-2 effective-requires drive-requires returns)
+lines-in-spec = tie.close (tie.spec (λ c κs. search needs) (λ c κs. search needs) (λ c κs. search needs) drive-requires returns)

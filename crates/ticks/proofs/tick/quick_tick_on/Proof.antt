@@ -14,15 +14,6 @@ use borrow.Author.Needs.{needs}
 use Rattle.ticks.proofs.tick.quick_tick_on.Statement.{statement}
 use Rattle.ticks.proofs.tick.quick_tick_on.Tie as tie
 
-cells-for-requires : tie.Need-cells-for-requires
-cells-for-requires c κs = search needs
-
-seen-memory-requires : tie.Need-seen-memory-requires
-seen-memory-requires c κs = search needs
-
-wires-of-requires : tie.Need-wires-of-requires
-wires-of-requires c κs = search needs
-
 is-quiet-requires : tie.Need-is-quiet-requires
 is-quiet-requires c κs =
     let s = c .before .before in
@@ -30,9 +21,6 @@ is-quiet-requires c κs =
     let n = z .cells-for .result in
     let fits = subst (λ (v : Memory). FitsMemory n v) (sym (s .seen-memory .ensures)) (trim-fits n (z .before .args .card .memory)) in
     (z .cells-for .ensures .1, subst (λ (v : Wires). v .outputs < 2 ^ n) (sym (c .wires-of .ensures)) (fits .0))
-
-ran-with-requires : tie.Need-ran-with-requires
-ran-with-requires c κs = search needs
 
 returns : tie.Need-returns
 returns c =
@@ -69,11 +57,11 @@ pub quick-tick-on-spec : {M : Type 1} → statement M
 quick-tick-on-spec =
     tie.close
     (tie.spec
-    cells-for-requires
-    seen-memory-requires
-    wires-of-requires
+    (λ c κs. search needs)
+    (λ c κs. search needs)
+    (λ c κs. search needs)
     is-quiet-requires
-    ran-with-requires
+    (λ c κs. search needs)
     returns
     turn-each-requires
     returns-2)

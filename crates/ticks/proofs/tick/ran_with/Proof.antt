@@ -4,11 +4,8 @@ use borrow.Author.Needs.{needs}
 use Rattle.ticks.proofs.tick.ran_with.Statement.{statement}
 use Rattle.ticks.proofs.tick.ran_with.Tie as tie
 
-tally-requires : tie.Need-tally-requires
-tally-requires c κs = search needs
-
 returns : tie.Need-returns
 returns c n h small = rw (c .tally .ensures n h small)
 
 pub ran-with-spec : {M : Type 1} → statement M
-ran-with-spec = tie.close (tie.spec tally-requires returns)
+ran-with-spec = tie.close (tie.spec (λ c κs. search needs) returns)

@@ -17,33 +17,6 @@ use borrow.Author.Needs.{needs}
 use Rattle.ticks.proofs.tick.stepped.Statement.{statement}
 use Rattle.ticks.proofs.tick.stepped.Tie as tie
 
-array-read-address : tie.Need-array-read-address
-array-read-address c = search needs
-
-address-requires : tie.Need-address-requires
-address-requires c κs = search needs
-
-array-read-address-2 : tie.Need-array-read-address-2
-array-read-address-2 c = search needs
-
-address-requires-2 : tie.Need-address-requires-2
-address-requires-2 c κs = search needs
-
-array-read-address-3 : tie.Need-array-read-address-3
-array-read-address-3 c = search needs
-
-address-requires-3 : tie.Need-address-requires-3
-address-requires-3 c κs = search needs
-
-array-read-address-4 : tie.Need-array-read-address-4
-array-read-address-4 c = search needs
-
-address-requires-4 : tie.Need-address-requires-4
-address-requires-4 c κs = search needs
-
-step-requires : tie.Need-step-requires
-step-requires c κs = search needs
-
 -- what is asked, by the readings of the definition
 as-asked : (t : Stepped) (full edited : Bool) (kind config : ℕ) (s : State) (r m now d : Slots) (b : Bool)
     → StepsTo t full (edited || (stirred kind s r || moved kind m)) s (workOut kind config s r) (lookedAt kind r) → r ≡ now → m ≡ d → moved kind d ≡ b
@@ -73,13 +46,13 @@ pub stepped-spec : {M : Type 1} → statement M
 stepped-spec =
     tie.close
     (tie.spec
-    array-read-address
-    address-requires
-    array-read-address-2
-    address-requires-2
-    array-read-address-3
-    address-requires-3
-    array-read-address-4
-    address-requires-4
-    step-requires
+    (λ c. search needs)
+    (λ c κs. search needs)
+    (λ c. search needs)
+    (λ c κs. search needs)
+    (λ c. search needs)
+    (λ c κs. search needs)
+    (λ c. search needs)
+    (λ c κs. search needs)
+    (λ c κs. search needs)
     returns)
