@@ -1,23 +1,31 @@
 /*
  * The trigger card as a static library, for C11 and C++11.
  *
- * There are two kinds of calls. Those whose names end in _at take the card by a pointer and change it where it is: they are the same on every processor, and
- * `clients/firmware/make TARGET` builds them. Those under TRIGGER_BY_VALUE pass structs by value; they are for x86-64 alone, and stand in
- * target/staticlib/libtrigger.a, which `rt staticlib trigger` makes, and beside the others in the library that `clients/firmware/make x86-64` makes. The calls on a
- * row of cards, whose names start with rack_, are in a library of their own beside it: librack.a, which `rt staticlib rack` makes.
+ * Written by clients/generate from the crates and trigger.h.in: do not edit.
  *
- * A card comes from trigger_fresh or trigger_fresh_large, and from calls on such a card. Memory that is all zero is no card: its pointer is at no place, and what
- * is proved of cards that calls have made does not hold of it. A card has no pointers to memory, so it may be copied by assignment and kept anywhere. It has
- * padding, which calls leave to chance: memcmp may find two equal cards different. Compare fields, or the records that `36SS Z` saves.
+ * There are two kinds of calls. Those whose names end in _at take the card by a pointer and change
+ * it where it is: they are the same on every processor, and `clients/firmware/make TARGET` builds
+ * them. Those under TRIGGER_BY_VALUE pass structs by value; they are for x86-64 alone, and are in
+ * target/staticlib/libtrigger.a, which `rt staticlib trigger` makes, and beside the others in the
+ * library that `clients/firmware/make x86-64` makes. The calls on a row of cards, whose names start
+ * with rack_, are in a library of their own beside it: librack.a, which `rt staticlib rack` makes.
  *
- * The library allocates nothing and keeps nothing between calls, so two threads, or a loop and an interrupt, may call it at once, each with cards and buffers
- * of its own.
+ * A card comes from trigger_fresh or trigger_fresh_large, and from calls on such a card. Memory
+ * that is all zero is no card: its pointer is at no place, and what is proved of cards that calls
+ * have made does not hold of it. A card has no pointers to memory, so it may be copied by
+ * assignment and kept anywhere. It has padding, which calls leave to chance: memcmp may find two
+ * equal cards different. Compare fields, or the records that `36SS Z` saves.
  *
- * Bytes are passed as a pointer and a length. The pointer is never NULL, also where the length is 0; it must be good for that many bytes for the time
- * of the call, and what is written must not overlap anything else that the call is given. No buffer needs to end in a zero, and no text that is
- * written ends in one. What a length leaves no room for is refused, never written.
+ * The library allocates nothing and keeps nothing between calls, so two threads, or a loop and an
+ * interrupt, may call it at once, each with cards and buffers of its own.
  *
- * `k` is 0, or the number of the refusal (TRIGGER_REFUSED_...); docs/MANUAL.md says what each means. A refused call leaves card and store as they were.
+ * Bytes are passed as a pointer and a length. The pointer is never NULL, also where the length is
+ * 0; it must be good for that many bytes for the time of the call, and what is written must not
+ * overlap anything else that the call is given. No buffer needs to end in a zero, and no text that
+ * is written ends in one. What a length leaves no room for is refused, never written.
+ *
+ * `k` is 0, or the number of the refusal (TRIGGER_REFUSED_...); docs/MANUAL.md says what each
+ * means. A refused call leaves card and store as they were.
  *
  * docs/PERFORMANCE.md has the stack that each call takes, on each processor.
  */
@@ -29,21 +37,27 @@
 #include <stdint.h>
 
 /*
- * The version that this header belongs to: a hundred times the number of the last change request that the card meets, and a count. The library has its own
- * (trigger_version), and with TRIGGER_LAYOUT below one can tell at start whether the two belong together: see trigger_matches.
+ * The version of the release that this header belongs to, as a text and as a number of two decimal
+ * digits for each part. Its first part is the number of the last change request that the card
+ * meets. The library has its own (trigger_version), and with TRIGGER_LAYOUT below one can tell at
+ * start whether the two belong together: see trigger_matches.
  */
-#define TRIGGER_VERSION 1402
+#define TRIGGER_VERSION_TEXT "14.2.0"
+#define TRIGGER_VERSION 140200
 
 /* A card has sixteen cells or thirty-two, and always room for thirty-two. */
 #define TRIGGER_SMALL 16
 #define TRIGGER_LARGE 32
-#define TRIGGER_CELLS TRIGGER_LARGE
+#define TRIGGER_CELLS 32
 #define TRIGGER_CONNECTORS 16
 
 /* The fewest bytes that a reply buffer may have; no reply is longer. */
 #define TRIGGER_REPLY 16
 
-/* The length of a record, which `36SS Z` writes and a load takes: of a card of sixteen cells, and of one of thirty-two. */
+/*
+ * The length of a record, which `36SS Z` writes and a load takes: of a card of sixteen cells, and
+ * of one of thirty-two.
+ */
 #define TRIGGER_RECORD 308
 #define TRIGGER_LARGE_RECORD 516
 
@@ -81,15 +95,22 @@ enum {
     TRIGGER_LAST_TYPE = 22
 };
 
-/* The types of connectors: 36CCA Y at a connector. trigger_connector_type gives that of a card's connector. */
+/*
+ * The types of connectors: 36CCA Y at a connector. trigger_connector_type gives that of a card's
+ * connector.
+ */
 enum { TRIGGER_INPUT = 0, TRIGGER_OPEN_DRAIN = 1, TRIGGER_PUSH_PULL = 2 };
 
-/* The trigger source, which is the code of the clock that the card takes ticks of (PM E): 0 to 4. With the last one the ticks come in at BNC1. */
+/*
+ * The trigger source, which is the code of the clock that the card takes ticks of (PM E): 0 to 4.
+ * With the last one the ticks come in at BNC1.
+ */
 enum { TRIGGER_LAST_SOURCE = 4, TRIGGER_SOURCE_BNC1 = 4 };
 
 /*
- * Addresses, which slots and connectors read: nothing (always low), cells by their numbers from 1 on, BNC1 to BNC8, TTL0 to TTL7; to each of these its inverse,
- * its rise and its fall by what is added. Places, which the pointer goes to (M E), are the addresses of cells and connectors.
+ * Addresses, which slots and connectors read: nothing (always low), cells by their numbers from 1
+ * on, BNC1 to BNC8, TTL0 to TTL7; to each of these its inverse, its rise and its fall by what is
+ * added. Places, which the pointer goes to (M E), are the addresses of cells and connectors.
  */
 enum {
     TRIGGER_LOW = 0,
@@ -105,7 +126,10 @@ enum {
     TRIGGER_EACH_TICK = TRIGGER_LOW + TRIGGER_FALL
 };
 
-/* Presets (36CCA X) have numbers from 0 to this one; not all are offered. On thirty-two cells 51 is offered too. */
+/*
+ * Presets (36CCA X) have numbers from 0 to this one; not all are offered. On thirty-two cells 51 is
+ * offered too.
+ */
 enum { TRIGGER_LAST_PRESET = 59 };
 
 /* The numbers of refusals, lowest first where several apply. */
@@ -132,85 +156,75 @@ enum {
     TRIGGER_REFUSED_RACK = 20           /* no rack, or no such card in it */
 };
 
-/*
- * A cell: its configuration, the addresses in its slots X Y Z F and its type; and what it keeps between ticks: a flip-flop's bit, a timer's count and
- * pulse, a counter's count and, as bit, whether it is active.
- */
+/* One of the cells: its settings, and what it keeps between ticks. */
 typedef struct {
-    uint32_t config;
-    uint32_t count;
-    uint8_t slots[4];
-    uint8_t kind;
-    bool bit;
-    bool pulse;
+    uint32_t config;  /* A constant, a lookup's code or a duration; 0 where the type has none. */
+    uint32_t count;  /* A timer's count of pulses left, or a counter's count. */
+    uint8_t slots[4];  /* The addresses in its slots X, Y, Z and F. */
+    uint8_t kind;  /* Its type. */
+    bool bit;  /* A flip-flop's bit, or whether a counter is active. */
+    bool pulse;  /* Whether a delay's pulse is on. */
 } trigger_cell;
 
 /*
- * The connectors, BNC1 to BNC8 and TTL0 to TTL7: the addresses that they are driven from, and the words of those that are push-pull and of those that are
- * open-drain, in the order of the sample. One in both words is push-pull, one in neither an input.
+ * The connectors: BNC1 to BNC8, then TTL0 to TTL7. One that is in both words is push-pull, one that
+ * is in neither is an input.
  */
 typedef struct {
-    uint8_t sources[TRIGGER_CONNECTORS];
-    uint16_t push_pull;
-    uint16_t open_drain;
+    uint8_t sources[TRIGGER_CONNECTORS];  /* The addresses that they are driven from. */
+    uint16_t push_pull;  /* Those that are push-pull, in the order of the sample. */
+    uint16_t open_drain;  /* Those that are open-drain. */
 } trigger_connectors;
 
-/*
- * The words of the last tick that ran, of the one before it (2), and of the one before that (3); `pulled` has the lines of the backplane that the last one
- * pulled low.
- */
+/* The words of the last tick that ran, of the one before it (2), and of the one before that (3). */
 typedef struct {
-    uint16_t driven;
-    uint16_t pulled;
-    uint32_t outputs;
+    uint16_t driven;  /* What the card drove at the connectors. */
+    uint16_t pulled;  /* The lines of the backplane that it pulled low. */
+    uint32_t outputs;  /* The outputs of the cells, bit 0 of cell 1. */
     uint32_t outputs2;
     uint32_t outputs3;
-    uint16_t levels;
+    uint16_t levels;  /* The levels of the connectors. */
     uint16_t levels2;
 } trigger_memory;
 
 /*
- * In how many ticks the waking rules named each cell, from cell 1 on, in full ticks too, and how many ticks ran, since the card powered up or was loaded. Once
- * 4,294,967,295 ticks have run, all of these stand still. Those past the card's cells are 0.
+ * In how many ticks the waking rules named each cell, in full ticks too, and how many ticks ran,
+ * since the card powered up or was loaded. Once 4,294,967,295 ticks have run, none of these
+ * changes any more.
  */
 typedef struct {
-    uint32_t cells[TRIGGER_CELLS];
-    uint32_t total;
+    uint32_t cells[TRIGGER_CELLS];  /* Of each cell, from cell 1 on; those past the card's cells are 0. */
+    uint32_t total;  /* The ticks that ran. */
 } trigger_tallies;
 
-/*
- * The card: its cells from 1 on, its connectors, the set of edited cells, what is remembered of ticks, the place that lines are
- * for (a cell's number or 33 to 48), the code of the clock that it ticks by, and its number of cells: TRIGGER_LARGE, and any other number stands for
- * TRIGGER_SMALL. No call changes that number. The tallies come last. Read the card as you like; to change it, use lines.
- */
+/* A card. Read it as you like; to change it, use lines. No call changes its number of cells. */
 typedef struct {
-    trigger_cell cells[TRIGGER_CELLS];
-    trigger_connectors connectors;
-    uint64_t edited;
-    trigger_memory memory;
-    uint8_t pointer;
-    uint8_t trigger;
-    uint8_t size;
-    trigger_tallies tallies;
+    trigger_cell cells[TRIGGER_CELLS];  /* The cells, from cell 1 on. */
+    trigger_connectors connectors;  /* The connectors. */
+    uint64_t edited;  /* The cells that lines have changed since the last tick that ran. */
+    trigger_memory memory;  /* What is remembered of ticks. */
+    uint8_t pointer;  /* The place that lines are for: a cell's number, or 33 to 48. */
+    uint8_t trigger;  /* The code of the clock that it ticks by. */
+    uint8_t size;  /* Its number of cells: 32, and any other number means 16. */
+    trigger_tallies tallies;  /* Which cells woke how often. */
 } trigger_card;
 
-/* What comes in with a tick: the code of its clock, the levels at the connectors (bits 0-7 BNC1-8, 8-15 TTL0-7), and which have something attached. */
+/* What comes in with a tick. */
 typedef struct {
-    uint8_t code;
-    uint16_t sample;
-    uint16_t attached;
+    uint8_t code;  /* The code of its clock. */
+    uint16_t sample;  /* The levels at the connectors: bits 0 to 7 BNC1 to BNC8, bits 8 to 15 TTL0 to TTL7. */
+    uint16_t attached;  /* Which connectors have something attached, in the order of the sample. */
 } trigger_input;
 
 /*
- * What a tick answers: whether it ran; what the card drives at the connectors, in the order of the sample; the outputs of the cells, bit 0 of cell 1;
- * which cells were worked out, and how many. A tick of another clock than the card's does not run, and its words are 0.
+ * What a tick answers. A tick of another clock than the card's does not run, and its words are 0.
  */
 typedef struct {
-    bool ran;
-    uint16_t driven;
-    uint32_t cells;
-    uint32_t woken;
-    uint32_t count;
+    bool ran;  /* Whether the tick ran. */
+    uint16_t driven;  /* What the card drives at the connectors, in the order of the sample. */
+    uint32_t cells;  /* The outputs of the cells, bit 0 of cell 1. */
+    uint32_t woken;  /* The cells that were worked out. */
+    uint32_t count;  /* How many these are. */
 } trigger_answer;
 
 /* The card after a tick, and the answer. */
@@ -219,10 +233,16 @@ typedef struct {
     trigger_answer answer;
 } trigger_ticked;
 
-/* How many ticks for trigger_steady_for to say that they never end, and the most that one call makes. */
+/*
+ * How many ticks for trigger_steady_for to say that they never end, and the most that one call
+ * makes.
+ */
 #define TRIGGER_FOREVER UINT32_C(4294967295)
 
-/* The card after ticks that were made at once, the answer of the last of them, and how many were made. */
+/*
+ * The card after ticks that were made at once, the answer of the last of them, and how many were
+ * made.
+ */
 typedef struct {
     trigger_card card;
     trigger_answer answer;
@@ -254,38 +274,35 @@ typedef struct {
     size_t len;
 } trigger_converted;
 
-/*
- * 0, or 5 for a place that is no connector's; and what depends on the connector: a word of the cells, bit 0 of cell 1, and one of the connectors, in the
- * order of the sample.
- */
+/* What depends on a connector. */
 typedef struct {
-    uint8_t k;
-    uint32_t cells;
-    uint16_t connectors;
+    uint8_t k;  /* 0, or 5 for a place that is no connector's. */
+    uint32_t cells;  /* The cells, bit 0 of cell 1. */
+    uint16_t connectors;  /* The connectors, in the order of the sample. */
 } trigger_surveyed;
 
 /* The most cards of a rack. */
 #define TRIGGER_RACK 4
 
-/* What comes in at the front of one card: the levels at BNC1 to BNC8, and which have something attached. */
+/* What comes in at the front of one card of a rack. */
 typedef struct {
-    uint8_t sample;
-    uint8_t attached;
+    uint8_t sample;  /* The levels at BNC1 to BNC8. */
+    uint8_t attached;  /* Which of them have something attached. */
 } trigger_front;
 
-/*
- * What comes in with a tick of a rack: the code of its clock, the levels at TTL0 to TTL7 and which have something attached, and the fronts, one for each of
- * `count` cards.
- */
+/* What comes in with a tick of a rack. */
 typedef struct {
-    uint8_t code;
-    uint8_t sample;
-    uint8_t attached;
-    uint8_t count;
-    trigger_front fronts[TRIGGER_RACK];
+    uint8_t code;  /* The code of its clock. */
+    uint8_t sample;  /* The levels at TTL0 to TTL7. */
+    uint8_t attached;  /* Which of them have something attached. */
+    uint8_t count;  /* How many fronts there are. */
+    trigger_front fronts[TRIGGER_RACK];  /* The fronts, one for each card. */
 } trigger_rackinput;
 
-/* The number of the refusal, and the answers of the cards; those past the row are idle, and with a refusal all are. */
+/*
+ * The number of the refusal, and the answers of the cards; those past the row are idle, and with a
+ * refusal all are.
+ */
 typedef struct {
     uint8_t k;
     trigger_answer answers[TRIGGER_RACK];
@@ -302,7 +319,8 @@ extern "C" {
 #endif
 
 /*
- * Calls by pointers, on every processor. What each does is said at the call by value of the same name below. A result behind a pointer is written also where
+ * Calls by pointers, on every processor. What each does is said at the call by value of the same
+ * name below. A result that a pointer is given for is written also where
  * the call is refused.
  */
 
@@ -311,7 +329,10 @@ uint32_t trigger_version(void);
 uint32_t trigger_layout(void);
 size_t trigger_card_size(void);
 
-/* A card as it first powers up: of sixteen cells, of thirty-two. The memory may hold anything before. */
+/*
+ * A card as it first powers up: of sixteen cells, of thirty-two. The memory may hold anything
+ * before.
+ */
 void trigger_fresh_at(trigger_card *card);
 void trigger_fresh_large_at(trigger_card *card);
 
@@ -322,13 +343,19 @@ void trigger_quick_tick_at(trigger_card *card, const trigger_input *input, trigg
 /* Whether the clock may stop. */
 bool trigger_at_rest_at(const trigger_card *card, const trigger_input *input);
 
-/* For how many ticks the processor may sleep, and up to k of them at once: how many were made, and the answer of the last. */
+/*
+ * For how many ticks the processor may sleep, and up to k of them at once: how many were made, and
+ * the answer of the last.
+ */
 uint32_t trigger_steady_for_at(const trigger_card *card, const trigger_input *input);
 uint32_t trigger_advance_at(trigger_card *card, const trigger_input *input, uint32_t k, trigger_answer *answer);
 
-/* These give the number of the refusal. `len` is the length of what was written: of the reply, of the wiring, of the converted record. */
-uint8_t trigger_line_at(trigger_card *card, const uint8_t *text, size_t text_len, uint8_t *reply, size_t reply_len, uint8_t *store, size_t store_len,
-                        size_t *len);
+/*
+ * These give the number of the refusal. `len` is the length of what was written: of the reply, of
+ * the wiring, of the converted record.
+ */
+uint8_t trigger_line_at(trigger_card *card, const uint8_t *text, size_t text_len, uint8_t *reply, size_t reply_len,
+                        uint8_t *store, size_t store_len, size_t *len);
 uint8_t trigger_load_at(trigger_card *card, const uint8_t *bytes, size_t bytes_len);
 uint8_t trigger_print_at(const trigger_card *card, uint8_t *buffer, size_t buffer_len, size_t *len);
 uint8_t trigger_convert_at(const uint8_t *bytes, size_t bytes_len, uint8_t *buffer, size_t buffer_len, size_t *len);
@@ -340,16 +367,19 @@ uint8_t trigger_survey_at(const trigger_card *card, uint64_t place, trigger_surv
 void trigger_read_tallies_at(const trigger_card *card, trigger_tallies *tallies);
 
 /*
- * A rack is a row of 1 to TRIGGER_RACK cards of sixteen cells that share one backplane, numbered from 1. The calls on it change each card where it sits in the
- * row. 20 where the row is no rack, where no card has the number, or where the fronts are not one for each card: then nothing is changed, and a line is
- * answered `:N-20` where the reply buffer has TRIGGER_REPLY bytes. 19 where a line or a load would change the type of a front connector and the cards would then
- * draw more than 16, each at least 4 and one for each push-pull front connector. A start takes a row of cards too, as trigger_fresh makes them.
- * trigger_at_rest speaks of ticks outside a rack.
+ * A rack is a row of 1 to TRIGGER_RACK cards of sixteen cells that share one backplane, numbered
+ * from 1. The calls on it change each card where it is in the row. 20 where the row is no rack,
+ * where no card has the number, or where the fronts are not one for each card: then nothing is
+ * changed, and a line is answered `:N-20` where the reply buffer has TRIGGER_REPLY bytes. 19 where
+ * a line or a load would change the type of a front connector and the cards would then draw more
+ * than 16, each at least 4 and one for each push-pull front connector. A start takes a row of cards
+ * too, as trigger_fresh makes them. trigger_at_rest speaks of ticks outside a rack.
  */
 uint8_t rack_start_at(trigger_card *row, size_t row_len);
-uint8_t rack_tick_at(trigger_card *row, size_t row_len, bool full, const trigger_rackinput *input, trigger_rackticked *ticked);
-uint8_t rack_line_at(trigger_card *row, size_t row_len, size_t number, const uint8_t *text, size_t text_len, uint8_t *reply, size_t reply_len,
-                     uint8_t *store, size_t store_len, size_t *len);
+uint8_t rack_tick_at(trigger_card *row, size_t row_len, bool full, const trigger_rackinput *input,
+                     trigger_rackticked *ticked);
+uint8_t rack_line_at(trigger_card *row, size_t row_len, size_t number, const uint8_t *text, size_t text_len,
+                     uint8_t *reply, size_t reply_len, uint8_t *store, size_t store_len, size_t *len);
 uint8_t rack_load_at(trigger_card *row, size_t row_len, size_t number, const uint8_t *bytes, size_t bytes_len);
 
 /* Calls by value, on x86-64: a call takes the card and returns the card after it. */
@@ -366,8 +396,8 @@ trigger_card trigger_fresh_large(void);
 trigger_ticked trigger_full_tick(trigger_card card, trigger_input input);
 
 /*
- * A tick in which only those cells are worked out that the waking rules name. On a card that calls have made, the card after it, the driven word and
- * the cell word are those of a full tick.
+ * A tick in which only those cells are worked out that the waking rules name. On a card that calls
+ * have made, the card after it, the driven word and the cell word are those of a full tick.
  */
 trigger_ticked trigger_quick_tick(trigger_card card, trigger_input input);
 
@@ -376,56 +406,66 @@ trigger_answer trigger_full_tick_in(trigger_card *card, trigger_input input);
 trigger_answer trigger_quick_tick_in(trigger_card *card, trigger_input input);
 
 /*
- * Whether a quick tick with this input would work out no cell and leave the card as it is but for the count of its ticks. Then the clock may stop until something
- * else comes in.
+ * Whether a quick tick with this input would work out no cell and leave the card as it is but for
+ * the count of its ticks. Then the clock may stop until something else comes in.
  */
 bool trigger_at_rest(trigger_card card, trigger_input input);
 
 /*
- * For how many quick ticks with this input nothing changes but the counts of cells, the tallies and the count of ticks, and no count comes to its end: the processor
- * may sleep through so many ticks, with the outputs as they are, unless a line, a load or another input comes. Then it makes the ticks that have passed with
- * trigger_advance and the same input. A card at rest is steady for ever (TRIGGER_FOREVER); a float asks this and not trigger_at_rest, for its tallies and
- * its count of ticks stay true to time, and it sleeps through delays as well.
+ * For how many quick ticks with this input nothing changes but the counts of cells, the tallies and
+ * the count of ticks, and no count comes to its end: the processor may sleep through so many ticks,
+ * with the outputs as they are, unless a line, a load or another input comes. Then it makes the
+ * ticks that have passed with trigger_advance and the same input. A card at rest is steady for ever
+ * (TRIGGER_FOREVER); a float asks this and not trigger_at_rest, for its tallies and its count of
+ * ticks stay true to time, and it sleeps through delays as well.
  */
 uint32_t trigger_steady_for(trigger_card card, trigger_input input);
 
 /*
- * Up to k quick ticks with one input at once: one, and more as long as the card is steady. `made` says how many, at least 1 where k is; card and answer are those
- * that so many quick ticks leave, one after the other. With k = 0 the card is as it was, and the answer that of a tick that did not run.
+ * Up to k quick ticks with one input at once: one, and more as long as the card is steady. `made`
+ * says how many, at least 1 where k is; card and answer are those that so many quick ticks leave,
+ * one after the other. With k = 0 the card is as it was, and the answer that of a tick that did not
+ * run.
  */
 trigger_advanced trigger_advance(trigger_card card, trigger_input input, uint32_t k);
 
 /*
- * One line, without an ending. The reply is written to the front of its buffer, with CR LF: `:A`, `:A n` or `:N-k`. A reply buffer of fewer than
- * TRIGGER_REPLY bytes is refused with 1, and nothing is written. `36SS Z` writes the record to the front of the store and is refused with 1 where the
- * store has no room for it (TRIGGER_RECORD bytes, TRIGGER_LARGE_RECORD of thirty-two cells); other lines leave the store alone.
+ * One line, without an ending. The reply is written to the front of its buffer, with CR LF: `:A`,
+ * `:A n` or `:N-k`. A reply buffer of fewer than TRIGGER_REPLY bytes is refused with 1, and nothing
+ * is written. `36SS Z` writes the record to the front of the store and is refused with 1 where the
+ * store has no room for it (TRIGGER_RECORD bytes, TRIGGER_LARGE_RECORD of thirty-two cells); other
+ * lines leave the store alone.
  */
-trigger_answered trigger_line(trigger_card card, const uint8_t *text, size_t text_len, uint8_t *reply, size_t reply_len, uint8_t *store,
-                              size_t store_len);
+trigger_answered trigger_line(trigger_card card, const uint8_t *text, size_t text_len, uint8_t *reply, size_t reply_len,
+                              uint8_t *store, size_t store_len);
 
 /*
- * The card powers up with the settings in a record and keeps its number of cells. Any bytes may be given: 14 where they are not a record of
- * TRIGGER_RECORD or TRIGGER_OLD_RECORD bytes, or of TRIGGER_LARGE_RECORD for thirty-two cells; 15 where its settings are none that lines can set.
+ * The card powers up with the settings in a record and keeps its number of cells. Any bytes may be
+ * given: 14 where they are not a record of TRIGGER_RECORD or TRIGGER_OLD_RECORD bytes, or of
+ * TRIGGER_LARGE_RECORD for thirty-two cells; 15 where its settings are none that lines can set.
  */
 trigger_loaded trigger_load(trigger_card card, const uint8_t *bytes, size_t bytes_len);
 
 /*
- * The settings as lines, each with LF, to the front of the buffer: given to a fresh card, they set the same wiring. 16 where the buffer has no room
- * for them; it then stays as it was.
+ * The settings as lines, each with LF, to the front of the buffer: given to a fresh card, they set
+ * the same wiring. 16 where the buffer has no room for them; it then stays as it was.
  */
 trigger_printed trigger_print(trigger_card card, uint8_t *buffer, size_t buffer_len);
 
 /*
- * A record in its other form, to the front of the buffer: the old one of a present one, also of thirty-two cells where sixteen can hold it; and of an old
- * one the present one of sixteen. 14 where the length is that of none of them, else 1 where the buffer has no room for the result, else what a load of the
- * record gives, else 17 where the old form has no room for a duration, else 18 where a cell above 16 is set or read. Where it is refused, the buffer
- * stays as it was.
+ * A record in its other form, to the front of the buffer: the old one of a present one, also of
+ * thirty-two cells where sixteen can hold it; and of an old one the present one of sixteen. 14
+ * where the length is that of none of them, else 1 where the buffer has no room for the result,
+ * else what a load of the record gives, else 17 where the old form has no room for a duration, else
+ * 18 where a cell above 16 is set or read. Where it is refused, the buffer stays as it was.
  */
 trigger_converted trigger_convert(const uint8_t *bytes, size_t bytes_len, uint8_t *buffer, size_t buffer_len);
 
 /*
- * What depends on the connector at a place, 33 to 48: what a change of its line can reach, the connector itself included unless it is push-pull. Nothing else
- * can tell whether the line changed. The words are an upper bound: what is in them need not move. Another place gives 5 and zero words.
+ * What depends on the connector at a place, 33 to 48: what a change of its line can reach, the
+ * connector itself included unless it is push-pull. Nothing else can tell whether the line changed.
+ * The words are an upper bound: what is in them need not move. Another place gives 5 and zero
+ * words.
  */
 trigger_surveyed trigger_survey(trigger_card card, uint64_t place);
 
@@ -439,8 +479,8 @@ uint8_t rack_start(trigger_card *row, size_t row_len);
 trigger_rackticked rack_tick(trigger_card *row, size_t row_len, bool full, trigger_rackinput input);
 
 /* A line to the card of a number, as trigger_line. */
-trigger_replied rack_line(trigger_card *row, size_t row_len, size_t number, const uint8_t *text, size_t text_len, uint8_t *reply, size_t reply_len,
-                          uint8_t *store, size_t store_len);
+trigger_replied rack_line(trigger_card *row, size_t row_len, size_t number, const uint8_t *text, size_t text_len,
+                          uint8_t *reply, size_t reply_len, uint8_t *store, size_t store_len);
 
 /* A load to the card of a number, as trigger_load: its number. */
 uint8_t rack_load(trigger_card *row, size_t row_len, size_t number, const uint8_t *bytes, size_t bytes_len);
@@ -451,7 +491,10 @@ uint8_t rack_load(trigger_card *row, size_t row_len, size_t number, const uint8_
 }
 #endif
 
-/* The type of a card's connector, by its number in the order of the sample, below TRIGGER_CONNECTORS. */
+/*
+ * The type of a card's connector, by its number in the order of the sample, below
+ * TRIGGER_CONNECTORS.
+ */
 static inline int trigger_connector_type(const trigger_card *card, unsigned connector)
 {
     if (card->connectors.push_pull >> connector & 1)
@@ -460,29 +503,25 @@ static inline int trigger_connector_type(const trigger_card *card, unsigned conn
 }
 
 /*
- * The layout in one number, made of sizes and offsets as this compiler lays them out. A program asks once at its start, before its first card, whether the
- * library that it was linked with has the version and the layout of this header:
+ * The names, types and offsets of all fields in one number. A program asks once at its start,
+ * before its first card, whether the library that it was linked with has the version and the layout
+ * of this header:
  *
  *     if (!trigger_matches())
  *         stop();
  */
-#define TRIGGER_MIX(sum, n) (((sum)*UINT32_C(16777619)) ^ (uint32_t)(n))
-#define TRIGGER_LAYOUT_CARD \
-    TRIGGER_MIX(TRIGGER_MIX(TRIGGER_MIX(TRIGGER_MIX(UINT32_C(2166136261), sizeof(trigger_card)), offsetof(trigger_card, edited)), \
-                            offsetof(trigger_card, memory)), offsetof(trigger_card, tallies))
-#define TRIGGER_LAYOUT_PARTS \
-    TRIGGER_MIX(TRIGGER_MIX(TRIGGER_MIX(TRIGGER_MIX(TRIGGER_LAYOUT_CARD, sizeof(trigger_cell)), sizeof(trigger_connectors)), sizeof(trigger_memory)), \
-                sizeof(trigger_tallies))
-#define TRIGGER_LAYOUT \
-    TRIGGER_MIX(TRIGGER_MIX(TRIGGER_MIX(TRIGGER_MIX(TRIGGER_MIX(TRIGGER_LAYOUT_PARTS, sizeof(trigger_input)), sizeof(trigger_answer)), \
-                                        sizeof(trigger_surveyed)), sizeof(trigger_rackinput)), sizeof(trigger_rackticked))
+#define TRIGGER_LAYOUT UINT32_C(0x7483ebba)
 
 static inline bool trigger_matches(void)
 {
-    return trigger_version() == TRIGGER_VERSION && trigger_layout() == TRIGGER_LAYOUT && trigger_card_size() == sizeof(trigger_card);
+    return trigger_version() == TRIGGER_VERSION && trigger_layout() == TRIGGER_LAYOUT &&
+           trigger_card_size() == sizeof(trigger_card);
 }
 
-/* The layout of the library, which is one for all processors but for the structs of calls by value that hold a length. */
+/*
+ * The layout of the library, which is one for all processors but for the structs of calls by value
+ * that hold a length.
+ */
 #ifdef __cplusplus
 #define TRIGGER_CHECK(test) static_assert(test, #test)
 #else

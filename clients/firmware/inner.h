@@ -1,27 +1,24 @@
-/* What the functions of the proved modules take and give beside the structs of trigger.h: for at.c and rack_at.c. */
+/* What the functions of the proved modules take beside the structs of trigger.h: for at.c and rack_at.c. */
 #ifndef INNER_H
 #define INNER_H
 
 #include "trigger.h"
 
-/* Bytes, or a row of cards, as a module takes them: a pointer in eight bytes, and a length of eight on every processor. */
+/*
+ * Bytes, or a row of cards, as a module takes them: a pointer in eight bytes, and a length of eight on
+ * every processor.
+ */
 typedef struct {
     const void *start;
     uint64_t len;
 } slice;
 
-/* A result that holds a length, which has eight bytes in a module on every processor. */
-typedef struct {
-    uint8_t k;
-    uint64_t len;
-} length_result;
-
-_Static_assert(offsetof(slice, len) == 8 && offsetof(length_result, len) == 8, "a length stands at 8");
+_Static_assert(offsetof(slice, len) == 8, "a length is at 8");
 
 /* A struct has the size that the module passes. */
 #define SAME(type, size) _Static_assert(sizeof(type) == (size), "trigger.h has another " #type " than the module")
 
-static inline slice lent(const void *start, size_t len)
+static inline slice slice_of(const void *start, size_t len)
 {
     slice s = {start, len};
     return s;

@@ -46,12 +46,13 @@ function modulesOf(from) {
 export function makePage(wasm) {
   const bytes = modulesOf(wasm);
   const hash = crypto.createHash('sha256');
+  const version = fs.readFileSync(path.join(TOP, 'VERSION'), 'utf8').trim();
   Object.values(bytes).forEach((b) => hash.update(b));
   const parts = {
     'page.css': read('page.css'),
     names: named(PROGRAMS.map((p) => p.name)),
     wasm: safeJson(Object.fromEntries(Object.entries(bytes).map(([name, b]) => [name, b.toString('base64')]))),
-    material: safeJson({ ...materialOf(TOP), programs: PROGRAMS, build: hash.digest('hex').slice(0, 12) }),
+    material: safeJson({ ...materialOf(TOP), programs: PROGRAMS, build: `${version}, ${hash.digest('hex').slice(0, 12)}` }),
     worker: safeCode(joined([...ENGINE, 'worker.js'])),
     'page.js': safeCode(joined([...ENGINE, ...PAGE])),
   };

@@ -1,8 +1,13 @@
 //! The trigger card of sixteen or thirty-two cells, as a value.
 //!
-//! A [`Card`] starts [`fresh`](Card::fresh) with sixteen cells, or [with thirty-two](Card::fresh_large), is wired by [lines](Card::line), and ticks [full](Card::full_tick) or [quick](Card::quick_tick). It saves its
-//! wiring as a record (the line `36SS Z`), [loads](Card::load) one, and [prints](Card::print) its wiring as lines. The calls are those of the static
-//! library of crates/trigger, which is proved; they allocate nothing and keep nothing between calls.
+//! A [`Card`] starts [`fresh`](Card::fresh) with sixteen cells, or [with
+//! thirty-two](Card::fresh_large), is wired by [lines](Card::line), and ticks
+//! [full](Card::full_tick) or [quick](Card::quick_tick). It saves its wiring as a record (the line
+//! `36SS Z`), [loads](Card::load) one, and [prints](Card::print) its wiring as lines. The calls are
+//! those of the static library of crates/trigger, which is proved; they allocate nothing and keep
+//! nothing between calls. On x86-64 they pass the card by value, in the library that `rt staticlib`
+//! makes; on every other processor, and on x86-64 with the feature `pointers`, by a pointer, in the
+//! library that `clients/firmware/make` makes.
 //!
 //! ```
 //! let mut card = trigger::Card::fresh();
@@ -16,15 +21,20 @@
 //! ```
 #![no_std]
 #![warn(missing_docs)]
+#![deny(unsafe_code)]
 
+#[allow(unsafe_code)]
+#[rustfmt::skip]
 mod raw;
 
 use core::fmt;
-use core::mem::MaybeUninit;
 use core::num::NonZeroU8;
 use core::str;
 
-pub use raw::{Answer, Cell, Connectors, Front, Input, RackInput, Tallies, CELLS, CONNECTORS, RACK};
+use raw::calls;
+pub use raw::{
+    Answer, Cell, Connectors, Front, Input, RackInput, Tallies, CELLS, CONNECTORS, RACK,
+};
 
 /// The length of a record of sixteen cells: a store needs as many bytes for `36SS Z`.
 pub const RECORD: usize = 308;
@@ -38,7 +48,8 @@ pub const OLD_RECORD: usize = 276;
 /// A buffer of this length has room for the wiring of any card.
 pub const TEXT: usize = 4611;
 
-/// How many ticks [`Card::steady_for`] gives where they never end, and the most that one call makes.
+/// How many ticks [`Card::steady_for`] gives where they never end, and the most that one call
+/// makes.
 pub const FOREVER: u32 = u32::MAX;
 
 // The longest reply, which is also the fewest bytes that the library takes for a reply buffer.
@@ -62,7 +73,8 @@ pub struct Advance {
     pub answer: Answer,
 }
 
-/// The number of a refusal; docs/MANUAL.md says what each means. It displays as plrun prints it, `:N-9`.
+/// The number of a refusal; docs/MANUAL.md says what each means. It displays as plrun prints it,
+/// `:N-9`.
 #[derive(Clone, Copy, Debug, PartialEq, Eq)]
 pub struct Refusal(NonZeroU8);
 
@@ -120,8 +132,9 @@ impl fmt::Display for Reply {
     }
 }
 
-/// As plrun prints it: driven word, cells and woken set in hex and how many woke, or `T -` where the tick did not run. With `{:#}` cells and woken set have
-/// eight digits, for a card of thirty-two cells.
+/// As plrun prints it: driven word, cells and woken set in hex and how many woke, or `T -` where
+/// the tick did not run. With `{:#}` cells and woken set have eight digits, for a card of
+/// thirty-two cells.
 impl fmt::Display for Answer {
     fn fmt(&self, f: &mut fmt::Formatter) -> fmt::Result {
         let Answer {
@@ -133,16 +146,23 @@ impl fmt::Display for Answer {
         } = self;
         if *ran {
             let width = if f.alternate() { 8 } else { 4 };
-            write!(f, "T {driven:04x} {cells:0width$x} {woken:0width$x} {count}")
+            write!(
+                f,
+                "T {driven:04x} {cells:0width$x} {woken:0width$x} {count}"
+            )
         } else {
             f.write_str("T -")
         }
     }
 }
 
+/// A card of a rack: a [`Card`] without the room for an answer that it has after it. The two are
+/// made of each other, to wire or read a card outside its row.
+pub use raw::Card as RackCard;
+
 /// A card.
-// Behind the card is room for the answer of its last full tick: the library writes the two at once, and where it writes them here nothing is copied back. A quick
-// tick is made in place.
+// After the card is room for the answer of its last full tick: the library writes the two at once,
+// and where it writes them here nothing is copied back. A quick tick is made in place.
 #[derive(Clone, Copy)]
 pub struct Card(raw::Ticked);
 
@@ -160,17 +180,16 @@ impl fmt::Debug for Card {
     }
 }
 
-impl Default for Card {
-    fn default() -> Card {
-        Card::fresh()
+impl From<Card> for RackCard {
+    #[inline]
+    fn from(card: Card) -> RackCard {
+        card.0.card
     }
 }
 
-// In each unsafe block below the slices are valid as references are, and those that are written overlap nothing, since they are borrowed mutably. Where a call
-// is given `to`, it writes all of what that points to; a card that is passed by value is copied before that.
-impl Card {
+impl From<RackCard> for Card {
     #[inline]
-    fn with(card: raw::Card) -> Card {
+    fn from(card: RackCard) -> Card {
         let answer = Answer {
             ran: false,
             driven: 0,
@@ -180,114 +199,102 @@ impl Card {
         };
         Card(raw::Ticked { card, answer })
     }
+}
 
+impl Default for Card {
+    fn default() -> Card {
+        Card::fresh()
+    }
+}
+
+impl Card {
     /// A card of sixteen cells as it first powers up.
     #[inline]
     pub fn fresh() -> Card {
-        let mut to = MaybeUninit::uninit();
-        Card::with(unsafe { *raw::trigger_fresh(to.as_mut_ptr()) })
+        calls::fresh().into()
     }
 
     /// A card of thirty-two cells as it first powers up.
     #[inline]
     pub fn fresh_large() -> Card {
-        let mut to = MaybeUninit::uninit();
-        Card::with(unsafe { *raw::trigger_fresh_large(to.as_mut_ptr()) })
+        calls::fresh_large().into()
     }
 
     /// A tick in which every cell is worked out.
     #[inline]
     pub fn full_tick(&mut self, input: Input) -> Answer {
-        let to: *mut raw::Ticked = &mut self.0;
-        unsafe { (*raw::trigger_full_tick(to, (*to).card, input)).answer }
+        calls::full_tick(&mut self.0, input)
     }
 
-    /// A tick in which only those cells are worked out that the waking rules name. The card after it, the driven word and the cell word are
-    /// those of a full tick.
+    /// A tick in which only those cells are worked out that the waking rules name. The card after
+    /// it, the driven word and the cell word are those of a full tick.
     #[inline]
     pub fn quick_tick(&mut self, input: Input) -> Answer {
-        unsafe { raw::trigger_quick_tick_in(&mut self.0.card, input) }
+        calls::quick_tick(&mut self.0.card, input)
     }
 
-    /// Whether a quick tick with this input would work out no cell and leave the card as it is but for the count of its ticks. Then the clock may stop until
-    /// something else comes in.
+    /// Whether a quick tick with this input would work out no cell and leave the card as it is but
+    /// for the count of its ticks. Then the clock may stop until something else comes in.
     #[inline]
     pub fn at_rest(&self, input: Input) -> bool {
-        unsafe { raw::trigger_at_rest(self.0.card, input) }
+        calls::at_rest(&self.0.card, input)
     }
 
-    /// For how many quick ticks with this input nothing changes but the counts of cells, the tallies and the count of ticks, and no count comes to its end: a
-    /// processor may sleep through so many ticks, with the outputs as they are, unless a line, a load or another input comes, and then make those that have
-    /// passed with [`advance`](Card::advance) and the same input. [`FOREVER`] of a card at rest.
+    /// For how many quick ticks with this input nothing changes but the counts of cells, the
+    /// tallies and the count of ticks, and no count comes to its end: a processor may sleep through
+    /// so many ticks, with the outputs as they are, unless a line, a load or another input comes,
+    /// and then make those that have passed with [`advance`](Card::advance) and the same input.
+    /// [`FOREVER`] of a card at rest.
     #[inline]
     pub fn steady_for(&self, input: Input) -> u32 {
-        unsafe { raw::trigger_steady_for(self.0.card, input) }
+        calls::steady_for(&self.0.card, input)
     }
 
-    /// Up to `k` quick ticks with one input at once: one, and more as long as the card is [steady](Card::steady_for). How many were made, at least 1 where `k`
-    /// is, and the answer of the last; card and answer are those that so many quick ticks leave, one after the other.
+    /// Up to `k` quick ticks with one input at once: one, and more as long as the card is
+    /// [steady](Card::steady_for). How many were made, at least 1 where `k` is, and the answer of
+    /// the last; card and answer are those that so many quick ticks leave, one after the other.
     #[inline]
     pub fn advance(&mut self, input: Input, k: u32) -> Advance {
-        let mut to = MaybeUninit::uninit();
-        let advanced = unsafe { &*raw::trigger_advance(to.as_mut_ptr(), self.0.card, input, k) };
-        self.0.card = advanced.card;
-        Advance {
-            made: advanced.made,
-            answer: advanced.answer,
-        }
+        let (answer, made) = calls::advance(&mut self.0.card, input, k);
+        Advance { made, answer }
     }
 
-    /// One line, without an ending. A refused line leaves card and store as they were. `36SS Z` writes the record to the front of the store, and is
-    /// refused with 1 where that has fewer than [`RECORD`] bytes, [`LARGE_RECORD`] of thirty-two cells; other lines do not look at the store, which may be
-    /// empty for them.
+    /// One line, without an ending. A refused line leaves card and store as they were. `36SS Z`
+    /// writes the record to the front of the store, and is refused with 1 where that has fewer than
+    /// [`RECORD`] bytes, [`LARGE_RECORD`] of thirty-two cells; other lines do not look at the
+    /// store, which may be empty for them.
     #[inline]
     pub fn line(&mut self, text: &[u8], store: &mut [u8]) -> Reply {
         let mut buffer = [0; REPLY];
-        let mut to = MaybeUninit::uninit();
-        let answered = unsafe {
-            &*raw::trigger_line(
-                to.as_mut_ptr(),
-                self.0.card,
-                text.as_ptr(),
-                text.len(),
-                buffer.as_mut_ptr(),
-                buffer.len(),
-                store.as_mut_ptr(),
-                store.len(),
-            )
-        };
-        self.0.card = answered.card;
-        Reply {
-            k: answered.k,
-            len: answered.len,
-            buffer,
-        }
+        let (k, len) = calls::line(&mut self.0.card, text, &mut buffer, store);
+        Reply { k, len, buffer }
     }
 
-    /// The card powers up with the settings in a record and keeps its number of cells. Any bytes may be given: 14 where they are not a record of [`RECORD`] or
-    /// [`OLD_RECORD`] bytes, or of [`LARGE_RECORD`] for thirty-two cells, 15 where its settings are none that lines can set; the card is then as it was.
+    /// The card powers up with the settings in a record and keeps its number of cells. Any bytes
+    /// may be given: 14 where they are not a record of [`RECORD`] or [`OLD_RECORD`] bytes, or of
+    /// [`LARGE_RECORD`] for thirty-two cells, 15 where its settings are none that lines can set;
+    /// the card is then as it was.
     #[inline]
     pub fn load(&mut self, record: &[u8]) -> Result<(), Refusal> {
-        let mut to = MaybeUninit::uninit();
-        let loaded = unsafe { &*raw::trigger_load(to.as_mut_ptr(), self.0.card, record.as_ptr(), record.len()) };
-        self.0.card = loaded.card;
-        accepted(loaded.k)
+        accepted(calls::load(&mut self.0.card, record))
     }
 
-    /// The settings as lines, each with LF, written to the front of the buffer: given to a fresh card, they set the same wiring. 16 where the buffer
-    /// has no room for them; it then stays as it was. [`TEXT`] bytes are always enough.
+    /// The settings as lines, each with LF, written to the front of the buffer: given to a fresh
+    /// card, they set the same wiring. 16 where the buffer has no room for them; it then stays as
+    /// it was. [`TEXT`] bytes are always enough.
     #[inline]
     pub fn print<'a>(&self, buffer: &'a mut [u8]) -> Result<&'a str, Refusal> {
-        let printed = unsafe { raw::trigger_print(self.0.card, buffer.as_mut_ptr(), buffer.len()) };
-        accepted(printed.k)?;
-        Ok(str::from_utf8(&buffer[..printed.len]).expect("a wiring is ASCII"))
+        let (k, len) = calls::print(&self.0.card, buffer);
+        accepted(k)?;
+        Ok(str::from_utf8(&buffer[..len]).expect("a wiring is ASCII"))
     }
 
-    /// What depends on the connector at a place, 33 to 48: what a change of its line can reach, the connector itself included unless it is push-pull.
-    /// Nothing else can tell whether the line changed. 5 for another place.
+    /// What depends on the connector at a place, 33 to 48: what a change of its line can reach, the
+    /// connector itself included unless it is push-pull. Nothing else can tell whether the line
+    /// changed. 5 for another place.
     #[inline]
     pub fn survey(&self, place: u64) -> Result<Dependents, Refusal> {
-        let surveyed = unsafe { raw::trigger_survey(self.0.card, place) };
+        let surveyed = calls::survey(&self.0.card, place);
         accepted(surveyed.k)?;
         Ok(Dependents {
             cells: surveyed.cells,
@@ -295,15 +302,20 @@ impl Card {
         })
     }
 
-    /// Which cells cost most: in how many ticks the waking rules named each cell, and how many ticks ran, since the card powered up or was loaded.
+    /// Which cells cost most: in how many ticks the waking rules named each cell, and how many
+    /// ticks ran, since the card powered up or was loaded.
     #[inline]
     pub fn tallies(&self) -> Tallies {
-        unsafe { raw::trigger_read_tallies(self.0.card) }
+        calls::read_tallies(&self.0.card)
     }
 
     /// The cells, from cell 1 on: sixteen or thirty-two.
     pub fn cells(&self) -> &[Cell] {
-        let n = if self.0.card.size as usize == CELLS { CELLS } else { 16 };
+        let n = if self.0.card.size as usize == CELLS {
+            CELLS
+        } else {
+            16
+        };
         &self.0.card.cells[..n]
     }
 
@@ -338,96 +350,48 @@ impl Card {
     }
 }
 
-/// A record in its other form, written to the front of the buffer: the old one of a present one, also of thirty-two cells where sixteen can hold it; and of
-/// an old one the present one of sixteen. 14 where the length is that of none of them, else 1 where the buffer has no room for the result, else what a
-/// [load](Card::load) of the record gives, else 17 where the old form has no room for a duration, else 18 where a cell above 16 is set or read. Where it is
-/// refused, the buffer stays as it was.
+/// A record in its other form, written to the front of the buffer: the old one of a present one,
+/// also of thirty-two cells where sixteen can hold it; and of an old one the present one of
+/// sixteen. 14 where the length is that of none of them, else 1 where the buffer has no room for
+/// the result, else what a [load](Card::load) of the record gives, else 17 where the old form has
+/// no room for a duration, else 18 where a cell above 16 is set or read. Where it is refused, the
+/// buffer stays as it was.
 #[inline]
 pub fn convert<'a>(record: &[u8], buffer: &'a mut [u8]) -> Result<&'a [u8], Refusal> {
-    // The slices are valid as references are, and the borrowed buffer overlaps nothing.
-    let converted = unsafe {
-        raw::trigger_convert(
-            record.as_ptr(),
-            record.len(),
-            buffer.as_mut_ptr(),
-            buffer.len(),
-        )
-    };
-    accepted(converted.k)?;
-    Ok(&buffer[..converted.len])
+    let (k, len) = calls::convert(record, buffer);
+    accepted(k)?;
+    Ok(&buffer[..len])
 }
 
-/// A card of a rack: a [`Card`] without the room for an answer that it has behind it. The two are made of each other, to wire or read a card outside its row.
-// The library takes a row of cards that lie side by side.
-#[repr(transparent)]
-#[derive(Clone, Copy, Debug, PartialEq, Eq)]
-pub struct RackCard(raw::Card);
-
-impl From<Card> for RackCard {
-    #[inline]
-    fn from(card: Card) -> RackCard {
-        RackCard(card.0.card)
-    }
-}
-
-impl From<RackCard> for Card {
-    #[inline]
-    fn from(card: RackCard) -> Card {
-        Card::with(card.0)
-    }
-}
-
-/// A row of 1 to [`RACK`] cards of sixteen cells that share one backplane, numbered from 1, each changed where it sits. A call is refused with 20, and changes
-/// nothing, where the row is no such rack, no card has the number, or the fronts are not one for each card; a line and a load with 19 where the type of a front
-/// connector would change and the cards would then draw more than 16. [`Card::at_rest`] speaks of ticks outside a rack.
+/// A row of 1 to [`RACK`] cards of sixteen cells that share one backplane, numbered from 1, each
+/// changed where it is. A call is refused with 20, and changes nothing, where the row is no such
+/// rack, no card has the number, or the fronts are not one for each card; a line and a load with 19
+/// where the type of a front connector would change and the cards would then draw more than 16.
+/// [`Card::at_rest`] speaks of ticks outside a rack.
 pub struct Rack<'a>(pub &'a mut [RackCard]);
 
-// A card of a rack is what the library has for a card, so the row is a row of these; it overlaps nothing, since it is borrowed mutably.
 impl Rack<'_> {
-    fn row(&mut self) -> (*mut raw::Card, usize) {
-        (self.0.as_mut_ptr().cast(), self.0.len())
-    }
-
     /// Every card fresh, but with all connectors as inputs.
     pub fn start(&mut self) -> Result<(), Refusal> {
-        let (row, len) = self.row();
-        accepted(unsafe { raw::rack_start(row, len) })
+        accepted(calls::rack_start(self.0))
     }
 
-    /// A tick of all cards: all drive, then all sample, then all work out their cells. The answers of those past the row are idle.
+    /// A tick of all cards: all drive, then all sample, then all work out their cells. The answers
+    /// of those past the row are idle.
     pub fn tick(&mut self, full: bool, input: RackInput) -> Result<[Answer; RACK], Refusal> {
-        let (row, len) = self.row();
-        let ticked = unsafe { raw::rack_tick(row, len, full, input) };
+        let ticked = calls::rack_tick(self.0, full, input);
         accepted(ticked.k).map(|()| ticked.answers)
     }
 
     /// A line to the card of a number, as [`Card::line`].
     pub fn line(&mut self, number: usize, text: &[u8], store: &mut [u8]) -> Reply {
-        let (row, len) = self.row();
         let mut buffer = [0; REPLY];
-        let replied = unsafe {
-            raw::rack_line(
-                row,
-                len,
-                number,
-                text.as_ptr(),
-                text.len(),
-                buffer.as_mut_ptr(),
-                buffer.len(),
-                store.as_mut_ptr(),
-                store.len(),
-            )
-        };
-        Reply {
-            k: replied.k,
-            len: replied.len,
-            buffer,
-        }
+        let (k, len) = calls::rack_line(self.0, number, text, &mut buffer, store);
+        Reply { k, len, buffer }
     }
 
     /// A load to the card of a number, as [`Card::load`].
     pub fn load(&mut self, number: usize, record: &[u8]) -> Result<(), Refusal> {
-        let (row, len) = self.row();
-        accepted(unsafe { raw::rack_load(row, len, number, record.as_ptr(), record.len()) })
+        accepted(calls::rack_load(self.0, number, record))
     }
 }

@@ -173,6 +173,7 @@ fn session(seed: u32) -> u32 {
     let mut random = Random(seed);
     let (mut card, mut store) = (Card::fresh(), [0; RECORD]);
     let (mut input, mut answers, mut accepted) = (String::new(), String::new(), 0);
+    let mut unrefused = String::new();
     for _ in 0..STEPS {
         let (asked, answer) = match step(&mut random) {
             Step::Line(text) => {
@@ -198,11 +199,15 @@ fn session(seed: u32) -> u32 {
             }
         };
         accepted += u32::from(!answer.starts_with(":N") && answer != "T -");
+        if !answer.starts_with(":N") {
+            unrefused += &format!("{asked}\n");
+        }
         input += &(asked + "\n");
         answers += &(answer + "\n");
     }
     compare(&input, &answers);
-    assert_eq!(card.print(&mut [0; TEXT]), Ok(&*run("plprint", &input)));
+    // a refused line leaves the wiring as it was, and plprint need not take it
+    assert_eq!(card.print(&mut [0; TEXT]), Ok(&*run("plprint", &unrefused)));
     accepted
 }
 

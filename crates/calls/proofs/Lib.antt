@@ -1,5 +1,5 @@
 -- The theorems over lists of calls.
-pub mod Honest
+pub mod MemoryIsHistory
 pub mod Lists
 pub mod Reached
 pub mod Rest

@@ -23,20 +23,20 @@ module _ {S C : Type 0} (step : S → C → S) where
   invariant Inv keeps s (call ∷ calls) h = invariant Inv keeps (step s call) calls (keeps s call h)
 
   -- where the state says of something what each call makes of it, it says what the list has made of it
-  pub honest : {A : Type 0} (of : S → A) (next : S → C → A → A) → ((s : S) (call : C) → of (step s call) ≡ next s call (of s))
+  pub tracked : {A : Type 0} (of : S → A) (next : S → C → A → A) → ((s : S) (call : C) → of (step s call) ≡ next s call (of s))
       → (s : S) (calls : List C) → of (endOf step s calls) ≡ since step next s calls (of s)
   unfolding endOf since
-  honest of next says s [] = refl
-  honest of next says s (call ∷ calls) = honest of next says (step s call) calls ∙ ap (since step next (step s call) calls) (says s call)
+  tracked of next says s [] = refl
+  tracked of next says s (call ∷ calls) = tracked of next says (step s call) calls ∙ ap (since step next (step s call) calls) (says s call)
 
   -- the same where it does so in every state that an invariant holds of
-  pub honest-under : {A : Type 0} (Inv : S → Type 0) → ((s : S) (call : C) → Inv s → Inv (step s call)) → (of : S → A) (next : S → C → A → A)
+  pub tracked-under : {A : Type 0} (Inv : S → Type 0) → ((s : S) (call : C) → Inv s → Inv (step s call)) → (of : S → A) (next : S → C → A → A)
       → ((s : S) (call : C) → Inv s → of (step s call) ≡ next s call (of s))
       → (s : S) (calls : List C) → Inv s → of (endOf step s calls) ≡ since step next s calls (of s)
   unfolding endOf since
-  honest-under Inv keeps of next says s [] h = refl
-  honest-under Inv keeps of next says s (call ∷ calls) h =
-      honest-under Inv keeps of next says (step s call) calls (keeps s call h) ∙ ap (since step next (step s call) calls) (says s call h)
+  tracked-under Inv keeps of next says s [] h = refl
+  tracked-under Inv keeps of next says s (call ∷ calls) h =
+      tracked-under Inv keeps of next says (step s call) calls (keeps s call h) ∙ ap (since step next (step s call) calls) (says s call h)
 
   -- where calls that are the same do the same and answer alike, in every state that the invariant holds of, so do lists of them
   module _ {R : Type 0} (reply : S → C → R) (Same : C → C → Type 0) (Alike : R → R → Type 0) (Inv : S → Type 0)

@@ -98,7 +98,7 @@ store-is n c text reply store ok s =
 -- ---- the theorem
 
 parses : (n : ℕ) → parse n (bytesOf "36SS Z") ≡ Here Save
-unfolding bytesOf isDigit isWord isWhole cardForm plainForm addressed parse
+unfolding isDigit isWord isWhole cardForm plainForm addressed parse
 parses n = refl
 
 line-saves : (n : ℕ) (c : Card) (reply store : ℕ) → shortestReply ≤ reply → wholeRecord n ≤ store → Saves n c (bytesOf "36SS Z") reply store

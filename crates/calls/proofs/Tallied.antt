@@ -20,7 +20,7 @@ use Rattle.card.specs.Tally.{ticks, standstill, noTallies, tallyOf, talliedBy}
 use Rattle.card.proofs.TallyLaws.{tallied-total, tallied-at, tallied-off, counted-below}
 use Rattle.ticks.specs.declared.connectors.Lines.{Lines}
 use Rattle.ticks.specs.Tick
-use Rattle.ticks.specs.Exact.{dueAt, namedOn}
+use Rattle.ticks.specs.Exact.{dueAt, cellNamed}
 use Rattle.ticks.specs.Rest.{totalOf}
 use Rattle.ticks.proofs.Cases.{by-tick-on}
 use Rattle.ticks.proofs.Exact.{works-exactly}
@@ -30,10 +30,10 @@ use Rattle.calls.specs.Runs.{since}
 use Rattle.calls.specs.Calls.{Call, afterCall, end}
 use Rattle.calls.specs.Calls.Call.{line, load, tick}
 use Rattle.calls.specs.History.{Readings}
-use Rattle.calls.specs.Tallies.{sumOf, Summed, nothing, PerTick, namedIn, sumNext, summed, Tallied, EveryListTallied, WhoIsNamed, GrowsAsAnswered}
-use Rattle.calls.proofs.Honest.{edited-from-fresh, read-from-fresh}
+use Rattle.calls.specs.Tallies.{sumOf, Summed, nothing, PerTick, sumNext, summed, Tallied, EveryListTallied, WhoIsNamed, GrowsAsAnswered}
+use Rattle.calls.proofs.MemoryIsHistory.{edited-from-fresh, read-from-fresh}
 use Rattle.calls.proofs.Lists.{line-edit}
-use Rattle.calls.proofs.Runs.{invariant, honest-under}
+use Rattle.calls.proofs.Runs.{invariant, tracked-under}
 
 -- ---- sums
 
@@ -105,7 +105,7 @@ module _ (n : ℕ) where
   tallyNext : Card → Call → Tallies → Tallies
   tallyNext c (line text reply store) t = t
   tallyNext c (load bytes) t = cond (eqb (loadNumber n bytes) 0) noTallies t
-  tallyNext c (tick full code on) t = cond (Tick.tickOn n full c code (on c) .answer .ran) (talliedBy n (namedIn n full c (on c)) t) t
+  tallyNext c (tick full code on) t = cond (Tick.tickOn n full c code (on c) .answer .ran) (talliedBy n (cellNamed n full c (on c .levels)) t) t
 
   call-tallies : (c : Card) (call : Call) → afterCall n c call .tallies ≡ tallyNext c call (c .tallies)
   unfolding afterCall tallyNext
@@ -116,7 +116,7 @@ module _ (n : ℕ) where
       go true d e = e
       go false d e = refl
   call-tallies c (tick full code on) =
-      by-tick-on n full c code (on c) (λ t. t .card .tallies ≡ cond (t .answer .ran) (talliedBy n (namedIn n full c (on c)) (c .tallies)) (c .tallies))
+      by-tick-on n full c code (on c) (λ t. t .card .tallies ≡ cond (t .answer .ran) (talliedBy n (cellNamed n full c (on c .levels)) (c .tallies)) (c .tallies))
       (λ e.
       let own = eqb-true code (c .trigger) e in
       ap (λ (b : Bool). cond b (Tick.tickedOn n full c (on c)) (Tick.idle c) .card .tallies) (sym e)
@@ -133,12 +133,12 @@ module _ (n : ℕ) where
       go : (call : Call) → Good n (tallyNext c call (c .tallies))
       go (line text reply store) = good
       go (load bytes) = either (eqb (loadNumber n bytes) 0) noTallies (none-good n)
-      go (tick full code on) = either (Tick.tickOn n full c code (on c) .answer .ran) _ (good-next n (namedIn n full c (on c)) (c .tallies) good)
+      go (tick full code on) = either (Tick.tickOn n full c code (on c) .answer .ran) _ (good-next n (cellNamed n full c (on c .levels)) (c .tallies) good)
 
   -- something that is read off the tallies: nothing without a tick, and each tick below the standstill adds to it
   module _ (f : Tallies → ℕ) (more : PerTick) (none : f noTallies ≡ 0)
       (adds : (full : Bool) (c : Card) (l : Lines) → Good n (c .tallies) → ltb (totalOf c) standstill ≡ true
-      → f (talliedBy n (namedIn n full c l) (c .tallies)) ≡ f (c .tallies) + more full c l) where
+      → f (talliedBy n (cellNamed n full c (l .levels)) (c .tallies)) ≡ f (c .tallies) + more full c l) where
     told : Tallies → Summed
     told t = record { ran = t .total .0; sum = f t }
 
@@ -151,11 +151,11 @@ module _ (n : ℕ) where
         loads false = refl
 
         runs : (full : Bool) (l : Lines) (q b : Bool) → ltb (totalOf c) standstill ≡ b
-            → told (cond q (talliedBy n (namedIn n full c l) (c .tallies)) (c .tallies))
+            → told (cond q (talliedBy n (cellNamed n full c (l .levels)) (c .tallies)) (c .tallies))
             ≡ cond (q && ltb (totalOf c) standstill) (record { ran = totalOf c + 1; sum = f (c .tallies) + more full c l }) (told (c .tallies))
         runs full l true true e =
-            (λ k. record { ran = total-on n (namedIn n full c l) (c .tallies) good e k; sum = adds full c l good e k }) ∙ rw e
-        runs full l true false e = ap told (tallied-off n (namedIn n full c l) (c .tallies) e) ∙ rw e
+            (λ k. record { ran = total-on n (cellNamed n full c (l .levels)) (c .tallies) good e k; sum = adds full c l good e k }) ∙ rw e
+        runs full l true false e = ap told (tallied-off n (cellNamed n full c (l .levels)) (c .tallies) e) ∙ rw e
         runs full l false b e = refl
 
         go : (call : Call) → told (tallyNext c call (c .tallies)) ≡ sumNext n more c call (told (c .tallies))
@@ -166,7 +166,7 @@ module _ (n : ℕ) where
     list-summed : (calls : List Call) → f (end n (freshOf n) calls .tallies) ≡ summed n more calls
     unfolding told
     list-summed calls =
-        let all = honest-under (afterCall n) (λ c. Good n (c .tallies)) call-good (λ c. told (c .tallies)) (sumNext n more) call-summed
+        let all = tracked-under (afterCall n) (λ c. Good n (c .tallies)) call-good (λ c. told (c .tallies)) (sumNext n more) call-summed
         (freshOf n) calls (none-good n) in
         let from : Summed → ℕ = λ s. since (afterCall n) (sumNext n more) (freshOf n) calls s .sum in
         ap (λ (s : Summed). s .sum) all ∙ ap from (λ k. record { ran = 0; sum = none k })
@@ -177,12 +177,12 @@ module _ (n : ℕ) where
   unfolding EveryListTallied
   every-list-tallied calls =
       record {
-        ran = list-summed (λ t. t .total .0) _ refl (λ full c l good e. total-on n (namedIn n full c l) (c .tallies) good e) calls;
+        ran = list-summed (λ t. t .total .0) _ refl (λ full c l good e. total-on n (cellNamed n full c (l .levels)) (c .tallies) good e) calls;
         times = λ i h. list-summed (λ t. tallyOf t i) _ (none-at i)
-            (λ full c l good e. grows n (namedIn n full c l) (c .tallies) good e i h) calls;
+            (λ full c l good e. grows n (cellNamed n full c (l .levels)) (c .tallies) good e i h) calls;
         sums = list-summed (λ t. sumOf (tallyOf t) n) _ (sum-same (tallyOf noTallies) (λ i. 0) n (λ i h. none-at i) ∙ sum-zero n)
-            (λ full c l good e. sum-same _ _ n (λ i h. grows n (namedIn n full c l) (c .tallies) good e i h)
-            ∙ sum-adds (tallyOf (c .tallies)) (namedIn n full c l) n) calls;
+            (λ full c l good e. sum-same _ _ n (λ i h. grows n (cellNamed n full c (l .levels)) (c .tallies) good e i h)
+            ∙ sum-adds (tallyOf (c .tallies)) (cellNamed n full c (l .levels)) n) calls;
         most = invariant (afterCall n) (λ c. Good n (c .tallies)) call-good (freshOf n) calls (none-good n) .1;
       }
 
@@ -199,7 +199,7 @@ module _ (n : ℕ) where
   unfolding GrowsAsAnswered
   grows-as-answered c code l i h own below room =
       let exact = works-exactly n .own-on false c code l own in
-      let named = namedIn n false c l in
+      let named = cellNamed n false c (l .levels) in
       ap (λ (t : Tallies). tallyOf t i) (exact .tallies)
       ∙ tallied-at n named (c .tallies) i h (lt-ltb (totalOf c) standstill below)
       ∙ counted-below (named i) (getD (c .tallies .cells) i (ticks 0)) room

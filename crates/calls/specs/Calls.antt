@@ -1,6 +1,7 @@
--- Document 01, "Lists of calls": calls of any kind in any order, each on the card that the one before it returned, over the number n of cells. Built from
--- the definitions that the contracts of `line`, `load`, `full_tick` and `quick_tick` cite. A tick has any lines: those of a card by itself are its own, and those
--- of a card in a rack come from all cards of the row.
+-- Document 01, "Lists of calls": calls of any kind in any order, each on the card that the one
+-- before it returned, over the number n of cells. Built from the definitions that the contracts of
+-- `line`, `load`, `full_tick` and `quick_tick` cite. A tick has any lines: those of a card by
+-- itself are its own, and those of a card in a rack come from all cards of the row.
 use Prim.Native.Nat.{ℕ}
 use mathlib.Core.Bool.{Bool, _&&_, cond}
 use mathlib.Core.List.{List, []}
@@ -16,7 +17,8 @@ use Rattle.lines.specs.Line
 use Rattle.lines.specs.Line.{lineOutcome}
 use Rattle.calls.specs.Runs.{endOf, answersOf}
 
--- a line with its text and the two buffers as lent, a load of any bytes, a tick of either kind with its clock code and the lines that it has on a card
+-- a line with its text and the two buffers as lent, a load of any bytes, a tick of either kind with
+-- its clock code and the lines that it has on a card
 pub data Call : Type 0 where
   line : (text reply store : List ℕ) → Call
   load : (bytes : List ℕ) → Call
@@ -26,8 +28,8 @@ pub data Call : Type 0 where
 abbrev pub ownTick : ℕ → Bool → Input → Call
 ownTick n full input = Call.tick full (input .code) (λ c. lines n c input)
 
--- what each call answers: of a line its number, the reply (with its length) and the bytes that it saved; of a load its number; of a tick its
--- answer
+-- what each call answers: of a line its number, the reply (with its length) and the bytes that it
+-- saved; of a load its number; of a tick its answer
 pub data Reply : Type 0 where
   lineReply : (k : ℕ) (reply saved : List ℕ) → Reply
   loadReply : (k : ℕ) → Reply

@@ -1,6 +1,7 @@
--- Document 01, "Lists of calls": ""Who wakes" goes by the calls made since the last tick that ran, or since the start, and by what that tick
--- read." What a list of calls has edited, what its last tick read and what its last ticks were, said of the calls and not of the card's own
--- fields; and who wakes behind it.
+-- Document 01, "Lists of calls": ""Who wakes" goes by the calls made since the last tick that ran,
+-- or since the start, and by what that tick read." What a list of calls has edited, what its last
+-- tick read and what its last ticks were, said of the calls and not of the card's own fields; and
+-- who wakes behind it.
 use Prim.Native.Nat.{ℕ, _<_}
 use mathlib.Core.Path.{_≡_}
 use mathlib.Core.Bool.{Bool, true, false, _||_, cond}
@@ -35,8 +36,9 @@ lowReadings = slotsRead (λ b. false) (λ b. false)
 module _ (n : ℕ) where
   -- ---- which cells are edited
 
-  -- whether cell i is edited after a call, given whether it was before: a line edits what its change edits, and a refused one changes nothing; a
-  -- tick that ran clears the edits, an accepted load sets them all
+  -- whether cell i is edited after a call, given whether it was before: a line edits what its
+  -- change edits, and a refused one changes nothing; a tick that ran clears the edits, an accepted
+  -- load sets them all
   unfoldable pub editedNext : Card → Call → ℕ → Bool → Bool
   editedNext c (line text reply store) i was =
       was || editsCell n c (lineChange n c text (length reply) (length store)) i
@@ -49,7 +51,8 @@ module _ (n : ℕ) where
 
   -- ---- what the last tick that ran read
 
-  -- after a call: a tick that ran is the last that read; an accepted load starts anew; nothing else counts
+  -- after a call: a tick that ran is the last that read; an accepted load starts anew; nothing else
+  -- counts
   unfoldable pub readNext : Card → Call → ℕ → Readings → Readings
   readNext c (line text reply store) i was = was
   readNext c (load bytes) i was = cond (eqb (loadNumber n bytes) 0) lowReadings was
@@ -61,8 +64,10 @@ module _ (n : ℕ) where
 
   -- ---- "Who wakes", said of a list
 
-  -- of a card that a list of calls has left: the set that a quick tick on the card's own clock answers, whatever its lines, has a cell exactly where the rules
-  -- hold of the calls since the last tick that ran, or since the start, of what the cell's slots read now, and of what they read in that tick
+  -- of a card that a list of calls has left: the set that a quick tick on the card's own clock
+  -- answers, whatever its lines, has a cell exactly where the rules hold of the calls since the
+  -- last tick that ran, or since the start, of what the cell's slots read now, and of what they
+  -- read in that tick
   abbrev pub Wakes : Card → List Call → Type 0
   Wakes c calls = (code : ℕ) (l : Lines) (i : ℕ) → i < n
       → let cell = getD (c .cells) i noCell in
@@ -77,7 +82,8 @@ module _ (n : ℕ) where
 
   -- ---- what the last ticks were
 
-  -- a tick that ran comes before the earlier ones; an accepted load starts anew; nothing else counts
+  -- a tick that ran comes before the earlier ones; an accepted load starts anew; nothing else
+  -- counts
   unfoldable pub lastNext : Card → Call → Memory → Memory
   lastNext c (line text reply store) was = was
   lastNext c (load bytes) was = cond (eqb (loadNumber n bytes) 0) noMemory was
@@ -86,6 +92,7 @@ module _ (n : ℕ) where
       let a = tickOn n full c code l .answer in
       cond (a .ran) (moved (trimmed n was) (record { driven = a .driven; pulled = l .pulled; levels = l .levels }) (a .cells)) was
 
-  -- the cell words of the last three ticks that ran, the levels of the last two, and of the last the driven word and what it pulled low
+  -- the cell words of the last three ticks that ran, the levels of the last two, and of the last
+  -- the driven word and what it pulled low
   abbrev pub lastSince : Card → List Call → Memory → Memory
   lastSince = since (afterCall n) lastNext

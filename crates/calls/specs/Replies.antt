@@ -1,5 +1,6 @@
--- Document 01, "Lines": one session of a card of sixteen cells, and a short one of thirty-two, with the whole text of every reply, by computation. What the
--- contracts say of a reply they say of a definition; here the texts stand as the documents have them.
+-- Document 01, "Lines": one session of a card of sixteen cells, and a short one of thirty-two, with
+-- the whole text of every reply, by computation. What the contracts say of a reply they say of a
+-- definition; here the texts stand as the documents have them.
 use Prim.Native.Nat.{ℕ}
 use Prim.Native.String.{String}
 use mathlib.Core.Path.{_≡_, refl}
@@ -24,7 +25,8 @@ use Rattle.card.specs.Change.{changed}
 use Rattle.card.specs.Fresh.{fresh, freshOf}
 use Rattle.card.specs.Presets.{presetTable, settingOf, offered}
 use Rattle.card.specs.Valid.{permittedBase, badPlace, badCellType, badConnectorType, badClock, badConfig, unusedSlot, badAddress, noConfig, badStateAs}
-use Rattle.card.specs.Valid.{badState, noState, frontDriven, validSlot, validSlots, validCell, validConnector, every, valid}
+use Rattle.text.specs.Digits.{every}
+use Rattle.card.specs.Valid.{badState, noState, frontDriven, validSlot, validSlots, validCell, validConnector, valid}
 use Rattle.ticks.specs.Reading.{levelAt, readsLevels, reads, slotsRead, mixed, view}
 use Rattle.ticks.specs.Levels.{effectiveSample, drivenWord, levelsFrom, linesOf}
 use Rattle.ticks.specs.Tick.{readNow, readLast, named, turnAt, outputsBelow, turned, tick}
@@ -59,8 +61,9 @@ tickOf sample = Calls.ownTick cellCount false (record { code = 3; sample = sampl
 
 -- ---- sixteen cells
 
--- the record of the session's settings: trigger 3, cell 1 constant 1, cell 2 a D-flop of 192 with its clock at the rise of TTL1, cell 5 a delay of 1000;
--- BNC1 an input, BNC3 open-drain from the inverse of cell 2
+-- the record of the session's settings: trigger 3, cell 1 constant 1, cell 2 a D-flop of 192 with
+-- its clock at the rise of TTL1, cell 5 a delay of 1000; BNC1 an input, BNC3 open-drain from the
+-- inverse of cell 2
 constants : ℕ → List ℕ
 constants i = 2 ∷ 0 ∷ 10 ∷ i ∷ replicate 9 0
 
@@ -125,7 +128,8 @@ session =
     ∷ small "36CCA Z?" ":A 66\r\n"
     ∷ (lineWith 308 "36CCA F?", refused 6 ":N-6\r\n")
     ∷ small "36RDADC X?" ":A 0\r\n"
-    -- a tick: BNC3 driven, BNC1 and BNC3 high, TTL1 and TTL4 high, cells 1 and 2 high; cells 1, 2 and 5 were edited
+    -- a tick: BNC3 driven, BNC1 and BNC3 high, TTL1 and TTL4 high, cells 1 and 2 high; cells 1, 2
+    -- and 5 were edited
     ∷ (tickOf 0x1205, tickReply (record { ran = true; driven = 0x0004; cells = 0x0003; woken = 0x0013; count = 3 }))
     ∷ small "36RDADC X?" ":A 5\r\n"
     ∷ small "36RDADC Y?" ":A 18\r\n"
@@ -173,10 +177,10 @@ largeSession =
     ∷ []
 
 replies : answers cellCount fresh (map (λ (e : Call × Reply). e .0) session) ≡ map (λ (e : Call × Reply). e .1) session
-unfolding lineWith said refused tickOf constants pushed inputs bytes bytesOf ones onesIn withBit wordOf bitAt listed valueBy isDigit digitsOf leads plain numberIn numberAt decimalFrom decimal rowOf slotsOf taken raised workAs workOut stirredAs stirred disagree wakes levelAt readsLevels reads slotsRead mixed view effectiveSample linesOf move setTrigger home currentCell currentConnector putCell putConnectors typed setType configuredState configured setConfig statedAs stated setState wired setSlots setConnectorType setSource configShown stateAs fresh presetTable settingOf offered readNow readLast named turnAt outputsBelow turned tick permittedBase badPlace badCellType badConnectorType badClock badConfig unusedSlot badAddress noConfig badStateAs badState noState frontDriven validSlot validSlots validCell validConnector every valid bigEndian cellField connectorField fieldsFrom encode bigValue cellIn connectorIn normalCell recordOf sameBytes loadNumberAs loadedAs loadNumber loaded isWord isWhole toEnd slotOf gave give pairRead pairsOf writeOf ccaWrite ccaRead ccaForm slotForm ccbForm readOf readForm cardForm plainForm addressed parse alone refusal slotIndex changed changeFor responseTo decision decisionFor lineDecision lineOutcome replyOf Line.lineReply savedBytes afterCall answer answersOf kindAt sourceAt withKind withSource each fromEach wellFormed drivenWord levelsFrom
+unfolding lineWith said refused tickOf constants pushed inputs bytes ones onesIn withBit wordOf bitAt listed valueBy isDigit digitsOf leads plain numberIn numberAt decimalFrom decimal rowOf slotsOf taken raised workAs workOut stirredAs stirred disagree wakes levelAt readsLevels reads slotsRead mixed view effectiveSample linesOf move setTrigger home currentCell currentConnector putCell putConnectors typed setType configuredState configured setConfig statedAs stated setState wired setSlots setConnectorType setSource configShown stateAs fresh presetTable settingOf offered readNow readLast named turnAt outputsBelow turned tick permittedBase badPlace badCellType badConnectorType badClock badConfig unusedSlot badAddress noConfig badStateAs badState noState frontDriven validSlot validSlots validCell validConnector every valid bigEndian cellField connectorField fieldsFrom encode bigValue cellIn connectorIn normalCell recordOf sameBytes loadNumberAs loadedAs loadNumber loaded isWord isWhole toEnd slotOf gave give pairRead pairsOf writeOf ccaWrite ccaRead ccaForm slotForm ccbForm readOf readForm cardForm plainForm addressed parse alone refusal slotIndex changed changeFor responseTo decision decisionFor lineDecision lineOutcome replyOf Line.lineReply savedBytes afterCall answer answersOf kindAt sourceAt withKind withSource each fromEach wellFormed drivenWord levelsFrom
 replies = refl
 
 -- the number of ones is left as it is written: counted out, it takes as many steps as the word says
 large-replies : answers cellRoom (freshOf cellRoom) (map (λ (e : Call × Reply). e .0) largeSession) ≡ map (λ (e : Call × Reply). e .1) largeSession
-unfolding lineWith said refused bytesOf withBit wordOf bitAt listed valueBy isDigit digitsOf leads plain numberIn numberAt decimalFrom decimal rowOf slotsOf taken raised workAs workOut stirredAs stirred disagree wakes levelAt readsLevels reads slotsRead mixed view effectiveSample linesOf move setTrigger home currentCell currentConnector putCell putConnectors typed setType configuredState configured setConfig statedAs stated setState wired setSlots setConnectorType setSource configShown stateAs fresh presetTable settingOf offered readNow readLast named turnAt outputsBelow turned tick permittedBase badPlace badCellType badConnectorType badClock badConfig unusedSlot badAddress noConfig badStateAs badState noState frontDriven validSlot validSlots validCell validConnector every valid bigEndian cellField connectorField fieldsFrom encode bigValue cellIn connectorIn normalCell recordOf sameBytes loadNumberAs loadedAs loadNumber loaded isWord isWhole toEnd slotOf gave give pairRead pairsOf writeOf ccaWrite ccaRead ccaForm slotForm ccbForm readOf readForm cardForm plainForm addressed parse alone refusal slotIndex changed changeFor responseTo decision decisionFor lineDecision lineOutcome replyOf Line.lineReply savedBytes afterCall answer answersOf kindAt sourceAt withKind withSource each fromEach wellFormed drivenWord levelsFrom
+unfolding lineWith said refused withBit wordOf bitAt listed valueBy isDigit digitsOf leads plain numberIn numberAt decimalFrom decimal rowOf slotsOf taken raised workAs workOut stirredAs stirred disagree wakes levelAt readsLevels reads slotsRead mixed view effectiveSample linesOf move setTrigger home currentCell currentConnector putCell putConnectors typed setType configuredState configured setConfig statedAs stated setState wired setSlots setConnectorType setSource configShown stateAs fresh presetTable settingOf offered readNow readLast named turnAt outputsBelow turned tick permittedBase badPlace badCellType badConnectorType badClock badConfig unusedSlot badAddress noConfig badStateAs badState noState frontDriven validSlot validSlots validCell validConnector every valid bigEndian cellField connectorField fieldsFrom encode bigValue cellIn connectorIn normalCell recordOf sameBytes loadNumberAs loadedAs loadNumber loaded isWord isWhole toEnd slotOf gave give pairRead pairsOf writeOf ccaWrite ccaRead ccaForm slotForm ccbForm readOf readForm cardForm plainForm addressed parse alone refusal slotIndex changed changeFor responseTo decision decisionFor lineDecision lineOutcome replyOf Line.lineReply savedBytes afterCall answer answersOf kindAt sourceAt withKind withSource each fromEach wellFormed drivenWord levelsFrom
 large-replies = refl

@@ -1,5 +1,6 @@
--- Document 01's last box: "Proved in one table, by computation on the definitions: 192, 128, codes 34952 and 65520 at p = 0, 3, 4, 8, JK 11, delay
--- 0, the four ticks above." With them the presets that are offered, and document 02's counter that is started once.
+-- Document 01's last box: "Proved in one table, by computation on the definitions: 192, 128, codes
+-- 34952 and 65520 at p = 0, 3, 4, 8, JK 11, delay 0, the four ticks above." With them the presets
+-- that are offered, and document 02's counter that is started once.
 use Prim.Native.Nat.{ℕ}
 use Prim.Native.String.{String}
 use mathlib.Core.Path.{_≡_, refl}
@@ -67,7 +68,8 @@ lookup code p = level (workOut 4 code clearState (slotsOf p) .out)
 jk11 : Bool → Entry
 jk11 bit = level (workOut 13 0 (bitState clearState bit) (slots true true true false) .out)
 
--- a delay of duration 0 in the tick of its trigger, which has a clock edge too; and at the next clock edge
+-- a delay of duration 0 in the tick of its trigger, which has a clock edge too; and at the next
+-- clock edge
 triggered : Worked
 triggered = workOut 9 0 clearState (slots true true false false)
 
@@ -112,7 +114,8 @@ run =
     ∷ quick
     ∷ []
 
--- document 02: a counter of type 22, started by TTL0 and stopped by TTL1, its clock in every tick; its count bars a start, and `F=0` frees it
+-- document 02: a counter of type 22, started by TTL0 and stopped by TTL1, its clock in every tick;
+-- its count bars a start, and `F=0` frees it
 counterRun : List Call
 counterRun =
     line "36CCA Y=22"
@@ -190,7 +193,8 @@ box =
           ∷ ran 0x0000 0x0000 0x0000 0
           ∷ []),
     )
-    -- "22 obeys start only while its count is 0": started, its count written while it is active, stopped, barred, freed, started
+    -- "22 obeys start only while its count is 0": started, its count written while it is active,
+    -- stopped, barred, freed, started
     ∷ (
       replies (answers cellCount fresh counterRun),
       replies (
@@ -214,5 +218,5 @@ pub RequiredExamples : Type 0
 RequiredExamples = map (λ (e : Entry × Entry). e .0) box ≡ map (λ (e : Entry × Entry). e .1) box
 
 pub one-table : RequiredExamples
-unfolding RequiredExamples low high read lookup jk11 triggered clocked taking offeredOf line quickWith quick run counterRun said accepted ran bytesOf ones onesIn withBit wordOf bitAt listed valueBy isDigit digitsOf leads plain numberIn numberAt decimalFrom decimal rowOf slotsOf taken raised workAs workOut stirredAs stirred disagree wakes levelAt readsLevels reads slotsRead mixed view effectiveSample linesOf move currentCell currentConnector putCell putConnectors typed setType configuredState configured setConfig statedAs stated setState wired setSlots setSource configShown stateAs fresh presetTable settingOf offered readNow readLast named turnAt outputsBelow turned tick permittedBase badPlace badCellType badConfig unusedSlot badAddress noConfig badStateAs badState noState isWord isWhole toEnd slotOf gave give pairRead pairsOf writeOf ccaWrite ccaRead ccaForm slotForm ccbForm readOf readForm cardForm plainForm addressed parse alone refusal changed changeFor responseTo decision decisionFor lineDecision lineOutcome replyOf Line.lineReply savedBytes afterCall answer answersOf kindAt sourceAt withKind withSource each fromEach wellFormed drivenWord levelsFrom
+unfolding RequiredExamples low high read lookup jk11 triggered clocked taking offeredOf line quickWith quick run counterRun said accepted ran ones onesIn withBit wordOf bitAt listed valueBy isDigit digitsOf leads plain numberIn numberAt decimalFrom decimal rowOf slotsOf taken raised workAs workOut stirredAs stirred disagree wakes levelAt readsLevels reads slotsRead mixed view effectiveSample linesOf move currentCell currentConnector putCell putConnectors typed setType configuredState configured setConfig statedAs stated setState wired setSlots setSource configShown stateAs fresh presetTable settingOf offered readNow readLast named turnAt outputsBelow turned tick permittedBase badPlace badCellType badConfig unusedSlot badAddress noConfig badStateAs badState noState isWord isWhole toEnd slotOf gave give pairRead pairsOf writeOf ccaWrite ccaRead ccaForm slotForm ccbForm readOf readForm cardForm plainForm addressed parse alone refusal changed changeFor responseTo decision decisionFor lineDecision lineOutcome replyOf Line.lineReply savedBytes afterCall answer answersOf kindAt sourceAt withKind withSource each fromEach wellFormed drivenWord levelsFrom
 one-table = refl

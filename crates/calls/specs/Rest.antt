@@ -1,4 +1,5 @@
--- Why a card's clock may stop while the card is at rest: ticks with the same input change nothing but the tick total, however many and of whatever kinds.
+-- Why a card's clock may stop while the card is at rest: ticks with the same input change nothing
+-- but the tick total, however many and of whatever kinds.
 use Prim.Native.Nat.{ℕ}
 use mathlib.Core.Path.{_≡_}
 use mathlib.Core.Bool.{Bool}
@@ -15,9 +16,10 @@ use Rattle.calls.specs.Demand3.{AlikeReplies}
 abbrev pub ticksWith : ℕ → Input → List Bool → List Call
 ticksWith n input kinds = map (λ full. ownTick n full input) kinds
 
--- behind any list of calls from a fresh card: where the card is at rest under an input, any ticks with it leave all of the card but the tick total, which
--- counts
--- those that ran up to the standstill, and each answers the words of the last tick that ran, or idle where the clock is another
+-- behind any list of calls from a fresh card: where the card is at rest under an input, any ticks
+-- with it leave all of the card but the tick total, which counts
+-- those that ran up to the standstill, and each answers the words of the last tick that ran, or
+-- idle where the clock is another
 unfoldable pub RestLasts : ℕ → Type 0
 RestLasts n = (calls : List Call) (input : Input) (kinds : List Bool)
     → let c = end n (freshOf n) calls in

@@ -1,5 +1,6 @@
--- Document 01, "Lists of calls": calls in any order, each on what the one before it returned. Said over any state that calls are made on and any kind of
--- call: `step` is the state that a call returns.
+-- Document 01, "Lists of calls": calls in any order, each on what the one before it returned. Said
+-- over any state that calls are made on and any kind of call: `step` is the state that a call
+-- returns.
 use mathlib.Core.List.{List, [], _∷_}
 
 module _ {S C : Type 0} (step : S → C → S) where
@@ -13,7 +14,8 @@ module _ {S C : Type 0} (step : S → C → S) where
   answersOf reply s [] = []
   answersOf reply s (call ∷ calls) = reply s call ∷ answersOf reply (step s call) calls
 
-  -- what the calls have made of something by the end of the list, where `next` is what a call makes of it
+  -- what the calls have made of something by the end of the list, where `next` is what a call makes
+  -- of it
   unfoldable pub since : {A : Type 0} → (S → C → A → A) → S → List C → A → A
   since next s [] was = was
   since next s (call ∷ calls) was = since next (step s call) calls (next s call was)

@@ -1,4 +1,5 @@
--- Document 02, "Thirty-two cells": the number of cells of a card is one of its own, and no call changes it.
+-- Document 02, "Thirty-two cells": the number of cells of a card is one of its own, and no call
+-- changes it.
 use Prim.Native.Nat.{ℕ}
 use mathlib.Core.Path.{_≡_}
 use mathlib.Core.List.{List}

@@ -16,7 +16,7 @@ use Rattle.words.proofs.Bools.{and-left, and-right}
 use Rattle.card.specs.Address.{cellCount, cellRoom, cellsFor, firstCell}
 use Rattle.card.specs.Presets.{Entry, presetTable, isLarge, largePreset, find, has, cellsOf, settingOf, offered, presetCell, presetSource}
 use Rattle.card.specs.PresetRows.{sourceRows, cellRows, rowByte, sourceUnder, covers, cellUnder}
-use Rattle.card.specs.Valid.{every}
+use Rattle.text.specs.Digits.{every}
 
 -- two lists given entry by entry are the same, and so is each entry
 pub listed-agree : {A : Type 0} (f g : ℕ → A) (n i : ℕ) → listed f n ≡ listed g n → i < n → f i ≡ g i

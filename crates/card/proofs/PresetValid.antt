@@ -20,7 +20,8 @@ use Rattle.card.specs.Address.{cellCount, cellRoom, connectorCount, firs
 use Rattle.card.specs.Connectors.{connectorAt, each, noConnector, fromEach, wellFormed}
 use Rattle.card.specs.Fresh.{noCell}
 use Rattle.card.specs.Valid.{largestAddress, frontTrigger, permittedBase, badCellType, badConnectorType, badAddress, frontDriven}
-use Rattle.card.specs.Valid.{validSlot, validSlots, validCell, validConnector, every, validCard}
+use Rattle.text.specs.Digits.{every}
+use Rattle.card.specs.Valid.{validSlot, validSlots, validCell, validConnector, validCard}
 use Rattle.card.specs.Presets.{Setting, Entry, presetTable, isLarge, largePreset, largeSources, find, has}
 use Rattle.card.specs.Presets.{cellsOf, sourcesOf, settingOf, presetCell, presetSource, setsFront, sourced}
 use Rattle.card.specs.Presets.{cellWithPreset, connectorWithPreset, preset}

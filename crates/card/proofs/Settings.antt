@@ -1,7 +1,7 @@
 -- Laws of settings: a test of every entry of a list, as a loop makes it, at one entry, and after a change; and what valid settings are.
 use Prim.Native.Nat.{ℕ, zero, suc, _+_, _≤_, _<_, zero-le}
 use mathlib.Core.Path.{_≡_, refl, sym, ap, ap₂, _∙_}
-use mathlib.Core.Bool.{Bool, true, false, not, _&&_, and-true, and-assoc}
+use mathlib.Core.Bool.{Bool, true, false, not, _&&_, and-true}
 use mathlib.Core.List.{List, [], _∷_, _++_, map}
 use native.Mathlib.Nat.{not-suc-le-zero, le-of-suc-le-suc, lt-suc-self, le-trans}
 use native.Mathlib.Numerals.{add-one}
@@ -11,6 +11,7 @@ use lib.ListN.{length, getD, set, take, replicate, length-map}
 use lib.Seq.{take-suc, getD-take}
 use borrow.Author.Tests.{eqb-true, not-true, eq-eqb, leb-true}
 use Rattle.words.specs.Listed.{listed}
+use Rattle.text.proofs.DigitLaws.{every-append, every-at}
 use Rattle.cells.specs.declared.cell.Cell.{Cell}
 use Rattle.cells.specs.declared.table.Row.{Row}
 use Rattle.cells.specs.Table.{largestConfig, rowOf}
@@ -20,13 +21,13 @@ use Rattle.card.specs.declared.card.Connector.{Connector}
 use Rattle.card.specs.Address.{connectorCount}
 use Rattle.card.specs.Connectors.{noConnector}
 use Rattle.card.specs.Edits.{clearedCell}
-use Rattle.card.specs.Valid.{badClock, badCellType, frontDriven, validSlots, validCell, validConnector, every, valid}
+use Rattle.text.specs.Digits.{every}
+use Rattle.card.specs.Valid.{badClock, badCellType, frontDriven, validSlots, validCell, validConnector, valid}
 
 module _ {A : Type 0} (f : A → Bool) where
-  every-snoc : (l : List A) (x : A) → every f (l ++ (x ∷ [])) ≡ (every f l && f x)
+  pub every-snoc : (l : List A) (x : A) → every f (l ++ (x ∷ [])) ≡ (every f l && f x)
   unfolding every
-  every-snoc [] x = and-true (f x)
-  every-snoc (y ∷ ys) x = ap (λ (b : Bool). f y && b) (every-snoc ys x) ∙ sym (and-assoc (f y) (every f ys) (f x))
+  every-snoc l x = every-append f l (x ∷ []) ∙ ap (λ (b : Bool). every f l && b) (and-true (f x))
 
   -- a loop tests the entries in order: after i turns the first i, of count
   abbrev pub Tested : (count : ℕ) → List A → Bool → ℕ → Type 0
@@ -38,13 +39,6 @@ module _ {A : Type 0} (f : A → Bool) where
     omega arith,
     ap₂ (λ (x y : Bool). x && y) (so-far .1) e ∙ sym (rw (add-one i, take-suc l i d inside) (every-snoc (take i l) (getD l i d))),
   )
-
-  -- what every entry passes, an entry passes
-  pub every-at : (l : List A) (i : ℕ) (d : A) → every f l ≡ true → i < length l → f (getD l i d) ≡ true
-  unfolding every
-  every-at [] i d e h = absurd (not-suc-le-zero h)
-  every-at (x ∷ xs) zero d e h = and-left (f x) (every f xs) e
-  every-at (x ∷ xs) (suc i) d e h = every-at xs i d (and-right (f x) (every f xs) e) (le-of-suc-le-suc h)
 
   -- entries changed in nothing that the test looks at
   pub every-map : (g : A → A) → ((x : A) → f (g x) ≡ f x) → (l : List A) → every f (map g l) ≡ every f l
@@ -61,7 +55,7 @@ module _ {A : Type 0} (f : A → Bool) where
 
   -- the first n entries pass where each of them does
   pub first-at : (n : ℕ) (l : List A) (i : ℕ) (d : A) → every f (take n l) ≡ true → length (take n l) ≡ n → i < n → f (getD l i d) ≡ true
-  first-at n l i d e long h = ap f (sym (getD-take n l i d h)) ∙ every-at (take n l) i d e (rw long h)
+  first-at n l i d e long h = ap f (sym (getD-take n l i d h)) ∙ every-at f (take n l) i d e (rw long h)
 
   pub first-pass : (n : ℕ) (l : List A) (d : A) → n ≤ length l → ((i : ℕ) → i < n → f (getD l i d) ≡ true) → every f (take n l) ≡ true
   unfolding every

@@ -1,13 +1,13 @@
 -- A fresh card is valid, and every accepted edit keeps a card valid: one law for each. Of presets, see PresetValid.
 use Prim.Native.Nat.{ℕ, _+_, _-_, _%_, _≤_, _<_, zero-le}
-use mathlib.Core.Path.{_≡_, refl, sym, _∙_}
+use mathlib.Core.Path.{_≡_, refl, sym, ap, _∙_}
 use mathlib.Core.Bool.{Bool, true, false, not, _&&_, _||_, cond, true≢false, and-false}
 use mathlib.Core.List.{List, [], _∷_, _++_, map}
 use native.Mathlib.Decide.{ℕ-discrete}
 use native.Mathlib.Omega.{arith}
 use lib.Dec.{leb, ltb, eqb}
-use lib.ListN.{length, getD, set, take, replicate, length-map, length-set, length-replicate}
-use lib.Seq.{getD-set-same, getD-set-other, take-at, take-all, length-take-le}
+use lib.ListN.{length, getD, set, take, drop, replicate, length-map, length-set, length-replicate, List·getD-append, List·getD-map}
+use lib.Seq.{getD-set-same, getD-set-other, getD-take, take-at, take-all, length-take-le}
 use borrow.Author.Tests.{ltb-true, ltb-false, not-true, le-leb, le-ltb, eq-eqb, ne-eqb}
 use Rattle.cells.specs.declared.table.Slots.{Slots}
 use Rattle.cells.specs.declared.table.Row.{Row}
@@ -24,12 +24,14 @@ use Rattle.card.specs.Address.{cellRoom, connectorCount, firstCell, firs
 use Rattle.card.specs.Connectors.{input, kindAt, sourceAt, connectorAt, withKind, withSource, each, noConnector, fromEach, wellFormed}
 use Rattle.card.specs.Fresh.{noCell, freshCell, freshConnectors, freshOf}
 use Rattle.card.specs.Valid.{frontTrigger, permittedBase, badClock, badCellType, badConnectorType, badConfig, unusedSlot, badAddress, frontDriven}
-use Rattle.card.specs.Valid.{validSlot, validSlots, validCell, validConnector, every, valid, validSettings, validCard}
+use Rattle.text.specs.Digits.{every}
+use Rattle.card.specs.Valid.{validSlot, validSlots, validCell, validConnector, valid, validSettings, validCard}
 use Rattle.card.specs.Edits.{atCell, atConnector, withCell, withConnectors, clearedCell, clearedCells, blankSlots, storedAddress, wiredSlot}
 use Rattle.card.specs.Edits.{currentCell}
 use Rattle.card.specs.Edits.{putCell, putConnectors, move, setTrigger, home, typed, setType, configured, setConfig, stated, setState}
 use Rattle.card.specs.Edits.{wired, setSlots, setConnectorType, setSource}
-use Rattle.card.proofs.Settings.{every-at, every-set, every-replicate, first-at, first-pass, taken-room, Sound, split, join, valid-cleared}
+use Rattle.text.proofs.DigitLaws.{every-at}
+use Rattle.card.proofs.Settings.{every-set, every-replicate, first-at, first-pass, taken-room, Sound, split, join, valid-cleared}
 use Rattle.card.proofs.ConnectorLaws.{length-each, each-at, each-kind, kind-formed, each-source, source-formed, type-known}
 use Rattle.card.proofs.Places.{among-bounds}
 
@@ -283,6 +285,15 @@ module _ (n : ℕ) (c : Card) (ok : validCard n c ≡ true) where
       and-both (wellFormed (c .connectors)) _ formed
       (valid-cleared n (c .trigger) (clearedCells n (c .cells)) (c .cells) (each (c .connectors)) (take-at (map clearedCell (take n (c .cells))) _ n long)
       ∙ settings-valid)
+
+  -- "`HOME E` or `! E` clears all states": every one of the n cells, with its settings as they were
+  pub home-clears : (i : ℕ) → i < n → getD (home n c .cells) i noCell ≡ clearedCell (getD (c .cells) i noCell)
+  unfolding home
+  home-clears i h =
+      let cleared = map clearedCell (take n (c .cells)) in
+      let long : length cleared ≡ n = length-map (take n (c .cells)) clearedCell ∙ sound .cell-count in
+      List·getD-append cleared (drop n (c .cells)) noCell i (rw long h) ∙ List·getD-map clearedCell (take n (c .cells)) i noCell
+      ∙ ap clearedCell (getD-take n (c .cells) i noCell h)
 
   pub valid-type : (v : ℕ) → badCellType v ≡ false → validCard n (setType n c v) ≡ true
   unfolding setType

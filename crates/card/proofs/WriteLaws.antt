@@ -32,7 +32,7 @@ use Rattle.card.specs.Edits.{setSource}
 use Rattle.card.specs.Written.{configuredAs, written}
 use Rattle.card.proofs.ConnectorLaws.{length-each, each-at, each-kind, kind-formed, each-source, source-formed, type-known, each-unique}
 use Rattle.card.proofs.Slots.{four}
-use Rattle.card.proofs.Settings.{cell-slots, config-most, every-at, Sound}
+use Rattle.card.proofs.Settings.{cell-slots, config-most, Sound}
 use Rattle.card.proofs.ValidLaws.{slots-pass, all-four, none-four, badGiven, kind-good}
 use Rattle.card.proofs.Places.{among-in, among-above}
 

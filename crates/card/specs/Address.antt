@@ -1,14 +1,16 @@
--- Document 01, "Addresses": which bases are cells' and connectors', and what an address is made of: its base, whether it is inverted, whether it is an
--- edge. What it reads stands in ticks/specs/Reading.
+-- Document 01, "Addresses": which bases are cells' and connectors', and what an address is made of:
+-- its base, whether it is inverted, whether it is an edge. What it reads stands in
+-- ticks/specs/Reading.
 use Prim.Native.Nat.{ℕ, _+_, _%_}
 use mathlib.Core.Bool.{Bool, _&&_, _||_, cond}
 use lib.Dec.{leb, ltb, eqb}
 
--- the number of cells, and of connectors, of the card
+-- document 01: "1-16 cells", the number of cells of a small card
 abbrev pub cellCount : ℕ
 cellCount = 16
 
--- the room for cells: the number of a large card
+-- document 02, "Thirty-two cells": the number of cells of a large card, for which every card has
+-- room
 abbrev pub cellRoom : ℕ
 cellRoom = 32
 
@@ -16,6 +18,7 @@ cellRoom = 32
 unfoldable pub cellsFor : ℕ → ℕ
 cellsFor size = cond (eqb size cellRoom) cellRoom cellCount
 
+-- "33-40 front connectors BNC1-8, 41-48 backplane TTL0-7"
 abbrev pub connectorCount : ℕ
 connectorCount = 16
 
@@ -26,7 +29,7 @@ frontCount = 8
 abbrev pub onBackplane : ℕ → Bool
 onBackplane k = leb frontCount k
 
--- "1-16 cells, 33-40 front connectors BNC1-8, 41-48 backplane TTL0-7": the first base of the cells and of the connectors
+-- the first base of the cells and of the connectors
 abbrev pub firstCell : ℕ
 firstCell = 1
 
@@ -34,11 +37,11 @@ abbrev pub firstConnector : ℕ
 firstConnector = 33
 
 -- base b is one of the count bases from `first` on
-abbrev pub among : ℕ → ℕ → ℕ → Bool
+abbrev pub among : (first count b : ℕ) → Bool
 among first count b = leb first b && ltb b (first + count)
 
 -- a base that is 0, a cell's or a connector's; the others are reserved
-unfoldable pub permittedBase : ℕ → ℕ → Bool
+unfoldable pub permittedBase : (n b : ℕ) → Bool
 permittedBase n b = eqb b 0 || (among firstCell n b || among firstConnector connectorCount b)
 
 -- "An address is 0 to 255"

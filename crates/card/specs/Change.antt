@@ -25,11 +25,12 @@ changed n c (ConnectorKind kind) = setConnectorType c kind
 changed n c (Source source) = setSource c source
 
 -- cell i, counted from 0, is the one at the pointer
-abbrev pub pointed : ℕ → Card → ℕ → Bool
+abbrev pub pointed : (n : ℕ) → Card → (i : ℕ) → Bool
 pointed n c i = atCell n c && eqb i (c .pointer - firstCell)
 
--- "A cell is edited by an accepted CCA or CCB write to it or a preset that sets it; by HOME ... all are"
-unfoldable pub editsCell : ℕ → Card → Change → ℕ → Bool
+-- "A cell is edited by an accepted CCA or CCB write to it or a preset that sets it; by HOME ... all
+-- are"
+unfoldable pub editsCell : (n : ℕ) → Card → Change → (i : ℕ) → Bool
 editsCell n c Nothing i = false
 editsCell n c (Pointer p) i = false
 editsCell n c (Trigger t) i = false

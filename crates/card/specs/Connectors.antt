@@ -1,5 +1,5 @@
--- Document 01, "Lines": the connectors of a card, their types as two words and their sources. What connectors drive and show in a tick stands in
--- ticks/specs/Levels.
+-- Document 01, "Lines": the connectors of a card, their types as two words and their sources. What
+-- connectors drive and show in a tick stands in ticks/specs/Levels.
 use Prim.Native.Nat.{ℕ}
 use mathlib.Core.Bool.{Bool, _&&_, _||_, cond}
 use mathlib.Core.List.{List}
@@ -24,8 +24,8 @@ pushPull = 2
 abbrev pub isOutput : ℕ → Bool
 isOutput kind = eqb kind openDrain || eqb kind pushPull
 
--- the type and the source of connector k, "bits 0-7 BNC1-8, 8-15 TTL0-7". Push-pull is asked first: it is the type where both bits are set. Past the row:
--- an input from 0
+-- the type and the source of connector k, "bits 0-7 BNC1-8, 8-15 TTL0-7". Push-pull is asked first:
+-- it is the type where both bits are set. Past the row: an input from 0
 unfoldable pub kindAt : Connectors → ℕ → ℕ
 kindAt d k = cond (bitAt (d .«push_pull») k) pushPull (cond (bitAt (d .«open_drain») k) openDrain input)
 
@@ -35,8 +35,9 @@ sourceAt d k = getD (d .sources) k 0
 abbrev pub connectorAt : Connectors → ℕ → Connector
 connectorAt d k = record { kind = kindAt d k; source = sourceAt d k }
 
--- with another type, or another source, at k; a number that is neither open-drain nor push-pull makes an input
-unfoldable pub withKind : Connectors → ℕ → ℕ → Connectors
+-- with another type, or another source, at k; a number that is neither open-drain nor push-pull
+-- makes an input
+unfoldable pub withKind : Connectors → (k kind : ℕ) → Connectors
 withKind d k kind =
     record {
       sources = d .sources;
@@ -44,7 +45,7 @@ withKind d k kind =
       «open_drain» = withBit (d .«open_drain») k (eqb kind openDrain);
     }
 
-unfoldable pub withSource : Connectors → ℕ → ℕ → Connectors
+unfoldable pub withSource : Connectors → (k source : ℕ) → Connectors
 withSource d k source = record { sources = set (d .sources) k source; «push_pull» = d .«push_pull»; «open_drain» = d .«open_drain» }
 
 -- the sixteen in order, one by one; and a row of sixteen made of them
@@ -63,7 +64,8 @@ fromEach cs =
       «open_drain» = wordOf (λ k. eqb (getD cs k noConnector .kind) openDrain) connectorCount;
     }
 
--- sixteen sources, no bit above the sixteenth, and no connector with both bits: the words are those of the types. Lines leave no other row
+-- sixteen sources, no bit above the sixteenth, and no connector with both bits: the words are those
+-- of the types. Lines leave no other row
 unfoldable pub wellFormed : Connectors → Bool
 wellFormed d =
     eqb (length (d .sources)) connectorCount

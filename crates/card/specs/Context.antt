@@ -1,4 +1,5 @@
--- Document 01, "Lines": what a line goes by before it changes anything, what its reads give, and row 13 of "When the card says no".
+-- Document 01, "Lines": what a line goes by before it changes anything, what its reads give, and
+-- row 13 of "When the card says no".
 use Prim.Native.Nat.{ℕ, _/_, _%_}
 use mathlib.Core.Bool.{Bool, _&&_, cond}
 use lib.Dec.{eqb, ltb}
@@ -17,12 +18,13 @@ use Rattle.card.specs.Edits.{atCell, currentCell, currentConnector}
 use Rattle.card.specs.Presets.{setsFront}
 use Rattle.card.specs.Valid.{frontTrigger, frontDriven, isCounted}
 
--- where the pointer stands and what is there, the trigger source, and the words "as of the last tick"
+-- where the pointer stands and what is there, the trigger source, and the words "as of the last
+-- tick"
 abbrev pub contextOf : ℕ → Card → Context
 contextOf n c =
     record {
       pointer = c .pointer;
-      celled = atCell n c;
+      «at_cell» = atCell n c;
       trigger = c .trigger;
       cell = currentCell n c;
       connector = currentConnector c;
@@ -33,16 +35,17 @@ contextOf n c =
 
 -- ---- what reads give
 
--- "`36CCA p?` reads Y, Z or F": the type; the configuration of a cell or the source of a connector; the state
+-- "`36CCA p?` reads Y, Z or F": the type; the configuration of a cell or the source of a connector;
+-- the state
 abbrev pub typeRead : Context → ℕ
-typeRead x = cond (x .celled) (x .cell .kind) (x .connector .kind)
+typeRead x = cond (x .«at_cell») (x .cell .kind) (x .connector .kind)
 
 -- document 02: of a counter "a CCA Z read gives the count"
 unfoldable pub configShown : Cell → ℕ
 configShown cell = cond (isCounted (rowOf (cell .kind) .kept)) (cell .count .0) (cell .config)
 
 abbrev pub configRead : Context → ℕ
-configRead x = cond (x .celled) (configShown (x .cell)) (x .connector .source)
+configRead x = cond (x .«at_cell») (configShown (x .cell)) (x .connector .source)
 
 -- a flip-flop's bit, a timer's count, a counter's
 unfoldable pub stateAs : Kept → State → ℕ
@@ -65,7 +68,8 @@ frontRead x = x .levels % 256
 abbrev pub backRead : Context → ℕ
 backRead x = x .levels / 256
 
--- "`Z?` cells": the lower sixteen; document 02, "Thirty-two cells": "`36RDADC F?` reads cells 17 to 32"
+-- "`Z?` cells": the lower sixteen; document 02, "Thirty-two cells": "`36RDADC F?` reads cells 17 to
+-- 32"
 abbrev pub lowerRead : Context → ℕ
 lowerRead x = x .outputs % 65536
 
@@ -77,5 +81,5 @@ upperRead x = x .outputs / 65536
 abbrev pub drivesFront : Context → ℕ → Bool
 drivesFront x v = eqb (x .pointer) firstConnector && frontDriven (x .trigger) v
 
-abbrev pub presetDrives : ℕ → Context → ℕ → Bool
+abbrev pub presetDrives : (n : ℕ) → Context → (v : ℕ) → Bool
 presetDrives n x v = setsFront n v && eqb (x .trigger) frontTrigger

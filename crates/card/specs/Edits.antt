@@ -1,5 +1,6 @@
--- Document 01, "Lines": what an accepted line does to the card. No line alters the memory, which has the outputs, the levels and the driven word.
--- "Edited" is document 01's term for a cell that a write has touched since the last tick that ran.
+-- Document 01, "Lines": what an accepted line does to the card. No line alters the memory, which
+-- has the outputs, the levels and the driven word. "Edited" is document 01's term for a cell that a
+-- write has touched since the last tick that ran.
 use Prim.Native.Nat.{ℕ, _+_, _-_, _^_}
 use mathlib.Core.Bool.{Bool, true, false, not, _&&_, cond}
 use mathlib.Core.List.{List, [], _∷_, _++_, map}
@@ -26,7 +27,7 @@ use Rattle.card.specs.Valid.{frontTrigger}
 -- ---- parts of the card, replaced
 
 -- all that a line can replace
-abbrev pub withParts : Card → ℕ → ℕ → List Cell → Connectors → ℕ → Card
+abbrev pub withParts : Card → (pointer trigger : ℕ) → List Cell → Connectors → (edited : ℕ) → Card
 withParts c pointer trigger cells connectors edited =
     record {
       pointer = pointer;
@@ -43,7 +44,7 @@ abbrev pub withPointer : Card → ℕ → Card
 withPointer c p = withParts c p (c .trigger) (c .cells) (c .connectors) (c .edited)
 
 -- the settings and states, with the cells that are now edited; nothing else of the card
-abbrev pub withSettings : Card → ℕ → List Cell → Connectors → ℕ → Card
+abbrev pub withSettings : Card → (trigger : ℕ) → List Cell → Connectors → (edited : ℕ) → Card
 withSettings c trigger cells connectors edited = withParts c (c .pointer) trigger cells connectors edited
 
 -- the card with the cell at index i replaced, and edited
@@ -112,7 +113,7 @@ blankSlots edge = blankSlot (edge .x) ∷ blankSlot (edge .y) ∷ blankSlot (edg
 unfoldable pub typed : ℕ → Cell
 typed kind = cellOf kind 0 (blankSlots (rowOf kind .edge)) clearState
 
-unfoldable pub setType : ℕ → Card → ℕ → Card
+unfoldable pub setType : (n : ℕ) → Card → (kind : ℕ) → Card
 setType n c kind = putCell n c (typed kind)
 
 -- "Z the configuration (clears a timer's state)"; a counter has no configuration to write
@@ -125,10 +126,11 @@ configuredState Counted s = s
 unfoldable pub configured : Cell → ℕ → Cell
 configured cell config = cellOf (cell .kind) config (cell .slots) (configuredState (rowOf (cell .kind) .kept) (stateOf cell))
 
-unfoldable pub setConfig : ℕ → Card → ℕ → Card
+unfoldable pub setConfig : (n : ℕ) → Card → (config : ℕ) → Card
 setConfig n c config = putCell n c (configured (currentCell n c) config)
 
--- "F the state: 0 or 1 for flip-flops, the count for timers, ending a pulse"; a type that keeps no state has none to set
+-- "F the state: 0 or 1 for flip-flops, the count for timers, ending a pulse"; a type that keeps no
+-- state has none to set
 abbrev pub bitState : State → Bool → State
 bitState s bit = record { bit = bit; count = s .count; pulse = s .pulse }
 
@@ -148,7 +150,7 @@ statedAs Counted s v = recountedState s (pulses v)
 unfoldable pub stated : Cell → ℕ → Cell
 stated cell v = withState cell (statedAs (rowOf (cell .kind) .kept) (stateOf cell) v)
 
-unfoldable pub setState : ℕ → Card → ℕ → Card
+unfoldable pub setState : (n : ℕ) → Card → (v : ℕ) → Card
 setState n c v = putCell n c (stated (currentCell n c) v)
 
 -- "an edge-sensitive slot given 0-127 stores that plus 128"
@@ -156,7 +158,7 @@ abbrev pub storedAddress : Bool → ℕ → ℕ
 storedAddress edge v = cond (edge && ltb v edgeAddress) (v + edgeAddress) v
 
 -- "`36CCB` with one to four different `p=n`": the slots given take the values, the others stay
-abbrev pub wiredSlot : Bool → Bool → ℕ → ℕ → ℕ
+abbrev pub wiredSlot : (given edge : Bool) (v old : ℕ) → ℕ
 wiredSlot given edge v old = cond given (storedAddress edge v) old
 
 abbrev pub wiredSlots : Slots → Slots → List ℕ → List ℕ → List ℕ

@@ -1,4 +1,5 @@
--- What CCA F and Z do to each kind of state, what they are refused, and rows of the address chart, by computation.
+-- What CCA F and Z do to each kind of state, what they are refused, and rows of the address chart,
+-- by computation.
 use Prim.Native.Nat.{ℕ}
 use mathlib.Core.Path.{_≡_, refl}
 use mathlib.Core.Bool.{Bool, true, false}
@@ -29,7 +30,8 @@ shown cell = (cell .bit, cell .count .0, cell .pulse)
 -- given, expected
 abbrev states : List (Shown × Shown)
 states =
-    -- F: "0 or 1 for flip-flops, the count for timers, ending a pulse"; of a counter "the count and leaves "active" as it is"
+    -- F: "0 or 1 for flip-flops, the count for timers, ending a pulse"; of a counter "the count and
+    -- leaves "active" as it is"
     (shown (stated (full 1) 0), (false, 3, true))
     ∷ (shown (stated (full 9) 7), (true, 7, false))
     ∷ (shown (stated (full 19) 7), (true, 7, true))
@@ -54,8 +56,8 @@ read-table : map (λ (e : ℕ × ℕ). e .0) reads ≡ map (λ (e : ℕ × ℕ).
 unfolding full rowOf configShown
 read-table = refl
 
--- the tests behind 9 and 12. Of a counter: "CCA Z writes are refused with 9", a read is not, and "A counter's F over 65535 gives 12". Timers go to
--- 4,294,967,295,
+-- the tests behind 9 and 12. Of a counter: "CCA Z writes are refused with 9", a read is not, and "A
+-- counter's F over 65535 gives 12". Timers go to 4,294,967,295,
 -- "lookup codes, constants and counter cells do not"
 abbrev tests : List (Bool × Bool)
 tests =

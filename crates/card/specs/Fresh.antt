@@ -1,4 +1,5 @@
--- Document 01, "Lines", its last sentence: the card as it powers up, with everything low and no cell edited.
+-- Document 01, "Lines", its last sentence: the card as it powers up, with everything low and no
+-- cell edited.
 use Prim.Native.Nat.{ℕ, _-_, _^_}
 use mathlib.Core.Bool.{false}
 use mathlib.Core.List.{List, [], _++_}
@@ -34,7 +35,7 @@ abbrev pub noMemory : Memory
 noMemory = record { driven = 0; pulled = 0; outputs = 0; outputs2 = 0; outputs3 = 0; levels = 0; levels2 = 0 }
 
 -- a card as it powers up with some settings: pointer 1, nothing remembered, and no tick counted
-abbrev pub started : ℕ → ℕ → List Cell → Connectors → ℕ → Card
+abbrev pub started : (size trigger : ℕ) → List Cell → Connectors → (edited : ℕ) → Card
 started size trigger cells connectors edited =
     record {
       pointer = 1;
@@ -47,8 +48,8 @@ started size trigger cells connectors edited =
       tallies = noTallies;
     }
 
--- "pointer 1, cells constant 0, BNCs push-pull from 0, backplane inputs from 0, trigger 0"; "a fresh card has none edited": a card of n cells, with
--- room behind them
+-- "pointer 1, cells constant 0, BNCs push-pull from 0, backplane inputs from 0, trigger 0"; "a
+-- fresh card has none edited": a card of n cells, with room behind them
 abbrev pub freshOf : ℕ → Card
 freshOf n = started n 0 (replicate n freshCell ++ replicate (cellRoom - n) freshCell) freshConnectors 0
 

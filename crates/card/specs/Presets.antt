@@ -19,7 +19,7 @@ use Rattle.card.specs.Fresh.{clearState, noCell}
 -- ---- the cells that presets set
 
 -- "a cell is set whole, slots not named 0, its state cleared"
-abbrev pub whole : ℕ → ℕ → List ℕ → Cell
+abbrev pub whole : (kind config : ℕ) (slots : List ℕ) → Cell
 whole kind config slots = cellOf kind config slots clearState
 
 -- by type, in the order of "Cells"
@@ -40,7 +40,8 @@ and4 x y z f = whole 10 0 (x ∷ y ∷ z ∷ f ∷ [])
 
 -- ---- the entries
 
--- what a preset sets: cells by their number, and front connectors BNC1-8 by theirs, each with its source address
+-- what a preset sets: cells by their number, and front connectors BNC1-8 by theirs, each with its
+-- source address
 pub record Setting : Type 0 where
   pub cells : List (ℕ × Cell)
   pub sources : List (ℕ × ℕ)
@@ -73,7 +74,8 @@ abbrev pub isIn : ℕ → List ℕ → Bool
 isIn n [] = false
 isIn n (m ∷ ms) = eqb n m || isIn n ms
 
--- the laser presets "source the BNCs named in the source's Description from 10, the group's others from 0"
+-- the laser presets "source the BNCs named in the source's Description from 10, the group's others
+-- from 0"
 abbrev pub laser : (group lit : List ℕ) → List (ℕ × ℕ)
 laser group lit = map (λ (b : ℕ). (b, cond (isIn b lit) 10 0)) group
 
@@ -102,7 +104,8 @@ cellPresets =
     ∷ sets 36 ((10, and2 8 64) ∷ [])
     ∷ []
 
--- "13: cell 12 type 3 code 168 (44, 10, 1), BNC4 from 12. 31: AND4 6 ... for BNC5, 7 and 7 ... for BNC6, 8"
+-- "13: cell 12 type 3 code 168 (44, 10, 1), BNC4 from 12. 31: AND4 6 ... for BNC5, 7 and 7 ... for
+-- BNC6, 8"
 abbrev pub mixedPresets : List Entry
 mixedPresets =
     (13, record { cells = (12, lookup3 168 44 10 1) ∷ []; sources = (4, 12) ∷ [] })
@@ -212,8 +215,9 @@ abbrev pub sourcesOf : Option Setting → List (ℕ × ℕ)
 sourcesOf none = []
 sourcesOf (some s) = s .sources
 
--- what a preset makes of the cell at an index, and the source of the connector at an index; BNC1 is at 0
-unfoldable pub presetCell : ℕ → ℕ → Option Cell
+-- what a preset makes of the cell at an index, and the source of the connector at an index; BNC1 is
+-- at 0
+unfoldable pub presetCell : (v i : ℕ) → Option Cell
 presetCell v i = find (firstCell + i) (cellsOf (settingOf v))
 
 unfoldable pub presetSource : (n v k : ℕ) → Option ℕ
@@ -231,18 +235,18 @@ sourced none old = old
 sourced (some a) old = record { kind = pushPull; source = a }
 
 -- a cell or a connector after a preset: as the preset sets it, or as it was
-abbrev pub cellWithPreset : Card → ℕ → ℕ → Cell
+abbrev pub cellWithPreset : Card → (v i : ℕ) → Cell
 cellWithPreset c v i = Option·getD (presetCell v i) (getD (c .cells) i noCell)
 
-abbrev pub connectorWithPreset : ℕ → Card → ℕ → ℕ → Connector
+abbrev pub connectorWithPreset : (n : ℕ) → Card → (v k : ℕ) → Connector
 connectorWithPreset n c v k = sourced (presetSource n v k) (connectorAt (c .connectors) k)
 
 -- a cell is edited by "a preset that sets it"
-abbrev pub editedWithPreset : Card → ℕ → ℕ → Bool
+abbrev pub editedWithPreset : Card → (v i : ℕ) → Bool
 editedWithPreset c v i = bitAt (c .edited) i || has (presetCell v i)
 
 -- what the preset does not set stays; so does all else of the card
-unfoldable pub preset : ℕ → Card → ℕ → Card
+unfoldable pub preset : (n : ℕ) → Card → (v : ℕ) → Card
 preset n c v =
     withSettings c (c .trigger) (listed (cellWithPreset c v) n ++ drop n (c .cells)) (fromEach (listed (connectorWithPreset n c v) connectorCount))
     (wordOf (editedWithPreset c v) n)

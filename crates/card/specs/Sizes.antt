@@ -1,6 +1,7 @@
--- Document 02, "Thirty-two cells", by computation: what a card of sixteen cells and one of thirty-two say of the same address, place and preset, what a
--- preset sets on the larger one, and what the two reads of its cell word give. And "a 16-cell card ... otherwise answers as before": where a definition
--- took the number of cells with that request, at sixteen it is what it was.
+-- Document 02, "Thirty-two cells", by computation: what a card of sixteen cells and one of
+-- thirty-two say of the same address, place and preset, what a preset sets on the larger one, and
+-- what the two reads of its cell word give. And "a 16-cell card ... otherwise answers as before":
+-- where a definition took the number of cells with that request, at sixteen it is what it was.
 use Prim.Native.Nat.{ℕ, _+_, _*_}
 use mathlib.Core.Path.{_≡_, refl}
 use mathlib.Core.Bool.{Bool, true, false}
@@ -79,7 +80,8 @@ large-preset : map shown (each (preset cellRoom (freshOf cellRoom) 51 .connector
 unfolding shown preset presetTable settingOf presetSource kindAt sourceAt each fromEach bitAt wordOf listed
 large-preset = refl
 
--- "preset 0 still sets cells 1 to 16", and 4 too: these are edited and no others; HOME edits all thirty-two
+-- "preset 0 still sets cells 1 to 16", and 4 too: these are edited and no others; HOME edits all
+-- thirty-two
 edits-table : home cellRoom (freshOf cellRoom) .edited ∷ map (λ (v : ℕ). preset cellRoom (freshOf cellRoom) v .edited) (0 ∷ 4 ∷ 51 ∷ [])
     ≡ 4294967295 ∷ 65535 ∷ 65535 ∷ 0 ∷ []
 unfolding preset home presetTable settingOf presetCell bitAt wordOf listed
@@ -101,7 +103,7 @@ reading outputs =
     record {
       pointer = 1;
       trigger = 0;
-      celled = true;
+      «at_cell» = true;
       cell = getD (c .cells) 0 noCell;
       connector = record { kind = 0; source = 0 };
       levels = 0;

@@ -1,4 +1,5 @@
--- Document 02, "Wake tallies": what the card keeps of its ticks, and what a tick that ran adds to it.
+-- Document 02, "Wake tallies": what the card keeps of its ticks, and what a tick that ran adds to
+-- it.
 use Prim.Native.Nat.{ℕ, _+_}
 use mathlib.Core.Bool.{Bool, _&&_, cond}
 use mathlib.Core.List.{List, _++_}
@@ -25,12 +26,13 @@ noTallies = record { cells = replicate cellRoom (ticks 0); total = ticks 0 }
 abbrev pub tallyOf : Tallies → ℕ → ℕ
 tallyOf t i = getD (t .cells) i (ticks 0) .0
 
--- "in how many ticks the waking rules named it": one more where it is named, and "a tally at that number never counts on"
+-- "in how many ticks the waking rules named it": one more where it is named, and "a tally at that
+-- number never counts on"
 unfoldable pub counted : (named : Bool) → Ticks → Ticks
 counted named v = cond (named && ltb (v .0) standstill) (ticks (v .0 + 1)) v
 
--- a tick that ran, in which the rules named the cells of `named`, on a card of n cells: below the standstill the total counts it, and each of the n
--- tallies; those past n stay
+-- a tick that ran, in which the rules named the cells of `named`, on a card of n cells: below the
+-- standstill the total counts it, and each of the n tallies; those past n stay
 unfoldable pub talliedBy : (n : ℕ) → (named : ℕ → Bool) → Tallies → Tallies
 talliedBy n named t =
     cond (ltb (t .total .0) standstill)

@@ -1,4 +1,5 @@
--- Document 02, "Wake tallies", by computation: what a tick that ran adds, at the limit and past the card's cells.
+-- Document 02, "Wake tallies", by computation: what a tick that ran adds, at the limit and past the
+-- card's cells.
 use Prim.Native.Nat.{ℕ}
 use mathlib.Core.Path.{_≡_, refl}
 use mathlib.Core.List.{List, [], _∷_, map}

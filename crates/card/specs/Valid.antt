@@ -1,9 +1,11 @@
--- Document 01, rows 5 to 13 of "When the card says no", as tests of single values; and the settings that lines can set, which a record may hold.
+-- Document 01, rows 5 to 13 of "When the card says no", as tests of single values; and the settings
+-- that lines can set, which a record may hold.
 use Prim.Native.Nat.{ℕ}
 use mathlib.Core.Bool.{Bool, true, false, not, _&&_, _||_, cond}
 use mathlib.Core.List.{List, [], _∷_}
 use lib.Dec.{leb, ltb, eqb}
 use lib.ListN.{length, getD, take}
+use Rattle.text.specs.Digits.{every}
 use Rattle.cells.specs.declared.table.Slots.{Slots}
 use Rattle.cells.specs.declared.table.Row.{Row}
 use Rattle.cells.specs.declared.table.Kept.{Kept}
@@ -21,7 +23,7 @@ use Rattle.card.specs.Connectors.{pushPull, isOutput, noConnector, each,
 
 -- ---- single values
 
--- the largest address, clock code and type of a connector
+-- the largest address, and the largest clock code
 abbrev pub largestAddress : ℕ
 largestAddress = 255
 
@@ -33,7 +35,7 @@ abbrev pub frontTrigger : ℕ
 frontTrigger = 4
 
 -- 5: "pointer place"
-unfoldable pub badPlace : ℕ → ℕ → Bool
+unfoldable pub badPlace : (n p : ℕ) → Bool
 badPlace n p = not (among firstCell n p || among firstConnector connectorCount p)
 
 -- 7: "cell type over 18, connector type over 2, clock over 4", where cell types now go to 22
@@ -47,7 +49,7 @@ unfoldable pub badClock : ℕ → Bool
 badClock v = ltb largestClock v
 
 -- 9: "configuration over its range, or a type that has none"
-unfoldable pub badConfig : ℕ → ℕ → Bool
+unfoldable pub badConfig : (kind v : ℕ) → Bool
 badConfig kind v = not (rowOf kind .configured) || ltb (rowOf kind .largest) v
 
 -- 10: "slot not used", of the slots that are given
@@ -57,17 +59,18 @@ unusedSlot kind given =
     || ((given .z && not (rowOf kind .used .z)) || (given .f && not (rowOf kind .used .f)))
 
 -- 11: "address over 255 or reserved", by its entry
-unfoldable pub badAddress : ℕ → ℕ → Bool
+unfoldable pub badAddress : (n a : ℕ) → Bool
 badAddress n a = ltb largestAddress a || not (entryOf n a .permitted)
 
 -- 13: BNC1, the first connector, an output while the trigger is 4
-unfoldable pub frontDriven : ℕ → ℕ → Bool
+unfoldable pub frontDriven : (trigger kind : ℕ) → Bool
 frontDriven trigger kind = eqb trigger frontTrigger && isOutput kind
 
 -- ---- settings
 
--- 15: "unused slot or configuration not 0; edge slot under 128", else an address that a line could set
-unfoldable pub validSlot : ℕ → Bool → Bool → ℕ → Bool
+-- 15: "unused slot or configuration not 0; edge slot under 128", else an address that a line could
+-- set
+unfoldable pub validSlot : (n : ℕ) (used edge : Bool) (a : ℕ) → Bool
 validSlot n used edge a = cond used (not (badAddress n a) && (not edge || entryOf n a .edge)) (eqb a 0)
 
 -- the four slots of a cell
@@ -85,20 +88,16 @@ validCell n cell =
 unfoldable pub validConnector : ℕ → Connector → Bool
 validConnector n k = not (badConnectorType (k .kind)) && not (badAddress n (k .source))
 
--- every entry of a list passes the test
-unfoldable pub every : {A : Type 0} → (A → Bool) → List A → Bool
-every f [] = true
-every f (x ∷ xs) = f x && every f xs
-
--- settings of a card of n cells as a record holds them. A list may have cells behind the first n; nothing is asked of them
-unfoldable pub valid : ℕ → ℕ → List Cell → List Connector → Bool
+-- settings of a card of n cells as a record holds them. A list may have cells behind the first n;
+-- nothing is asked of them
+unfoldable pub valid : (n trigger : ℕ) → List Cell → List Connector → Bool
 valid n trigger cells connectors =
     ((not (badClock trigger) && not (frontDriven trigger (getD connectors 0 noConnector .kind)))
     && (eqb (length (take n cells)) n && eqb (length connectors) connectorCount))
     && (every (validCell n) (take n cells) && every (validConnector n) connectors)
 
 -- the settings of a card that lines can set
-abbrev pub validSettings : ℕ → ℕ → List Cell → Connectors → Bool
+abbrev pub validSettings : (n trigger : ℕ) → List Cell → Connectors → Bool
 validSettings n trigger cells connectors = wellFormed connectors && valid n trigger cells (each connectors)
 
 unfoldable pub validCard : ℕ → Card → Bool
@@ -117,14 +116,15 @@ isCounted Counted = true
 unfoldable pub noConfig : ℕ → Bool
 noConfig kind = not (rowOf kind .configured || isCounted (rowOf kind .kept))
 
--- 12: "no state, or over 1 in a flip-flop"; document 02, "Long exposures": "A counter's F over 65535 gives 12"
+-- 12: "no state, or over 1 in a flip-flop"; document 02, "Long exposures": "A counter's F over
+-- 65535 gives 12"
 unfoldable pub badStateAs : Kept → ℕ → Bool
 badStateAs Stateless v = true
 badStateAs Bit v = ltb 1 v
 badStateAs Count v = false
 badStateAs Counted v = ltb largestCount v
 
-unfoldable pub badState : ℕ → ℕ → Bool
+unfoldable pub badState : (kind v : ℕ) → Bool
 badState kind v = badStateAs (rowOf kind .kept) v
 
 -- 12, of a read: "no state"

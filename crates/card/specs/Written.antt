@@ -1,4 +1,5 @@
--- Document 01, row 15 of "When the card says no", "record value no line could set": what lines make of a cell that is to have a cell's settings.
+-- Document 01, row 15 of "When the card says no", "record value no line could set": what lines make
+-- of a cell that is to have a cell's settings.
 use mathlib.Core.Bool.{cond}
 use Rattle.cells.specs.declared.cell.Cell.{Cell}
 use Rattle.cells.specs.Table.{rowOf}

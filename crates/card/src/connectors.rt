@@ -50,7 +50,7 @@ fn with_bit(w: u16, k: u32, b: bool) -> u16
 }
 
 // With another type, or another source, at k.
-pub fn with_kind(c: Connectors, k: u32, kind: u8) -> Connectors
+pub(crate) fn with_kind(c: Connectors, k: u32, kind: u8) -> Connectors
     requires { ⌜ k < connectorCount ⌝ }
     ensures { λ r. ⌜ r ≡ withKind c k kind ⌝ }
 {
@@ -62,7 +62,7 @@ pub fn with_kind(c: Connectors, k: u32, kind: u8) -> Connectors
     }
 }
 
-pub fn with_source(c: Connectors, k: u32, source: u8) -> Connectors
+pub(crate) fn with_source(c: Connectors, k: u32, source: u8) -> Connectors
     requires { ⌜ k < connectorCount ⌝ }
     ensures { λ r. ⌜ r ≡ withSource c k source ⌝ }
 {

@@ -25,10 +25,10 @@ use cells::table::row_of;
 // What a read gives: anything that the card holds, and nothing is wider than a configuration.
 pub type Value = Config;
 
-// A small part of the card: no line looks at more before it changes something. `celled` says that the pointer stands at a cell.
+// A small part of the card: no line looks at more before it changes something. `at_cell` says whether the pointer is at a cell.
 pub struct Context {
     pub pointer: u8,
-    pub celled: bool,
+    pub at_cell: bool,
     pub trigger: u8,
     pub cell: Cell,
     pub connector: Connector,
@@ -45,7 +45,7 @@ pub fn context_of(card: Card) -> Context
     let m = card.memory;
     Context {
         pointer: card.pointer,
-        celled: at_cell(card),
+        at_cell: at_cell(card),
         trigger: card.trigger,
         cell: cell,
         connector: connector,
@@ -61,7 +61,7 @@ pub fn read_type(x: Context) -> Value
 {
     let cell = x.cell;
     let connector = x.connector;
-    if x.celled {
+    if x.at_cell {
         cell.kind as Value
     } else {
         connector.kind as Value
@@ -88,7 +88,7 @@ pub fn read_config(x: Context) -> Value
 {
     let cell = x.cell;
     let connector = x.connector;
-    if x.celled {
+    if x.at_cell {
         config_shown(cell)
     } else {
         connector.source as Value

@@ -39,14 +39,14 @@ const CLEAR: State = State {
 };
 
 // Whether the pointer stands at a cell.
-pub fn at_cell(card: Card) -> bool
+pub(crate) fn at_cell(card: Card) -> bool
     ensures { λ q. ⌜ q ≡ atCell (cellsFor (card .size)) card ⌝ }
 {
     is_cell(card.pointer as Number, card.size)
 }
 
 // The cell at the pointer.
-pub fn current_cell(card: Card) -> Cell
+pub(crate) fn current_cell(card: Card) -> Cell
     ensures { λ r. ⌜ r ≡ currentCell (cellsFor (card .size)) card ⌝ }
 {
     let p = card.pointer;
@@ -66,7 +66,7 @@ pub fn current_cell(card: Card) -> Cell
 }
 
 // The connector at the pointer.
-pub fn current_connector(card: Card) -> Connector
+pub(crate) fn current_connector(card: Card) -> Connector
     ensures { λ r. ⌜ r ≡ currentConnector card ⌝ }
 {
     let p = card.pointer;
@@ -154,7 +154,7 @@ pub fn all_edited(n: u8) -> EditedSet
     (one << (n as u32)) - 1
 }
 
-pub fn home(card: Card) -> Card
+pub(crate) fn home(card: Card) -> Card
     ensures { λ r. ⌜ r ≡ Edits.home (cellsFor (card .size)) card ⌝ }
 {
     let cells = card.cells;
@@ -194,7 +194,7 @@ fn typed(kind: u8) -> Cell
     }
 }
 
-pub fn set_type(card: Card, kind: u8) -> Card
+pub(crate) fn set_type(card: Card, kind: u8) -> Card
     ensures { λ r. ⌜ r ≡ setType (cellsFor (card .size)) card kind ⌝ }
 {
     put_cell(card, typed(kind))
@@ -212,7 +212,7 @@ fn configured_state(kept: Kept, s: State) -> State
     }
 }
 
-pub fn set_config(card: Card, config: Config) -> Card
+pub(crate) fn set_config(card: Card, config: Config) -> Card
     ensures { λ r. ⌜ r ≡ setConfig (cellsFor (card .size)) card config ⌝ }
 {
     let cell = current_cell(card);
@@ -264,7 +264,7 @@ fn stated_as(kept: Kept, s: State, v: Count) -> State
     }
 }
 
-pub fn set_state(card: Card, v: Count) -> Card
+pub(crate) fn set_state(card: Card, v: Count) -> Card
     ensures { λ r. ⌜ r ≡ setState (cellsFor (card .size)) card v ⌝ }
 {
     let cell = current_cell(card);
@@ -297,7 +297,7 @@ fn wired_slots(old: [u8; 4], given: Slots, edge: Slots, v: [u8; 4]) -> [u8; 4]
     slots
 }
 
-pub fn set_slots(card: Card, given: Slots, v: [u8; 4]) -> Card
+pub(crate) fn set_slots(card: Card, given: Slots, v: [u8; 4]) -> Card
     ensures { λ r. ⌜ r ≡ setSlots (cellsFor (card .size)) card given v ⌝ }
 {
     let cell = current_cell(card);

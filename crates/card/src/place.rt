@@ -18,7 +18,7 @@ pub fn cells_for(size: u8) -> u8
 }
 
 // The place of a cell.
-pub fn is_cell(p: Number, size: u8) -> bool
+pub(crate) fn is_cell(p: Number, size: u8) -> bool
     ensures { λ q. ⌜ q ≡ among firstCell (cellsFor size) p ⌝ }
 {
     let n = cells_for(size);

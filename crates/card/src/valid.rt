@@ -6,7 +6,8 @@ ghost use Rattle.cells.specs.Table.{slots};
 ghost use Rattle.card.specs.Address.{cellRoom, cellsFor};
 ghost use Rattle.card.specs.Chart.{Charted};
 ghost use Rattle.card.specs.Valid.{badPlace, badCellType, badConnectorType, badClock, badConfig, unusedSlot, badAddress, frontDriven};
-ghost use Rattle.card.specs.Valid.{validSlot, validSlots, validCell, validConnector, every, valid, isCounted, noConfig, badStateAs, badState, noState};
+ghost use Rattle.text.specs.Digits.{every};
+ghost use Rattle.card.specs.Valid.{validSlot, validSlots, validCell, validConnector, valid, isCounted, noConfig, badStateAs, badState, noState};
 use crate::card::Connector;
 use crate::chart::Chart;
 use crate::chart::chart;
@@ -105,7 +106,7 @@ pub fn bad_addresses(x: Number, y: Number, z: Number, f: Number, size: u8) -> Sl
 }
 
 // 13: the type of BNC1 makes it an output while the trigger comes in by it.
-pub fn front_driven(trigger: u8, kind: Number) -> bool
+pub(crate) fn front_driven(trigger: u8, kind: Number) -> bool
     ensures { λ r. ⌜ r ≡ frontDriven trigger kind ⌝ }
 {
     (trigger == FRONT_TRIGGER) & ((kind == OPEN_DRAIN as Number) | (kind == PUSH_PULL as Number))
@@ -202,7 +203,7 @@ pub fn valid_settings(
 }
 
 // A counter: its count is read where other types have a configuration.
-pub fn is_counted(kept: Kept) -> bool
+pub(crate) fn is_counted(kept: Kept) -> bool
     ensures { λ q. ⌜ q ≡ isCounted kept ⌝ }
 {
     match kept {

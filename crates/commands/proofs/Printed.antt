@@ -11,9 +11,10 @@ use lib.Seq.{drop-append-seam, drop-drop, getD-drop}
 use borrow.Author.Tests.{ltb-true, eqb-true, le-leb, le-ltb, lt-ltb, eq-eqb}
 use Rattle.text.specs.Decimal.{isDigit, digitsOf, decimal, maxDigits}
 use Rattle.text.proofs.DecimalLaws.{decimal-length, print-reads-at}
+use Rattle.text.proofs.DigitLaws.{every-append}
 use Rattle.cells.specs.Table.{slots, anySlot}
 use Rattle.words.proofs.Bools.{and-left, and-right}
-use Rattle.card.specs.Valid.{every}
+use Rattle.text.specs.Digits.{every}
 use Rattle.card.proofs.ValidLaws.{all-four}
 use Rattle.commands.specs.declared.grammar.Pairs.{Pairs}
 use Rattle.commands.specs.declared.grammar.Reading.{Reading}
@@ -202,9 +203,7 @@ given-few true s v = lit≤ tt
 given-few false s v = lit≤ tt
 
 every-both : {A : Type 0} (f : A → Bool) (xs ys : List A) → every f xs ≡ true → every f ys ≡ true → every f (xs ++ ys) ≡ true
-unfolding every
-every-both f [] ys a b = b
-every-both f (x ∷ xs) ys a b = rw (and-left (f x) (every f xs) a) (every-both f xs ys (and-right (f x) (every f xs) a) b)
+every-both f xs ys a b = rw (every-append f xs ys, a, b)
 
 -- the text of some pairs is at most 13 bytes for each
 pub pairs-short : (pairs : List (Slot × ℕ)) → every (λ (q : Slot × ℕ). printable (q .1)) pairs ≡ true → length (pairsText pairs) ≤ 13 * length pairs

@@ -18,7 +18,7 @@ use Rattle.text.specs.Decimal.{isDigit, digitsOf, digitValue, valueFrom, decima
 use Rattle.text.proofs.DecimalLaws.{digits-rest, digits-all, digit-small, reads-print}
 use Rattle.text.proofs.DigitLaws.{value-below}
 use Rattle.words.proofs.Bools.{and-left, and-right, and-both}
-use Rattle.card.specs.Valid.{every}
+use Rattle.text.specs.Digits.{every}
 use Rattle.commands.specs.declared.grammar.Pairs.{Pairs}
 use Rattle.commands.specs.declared.grammar.Reading.{Reading}
 use Rattle.commands.specs.declared.grammar.Ending.{Ending}

@@ -14,7 +14,7 @@ use Rattle.text.proofs.DecimalLaws.{digit-low}
 use Rattle.cells.specs.Table.{anySlot}
 use Rattle.words.proofs.Bools.{and-left, and-right, and-both}
 use Rattle.card.specs.Address.{cellRoom}
-use Rattle.card.specs.Valid.{every}
+use Rattle.text.specs.Digits.{every}
 use Rattle.commands.specs.declared.grammar.Pairs.{Pairs}
 use Rattle.commands.specs.declared.grammar.Reading.{Reading}
 use Rattle.commands.specs.declared.grammar.Slot.{Slot}

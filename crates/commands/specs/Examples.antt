@@ -1,5 +1,6 @@
--- Document 01, "Lines", and rows 2 and 3 of "When the card says no": texts, and what each is taken for, as one table by computation. Its readings: one
--- blank where the forms show one, capitals only, no other byte before, between or behind.
+-- Document 01, "Lines", and rows 2 and 3 of "When the card says no": texts, and what each is taken
+-- for, as one table by computation. Its readings: one blank where the forms show one, capitals
+-- only, no other byte before, between or behind.
 use Prim.Native.Nat.{ℕ}
 use Prim.Native.String.{String}
 use mathlib.Core.Path.{_≡_, refl}
@@ -195,7 +196,8 @@ forms =
     ∷ ("35SS Z ", 2)
     ∷ []
 
--- document 02, "Thirty-two cells": "`36RDADC F?` reads cells 17 to 32", and a card that has none of them does not know the form
+-- document 02, "Thirty-two cells": "`36RDADC F?` reads cells 17 to 32", and a card that has none of
+-- them does not know the form
 abbrev sizes : List (ℕ × ℕ)
 sizes =
     (number cellCount "36RDADC F?", 2)
@@ -210,14 +212,15 @@ expected : List ℕ
 expected = map (λ (e : String × ℕ). e .1) forms
 
 on-either : (map (λ (e : String × ℕ). number cellCount (e .0)) forms ≡ expected) × (map (λ (e : String × ℕ). number cellRoom (e .0)) forms ≡ expected)
-unfolding form number expected bytesOf valueBy isDigit digitsOf leads plain numberIn numberAt isWord isWhole toEnd slotOf gave give pairRead pairsOf writeOf ccaWrite ccaRead ccaForm slotForm ccbForm readOf readForm cardForm plainForm addressed parse
+unfolding form number expected valueBy isDigit digitsOf leads plain numberIn numberAt isWord isWhole toEnd slotOf gave give pairRead pairsOf writeOf ccaWrite ccaRead ccaForm slotForm ccbForm readOf readForm cardForm plainForm addressed parse
 on-either = (refl, refl)
 
 by-size : map (λ (e : ℕ × ℕ). e .0) sizes ≡ map (λ (e : ℕ × ℕ). e .1) sizes
-unfolding form number bytesOf valueBy isDigit digitsOf leads plain numberIn numberAt isWord isWhole toEnd slotOf gave give pairRead pairsOf writeOf ccaWrite ccaRead ccaForm slotForm ccbForm readOf readForm cardForm plainForm addressed parse
+unfolding form number valueBy isDigit digitsOf leads plain numberIn numberAt isWord isWhole toEnd slotOf gave give pairRead pairsOf writeOf ccaWrite ccaRead ccaForm slotForm ccbForm readOf readForm cardForm plainForm addressed parse
 by-size = refl
 
--- document 02, "Thirty-two cells": at sixteen cells as before, `36RDADC X?` front levels, `Y?` backplane, `Z?` cells, and no other letter
+-- document 02, "Thirty-two cells": at sixteen cells as before, `36RDADC X?` front levels, `Y?`
+-- backplane, `Z?` cells, and no other letter
 
 readBefore : Slot → Parsed
 readBefore X = Here Front

@@ -1,10 +1,11 @@
--- Document 01, "Lines": the forms of a line, from its bytes to a command. Bytes are written as numbers; the letters are named below.
+-- Document 01, "Lines": the forms of a line, from its bytes to a command.
 use Prim.Native.Nat.{ℕ, suc, _+_}
 use mathlib.Core.Bool.{Bool, true, false, not, _&&_, _||_, cond}
 use mathlib.Core.List.{List, [], _∷_}
 use lib.Dec.{eqb, leb, ltb}
 use lib.ListN.{length, getD}
 use Rattle.text.specs.Decimal.{isDigit, numberAt}
+use Rattle.text.specs.Written.{bytesOf}
 use Rattle.cells.specs.Table.{slots, no-slot, anySlot}
 use Rattle.card.specs.Address.{cellRoom}
 use Rattle.commands.specs.declared.grammar.Pairs.{Pairs}
@@ -144,7 +145,8 @@ unfoldable pub ccbForm : List ℕ → Parsed
 ccbForm t =
     cond ((eqb (charAt t 5) blank && eqb (charAt t 7) query) && eqb (length t) 8) (slotForm (slotOf (charAt t 6))) (pairsOf t 5)
 
--- `36RDADC X?` front levels, `Y?` backplane, `Z?` cells; document 02, "Thirty-two cells": "`36RDADC F?` reads cells 17 to 32", where there are any
+-- `36RDADC X?` front levels, `Y?` backplane, `Z?` cells; document 02, "Thirty-two cells": "`36RDADC
+-- F?` reads cells 17 to 32", where there are any
 unfoldable pub readOf : ℕ → Slot → Parsed
 readOf n X = Here Front
 readOf n Y = Here Back
@@ -156,33 +158,33 @@ readOf n NoSlot = Malformed
 unfoldable pub readForm : ℕ → List ℕ → Parsed
 readForm n t = cond (eqb (charAt t 9) query && eqb (length t) 10) (readOf n (slotOf (charAt t 8))) Malformed
 
--- the words of the forms: `CCA `, `CCB`, `RDADC `, `SS Z`; `M E=`, `PM E=`, `W E`, `HOME E`, `! E`
+-- the words of the forms
 abbrev pub CCA : List ℕ
-CCA = 67 ∷ 67 ∷ 65 ∷ 32 ∷ []
+CCA = bytesOf "CCA "
 
 abbrev pub CCB : List ℕ
-CCB = 67 ∷ 67 ∷ 66 ∷ []
+CCB = bytesOf "CCB"
 
 abbrev pub RDADC : List ℕ
-RDADC = 82 ∷ 68 ∷ 65 ∷ 68 ∷ 67 ∷ 32 ∷ []
+RDADC = bytesOf "RDADC "
 
 abbrev pub SS-Z : List ℕ
-SS-Z = 83 ∷ 83 ∷ 32 ∷ 90 ∷ []
+SS-Z = bytesOf "SS Z"
 
 abbrev pub M-E= : List ℕ
-M-E= = 77 ∷ 32 ∷ 69 ∷ 61 ∷ []
+M-E= = bytesOf "M E="
 
 abbrev pub PM-E= : List ℕ
-PM-E= = 80 ∷ 77 ∷ 32 ∷ 69 ∷ 61 ∷ []
+PM-E= = bytesOf "PM E="
 
 abbrev pub W-E : List ℕ
-W-E = 87 ∷ 32 ∷ 69 ∷ []
+W-E = bytesOf "W E"
 
 abbrev pub HOME-E : List ℕ
-HOME-E = 72 ∷ 79 ∷ 77 ∷ 69 ∷ 32 ∷ 69 ∷ []
+HOME-E = bytesOf "HOME E"
 
 abbrev pub !-E : List ℕ
-!-E = 33 ∷ 32 ∷ 69 ∷ []
+!-E = bytesOf "! E"
 
 -- a card command, behind the two digits of a card's address
 unfoldable pub cardForm : ℕ → List ℕ → Parsed

@@ -1,5 +1,5 @@
--- Document 01, "Lines": a command as the text of a line, and all texts of a command. `parse` of Grammar.antt takes these and no others: "line of another
--- form or length" is all the rest.
+-- Document 01, "Lines": a command as the text of a line, and all texts of a command. `parse` of
+-- Grammar.antt takes these and no others: "line of another form or length" is all the rest.
 use Prim.Native.Nat.{ℕ, _^_}
 use Prim.Native.String.{String}
 use mathlib.Core.Path.{_≡_, refl}
@@ -32,7 +32,7 @@ letterOf NoSlot = 0
 
 -- a card command, behind the card's address: "The card's address is 36"
 abbrev pub cardLine : List ℕ → List ℕ
-cardLine text = 51 ∷ 54 ∷ text
+cardLine text = bytesOf "36" ++ text
 
 -- `36CCA p=n`, `36CCA p?`
 abbrev pub ccaText : Slot → ℕ → List ℕ
@@ -90,7 +90,8 @@ printableSlots p =
     (printableSlot (p .given .x) (p .x) && printableSlot (p .given .y) (p .y))
     && (printableSlot (p .given .z) (p .z) && printableSlot (p .given .f) (p .f))
 
--- numbers that have their form, and at least one slot in CCB; and cells 17 to 32 where there are any
+-- numbers that have their form, and at least one slot in CCB; and cells 17 to 32 where there are
+-- any
 unfoldable pub printableCommand : ℕ → Command → Bool
 printableCommand n (Move v) = printable v
 printableCommand n Where = true
@@ -117,7 +118,8 @@ printableCommand n Save = true
 
 -- ---- all texts of a command
 
--- those of a command to a card of n cells: the one that it prints as; `! E` too, of HOME; and its pairs in any order, of CCB
+-- those of a command to a card of n cells: the one that it prints as; `! E` too, of HOME; and its
+-- pairs in any order, of CCB
 pub data Says (n : ℕ) : Command → List ℕ → Type 0 where
   printed : (c : Command) → printableCommand n c ≡ true → Says n c (commandText c)
   bang : Says n Home !-E
@@ -161,5 +163,5 @@ rows =
     ∷ []
 
 written : (map (λ (e : Command × String). commandText (e .0)) rows ≡ map (λ (e : Command × String). bytesOf (e .1)) rows) × (!-E ≡ bytesOf "! E")
-unfolding commandText pairsText bytesOf decimalFrom decimal
+unfolding commandText pairsText decimalFrom decimal
 written = (refl, refl)

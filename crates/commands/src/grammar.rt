@@ -76,7 +76,7 @@ pub struct Ending {
 }
 
 // The byte at a place; past the end 0, which no form has.
-pub fn char_at(text: &[u8], at: usize) -> u8
+pub(crate) fn char_at(text: &[u8], at: usize) -> u8
     ensures { λ b. ⌜ b ≡ charAt (now (text .entry)) at ⌝ }
 {
     if at < text.len() { text[at] } else { 0 }
@@ -127,7 +127,7 @@ fn to_end(text: &[u8], at: usize) -> Ending
 }
 
 // The slot that a letter names.
-pub fn slot_of(letter: u8) -> Slot
+pub(crate) fn slot_of(letter: u8) -> Slot
     ensures { λ s. ⌜ s ≡ slotOf letter ⌝ }
 {
     if letter == b'X' {

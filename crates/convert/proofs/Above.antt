@@ -18,7 +18,8 @@ use Rattle.card.specs.declared.card.Connector.{Connector}
 use Rattle.card.specs.Address.{cellRoom, connectorCount, firstCell, firstConnector, among, baseOf, isEdge}
 use Rattle.card.specs.Fresh.{noCell}
 use Rattle.card.specs.Valid.{permittedBase, badCellType, badConnectorType, badAddress, validSlot, validSlots}
-use Rattle.card.specs.Valid.{validCell, validConnector, every, valid, validCard}
+use Rattle.text.specs.Digits.{every}
+use Rattle.card.specs.Valid.{validCell, validConnector, valid, validCard}
 use Rattle.card.specs.Valid.{largestAddress}
 use Rattle.card.proofs.Places.{among-in, among-below, among-above}
 use Rattle.card.proofs.Settings.{first-at, first-pass, taken-room, Sound, split, cell-slots}

@@ -23,8 +23,10 @@ use Rattle.card.specs.declared.card.Card.{Card}
 use Rattle.card.specs.Address.{cellCount, cellRoom}
 use Rattle.card.specs.Edits.{clearedCell}
 use Rattle.card.specs.Fresh.{clearState, noCell, freshCell, fresh}
-use Rattle.card.specs.Valid.{validSlot, validSlots, validCell, validCard, every}
-use Rattle.card.proofs.Settings.{every-at, every-listed, config-most, split}
+use Rattle.text.specs.Digits.{every}
+use Rattle.card.specs.Valid.{validSlot, validSlots, validCell, validCard}
+use Rattle.text.proofs.DigitLaws.{every-at}
+use Rattle.card.proofs.Settings.{every-listed, config-most, split}
 use Rattle.card.proofs.Slots.{four}
 use Rattle.card.specs.Connectors.{each}
 use Rattle.card.proofs.ValidLaws.{all-four, slots-pass, settings-valid}

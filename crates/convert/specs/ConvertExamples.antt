@@ -1,5 +1,6 @@
--- Document 02, "Records for cards already at sea" and "Thirty-two cells", as tables by computation: the records of saved/specs/RecordExamples, and what
--- is given for them each way, where bytes of them are others, and where the buffer is short.
+-- Document 02, "Records for cards already at sea" and "Thirty-two cells", as tables by computation:
+-- the records of saved/specs/RecordExamples, and what is given for them each way, where bytes of
+-- them are others, and where the buffer is short.
 use Prim.Native.Nat.{ℕ}
 use mathlib.Core.Path.{_≡_, refl}
 use mathlib.Core.List.{List, [], _∷_, _++_, map}
@@ -8,13 +9,15 @@ use Rattle.words.specs.Listed.{listed}
 use Rattle.cells.specs.Table.{rowOf}
 use Rattle.card.specs.Address.{cellCount}
 use Rattle.card.specs.Valid.{permittedBase, badClock, frontDriven, badCellType, badConnectorType, badAddress, validSlot, validSlots, validCell}
-use Rattle.card.specs.Valid.{validConnector, every, valid}
+use Rattle.text.specs.Digits.{every}
+use Rattle.card.specs.Valid.{validConnector, valid}
 use Rattle.saved.specs.Record.{bigEndian, cellField, connectorField, fieldsFrom, encode, bigValue, cellIn, connectorIn, normalCell, sameBytes, loadNumberAs}
 use Rattle.saved.specs.Record.{loadNumber, normalRecord}
 use Rattle.saved.specs.RecordExamples.{whole, part, oldCell, old, changed, constantField, large, oldLarge}
 use Rattle.convert.specs.Convert.{narrowCell, tooLong, isBlank, readsAbove, slotsBelow, sourceBelow, aboveSmall, convertNumber, otherForm, convertLength, convertedTo}
 
--- `whole` has durations 4294967295 and 70000 and the constant 258. With durations that two bytes hold it has the settings of `old`, 276 bytes
+-- `whole` has durations 4294967295 and 70000 and the constant 258. With durations that two bytes
+-- hold it has the settings of `old`, 276 bytes
 fitting : List ℕ
 fitting = changed ((113, 0) ∷ (114, 0) ∷ (126, 0) ∷ (127, 0) ∷ []) whole
 
@@ -73,7 +76,8 @@ numbers =
     ∷ (number 275 (replicate 308 0), 1 ∷ [])
     ∷ (number 307 (changed ((3, 5) ∷ []) old), 1 ∷ [])
     ∷ (number 275 whole, 1 ∷ [])
-    -- 14 and 15 as the loader: a tag, the length of a field of the other form, the clock 5, type 23, a reserved source
+    -- 14 and 15 as the loader: a tag, the length of a field of the other form, the clock 5, type
+    -- 23, a reserved source
     ∷ (number 276 (changed ((0, 2) ∷ []) fitting), 14 ∷ [])
     ∷ (number 308 (changed ((50, 10) ∷ []) old), 14 ∷ [])
     ∷ (number 276 (changed ((58, 8) ∷ []) fitting), 14 ∷ [])
@@ -127,7 +131,8 @@ largeForms =
     ∷ (number 275 large, 1 ∷ [])
     ∷ []
 
--- 14 and 15 as the loader of a large card: the number of cell 17, the clock 5; slot Z of AND2, which is not used, with the address of a cell above 16
+-- 14 and 15 as the loader of a large card: the number of cell 17, the clock 5; slot Z of AND2,
+-- which is not used, with the address of a cell above 16
 abbrev largeLoads : List (List ℕ × List ℕ)
 largeLoads =
     (above ((215, 18) ∷ []), 14 ∷ [])
@@ -135,7 +140,8 @@ largeLoads =
     ∷ (above ((80, 20) ∷ []), 15 ∷ [])
     ∷ []
 
--- 17, "a duration over 65535", in cells 9 and 10, and in cell 32 by 1; before 18, which applies to cell 32 too, and to cell 17 as AND2
+-- 17, "a duration over 65535", in cells 9 and 10, and in cell 32 by 1; before 18, which applies to
+-- cell 32 too, and to cell 17 as AND2
 abbrev largeLong : List (List ℕ × List ℕ)
 largeLong =
     (number 276 large, 17 ∷ [])
@@ -143,7 +149,8 @@ largeLong =
     ∷ (number 276 (changed ((216, 5) ∷ []) large), 17 ∷ [])
     ∷ []
 
--- 18: "sets a cell above 16 to anything but constant 0": AND2, a one-shot that has room, constant 1 and constants that are loaded as 1
+-- 18: "sets a cell above 16 to anything but constant 0": AND2, a one-shot that has room, constant 1
+-- and constants that are loaded as 1
 abbrev largeSet : List (List ℕ × List ℕ)
 largeSet =
     (above ((216, 5) ∷ []), 18 ∷ [])
@@ -152,7 +159,8 @@ largeSet =
     ∷ (above ((412, 255) ∷ []), 18 ∷ [])
     ∷ []
 
--- 18, "or reads one": the level of cell 20 and the inverse of cell 32 in AND2, the rise of cell 17 at a clock
+-- 18, "or reads one": the level of cell 20 and the inverse of cell 32 in AND2, the rise of cell 17
+-- at a clock
 abbrev largeReads : List (List ℕ × List ℕ)
 largeReads =
     (above ((78, 20) ∷ []), 18 ∷ [])

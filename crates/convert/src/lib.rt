@@ -3,7 +3,7 @@ ghost use mathlib.Core.Path.{_≡_};
 ghost use Prim.Native.Nat.{_+_, _≤_};
 ghost use lib.ListN.{length, take, drop};
 ghost use Rattle.card.specs.Address.{cellCount, cellRoom};
-ghost use Rattle.card.specs.Valid.{every};
+ghost use Rattle.text.specs.Digits.{every};
 ghost use Rattle.saved.specs.Record.{configWidth, recordLength};
 ghost use Rattle.convert.specs.Convert.{cellsOf, otherWidth, narrowCell, isBlank, convertNumber, convertLength, convertedTo};
 use card::connectors::each_of;

@@ -2,25 +2,23 @@
 use Prim.Native.Nat.{ℕ, zero, suc, _+_, _^_, _≤_, _<_}
 use mathlib.Core.Path.{_≡_, refl, sym, ap, ap₂, _∙_}
 use mathlib.Core.Bool.{Bool, true, false, not, _&&_, cond}
-use mathlib.Core.List.{List, [], _∷_, _++_, map}
+use mathlib.Core.List.{List, [], _++_}
 use native.Mathlib.Omega.{arith}
 use native.Mathlib.Nat.{zero-add, le-refl}
 use borrow.Author.Tests.{eqb-true, le-ltb, lt-ltb, ltb-true, ltb-false}
 use lib.Dec.{eqb, ltb, lit≤, lit<}
-use lib.ListN.{length, take, drop, getD, length-append, length-drop, length-map, List·getD-append, List·getD-map}
-use lib.Seq.{sets, sets-eq, take-append-seam, drop-at, getD-take}
+use lib.ListN.{length, take, drop, length-append, length-drop}
+use lib.Seq.{sets, sets-eq, take-append-seam, drop-at}
 use Rattle.cells.proofs.Gates.{looked-and, looked-or, lookup-code}
 use Rattle.card.specs.declared.card.Card.{Card}
 use Rattle.card.specs.Address.{cellCount, cellRoom}
-use Rattle.card.specs.Edits.{clearedCell, clearedCells, home}
-use Rattle.card.specs.Fresh.{noCell, freshOf}
 use Rattle.card.specs.Valid.{validCard}
-use Rattle.card.proofs.ValidLaws.{sound}
+use Rattle.card.proofs.ValidLaws.{home-clears}
 use Rattle.ticks.proofs.Counting.{counts-on}
 use Rattle.ticks.proofs.Effective.{effective-bit}
 use Rattle.ticks.proofs.Exact.{works-exactly}
 use Rattle.ticks.proofs.Quarters.{reads-entry}
-use Rattle.ticks.proofs.Timing.{keeps-word, ignores-all}
+use Rattle.ticks.proofs.Timing.{timer-promise, ignores-all}
 use Rattle.ticks.proofs.Views.{sees-cell, sees-line}
 use Rattle.survey.proofs.Ticks.{unreached}
 use Rattle.saved.specs.Record.{configWidth, recordLength, recordOf, savedTo, loadNumber, loaded}
@@ -35,7 +33,7 @@ use Rattle.lines.specs.Line.{shortestReply, replyWith, replyOf, lineOutcome, li
 use Rattle.calls.specs.Calls.{Call, savedBytes, end}
 use Rattle.calls.specs.RequiredExamples.{one-table}
 use Rattle.calls.specs.SaveLoad.{Saves}
-use Rattle.calls.proofs.Honest.{who-wakes}
+use Rattle.calls.proofs.MemoryIsHistory.{who-wakes}
 use Rattle.calls.proofs.Lists.{refused-kept, demand3}
 use Rattle.calls.proofs.Reached.{fresh-reached-valid}
 use Rattle.calls.proofs.Rest.{rest-lasts}
@@ -46,14 +44,14 @@ use Rattle.printed.specs.Print.{wiringText, tooLong, printNumber, printLength, 
 use Rattle.printed.proofs.Feeds.{feeds-back}
 use Rattle.printed.proofs.Longest.{longest-text}
 use Rattle.printed.proofs.Settable.{valid-is-settable}
-use Rattle.rack.proofs.Alone.{alone-in-row, shared-keeps-word}
+use Rattle.rack.proofs.Alone.{alone-in-row, shared-timer-promise}
 use Rattle.rack.proofs.Buffers.{rack-buffers}
 use Rattle.rack.proofs.Cards.{is-card, reached}
 use Rattle.rack.proofs.Racks.{rack-demand3}
-use Rattle.rack.proofs.Supplies.{within-supply, gets-its-four}
+use Rattle.rack.proofs.Supplies.{within-supply, share-guaranteed}
 use Rattle.steady.proofs.Laws.{keeps-all, rests-forever, makes-all, makes-some}
 use Rattle.steady.proofs.Lists.{stands-for-ticks, answers-for-ticks}
-use Rattle.demands.specs.Demands.{Holds, ifAccepted, LineLeaves, PrintLeaves, ConvertLeaves, Demand1, Demand2, Demand3}
+use Rattle.demands.specs.Demands.{Holds, ifAccepted, PrintLeaves, ConvertLeaves, Demand1, Demand2, Demand3}
 use Rattle.demands.specs.Demands.{FourSlots, Racks, WakeTallies, Requests, Added, Size, Demands}
 use Rattle.demands.specs.Demands.Size.{small, large}
 
@@ -114,16 +112,10 @@ module _ (n : ℕ) (c : Card) (text reply store : List ℕ) where
       go true false e s = untouched store
       go false b e s = untouched store
 
-line-leaves : (n : ℕ) (c : Card) (text reply store : List ℕ) → validCard n c ≡ true → lineResult n c text reply store .len ≤ shortestReply
-    → LineLeaves n c text reply store
+length-replied : (n : ℕ) (c : Card) (text reply store : List ℕ)
+    → lineResult n c text reply store .len ≡ length (lineReply n c text (length reply) (length store))
 unfolding lineReply
-line-leaves n c text reply store ok most =
-    record {
-      refused = refused-kept n c text (length reply) (length store);
-      len = refl;
-      replied = replied n c text reply store most;
-      stored = stored n c text reply store ok;
-    }
+length-replied n c text reply store = refl
 
 print-leaves : (n : ℕ) (c : Card) (buffer : List ℕ) → PrintLeaves n c buffer
 print-leaves n c buffer = go (tooLong n c (length buffer)) refl
@@ -148,21 +140,20 @@ convert-leaves n some few bytes buffer = go (eqb (convertNumber n (length buffer
         let is = refused-as n (convertNumber n (length buffer) bytes) bytes buffer refl e in
         record { len = rw e (sym (is .1)); written = rw (e, ← is .2) (untouched buffer) }
 
--- ---- demand 2
-
-home-clears : (n : ℕ) (c : Card) (i : ℕ) → validCard n c ≡ true → i < n → getD (home n c .cells) i noCell ≡ clearedCell (getD (c .cells) i noCell)
-unfolding home
-home-clears n c i ok h =
-    let cleared = map clearedCell (take n (c .cells)) in
-    let long : length cleared ≡ n = length-map (take n (c .cells)) clearedCell ∙ sound n c ok .cell-count in
-    List·getD-append cleared (drop n (c .cells)) noCell i (rw long h) ∙ List·getD-map clearedCell (take n (c .cells)) i noCell
-    ∙ ap clearedCell (getD-take n (c .cells) i noCell h)
-
 -- ---- the theorem
 
 module _ (n : ℕ) (more : cellCount ≤ n) (few : n ≤ cellRoom) where
   demand-1 : Demand1 n
-  demand-1 = record { line = line-leaves n; load = load-refused n; print = print-leaves n; convert = convert-leaves cellCount (lit< tt) (le-refl cellCount) }
+  demand-1 =
+      record {
+        line-refused = λ c text reply store. refused-kept n c text (length reply) (length store);
+        length-replied = length-replied n;
+        line-replied = replied n;
+        line-stored = stored n;
+        load = load-refused n;
+        print = print-leaves n;
+        convert = convert-leaves cellCount (lit< tt) (le-refl cellCount);
+      }
 
   demand-2 : Demand2 n
   demand-2 =
@@ -176,7 +167,7 @@ module _ (n : ℕ) (more : cellCount ≤ n) (few : n ≤ cellRoom) where
         lookup = lookup-code;
         sees-cell = sees-cell n;
         sees-line = sees-line n few;
-        home = home-clears n;
+        home = λ c i ok h. home-clears n c ok i h;
       }
 
   demand-3 : Demand3 n
@@ -187,7 +178,7 @@ module _ (n : ℕ) (more : cellCount ≤ n) (few : n ≤ cellRoom) where
       record {
         interchangeable = rack-demand3 n;
         within-supply = within-supply n;
-        four-each = gets-its-four n;
+        four-each = share-guaranteed n;
         is-card = is-card n;
         reached = reached;
         buffers = rack-buffers n;
@@ -210,8 +201,8 @@ module _ (n : ℕ) (more : cellCount ≤ n) (few : n ≤ cellRoom) where
         racks = racks;
         tallies = record { every-list = every-list-tallied n; named = who-is-named n; grows = grows-as-answered n };
         takes-trigger = λ c s i timer duration ran took. record { timer = timer; duration = duration; ran = ran; took = took };
-        timers = keeps-word n;
-        shared-timers = shared-keeps-word n;
+        timers = timer-promise n;
+        shared-timers = shared-timer-promise n;
       }
 
   added : Added n

@@ -46,7 +46,7 @@ fn connector_index(x: Context) -> u8 {
 fn put_here(out: &mut Page, at: usize, x: Context) -> usize {
     let cell = x.cell;
     let a = put(out, at, b"    ");
-    if x.celled {
+    if x.at_cell {
         return typed_cell(out, a, cell_index(x), cell.kind);
     }
     connector_name(out, a, connector_index(x))
@@ -57,7 +57,7 @@ fn put_pointer(out: &mut Page, at: usize, x: Context) -> usize {
     let cell = x.cell;
     let connector = x.connector;
     let a = put(out, at, b"    The pointer is at ");
-    if x.celled {
+    if x.at_cell {
         let b = typed_cell(out, a, cell_index(x), cell.kind);
         return put(out, b, b".\n");
     }
@@ -103,7 +103,7 @@ fn put_preset(out: &mut Page, at: usize, v: Number, before: Card, after: Card) -
 fn put_kind(out: &mut Page, at: usize, x: Context) -> usize {
     let cell = x.cell;
     let connector = x.connector;
-    if x.celled {
+    if x.at_cell {
         let a = put_cell(out, at, cell_index(x), cell);
         return put(
             out,
@@ -159,7 +159,7 @@ fn put_source(out: &mut Page, at: usize, x: Context) -> usize {
 // A new configuration, or a new source.
 fn put_set_config(out: &mut Page, at: usize, x: Context) -> usize {
     let cell = x.cell;
-    if !x.celled {
+    if !x.at_cell {
         return put_source(out, at, x);
     }
     let a = put_here(out, at, x);
@@ -249,7 +249,7 @@ fn put_get_kind(out: &mut Page, at: usize, x: Context) -> usize {
     let cell = x.cell;
     let connector = x.connector;
     let a = put_here(out, at, x);
-    if x.celled {
+    if x.at_cell {
         return around(out, a, b": type ", cell.kind as u32, b".\n");
     }
     let b = around(out, a, b": type ", connector.kind as u32, b", ");
@@ -260,7 +260,7 @@ fn put_get_kind(out: &mut Page, at: usize, x: Context) -> usize {
 // The configuration at the pointer; a counter shows its count, a connector its source.
 fn put_get_config(out: &mut Page, at: usize, x: Context) -> usize {
     let cell = x.cell;
-    if !x.celled {
+    if !x.at_cell {
         return put_source(out, at, x);
     }
     let class = class_of(cell.kind);

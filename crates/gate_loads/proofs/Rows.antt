@@ -49,7 +49,7 @@ module _ (row : List ℕ) (ok : isRow row ≡ true) where
   row-short = ⊎-elim (λ one. omega arith) (λ both. both .0) (row-parts row ok)
 
   pub row-hex : (i : ℕ) → i < length row → 2 ≤ length row → isHex (getD row i 0) ≡ true
-  row-hex i h two = ⊎-elim (λ one. absurd (omega arith)) (λ both. every-at isHex row i (both .1) h) (row-parts row ok)
+  row-hex i h two = ⊎-elim (λ one. absurd (omega arith)) (λ both. every-at isHex row i 0 (both .1) h) (row-parts row ok)
 
 -- ---- a conversion
 

@@ -1,11 +1,13 @@
--- Document 01, row 1 of "When the card says no", by the lengths of the two buffers, and document 02's "a store of that size", 308, or 516 on thirty-two cells:
--- lines to a fresh card, by computation. With them the longest reply, which the shortest reply buffer holds.
+-- Document 01, row 1 of "When the card says no", by the lengths of the two buffers, and document
+-- 02's "a store of that size", 308, or 516 on thirty-two cells: lines to a fresh card, by
+-- computation. With them the longest reply, which the shortest reply buffer holds, and what a line
+-- leaves of buffers that are longer.
 use Prim.Native.Nat.{ℕ}
 use Prim.Native.String.{String}
 use mathlib.Core.Path.{_≡_, refl}
 use mathlib.Core.Bool.{cond}
 use mathlib.Core.List.{List, [], _∷_, _++_, map}
-use lib.ListN.{length}
+use lib.ListN.{length, replicate}
 use Rattle.words.specs.Listed.{listed}
 use Rattle.text.specs.Digits.{valueBy}
 use Rattle.text.specs.Decimal.{isDigit, digitsOf, leads, plain, numberIn, numberAt, decimalFrom, decimal}
@@ -22,7 +24,7 @@ use Rattle.card.specs.Fresh.{fresh, freshOf}
 use Rattle.card.specs.Valid.{badConfig, noConfig}
 use Rattle.commands.specs.Grammar.{isWord, isWhole, toEnd, slotOf, writeOf, ccaWrite, ccaRead, ccaForm, readForm, cardForm, plainForm, addressed, parse}
 use Rattle.lines.specs.Refusal.{refusal}
-use Rattle.lines.specs.Line.{ending, shortestReply, changeFor, responseTo, decision, decisionFor, lineDecision, lineOutcome, replyOf, lineReply}
+use Rattle.lines.specs.Line.{ending, shortestReply, changeFor, responseTo, decision, decisionFor, lineDecision, lineOutcome, replyOf, lineReply, lineResult}
 
 -- a line, the lengths of the reply buffer and of the store; its number, and the length of its reply
 pub record Row : Type 0 where
@@ -35,113 +37,32 @@ pub record Row : Type 0 where
 abbrev row : String → (reply store k len : ℕ) → Row
 row text reply store k len = record { text = text; reply = reply; store = store; k = k; len = len }
 
+-- each length at its limit and one below, with the others at theirs; a line to another card, one
+-- that saves nothing and one of no form
 abbrev rows : List Row
 rows =
     row "36SS Z" 0 0 1 0
-    ∷ row "36SS Z" 15 0 1 0
-    ∷ row "36SS Z" 16 0 1 6
-    ∷ row "36SS Z" 17 0 1 6
-    ∷ row "36SS Z" 0 275 1 0
-    ∷ row "36SS Z" 15 275 1 0
-    ∷ row "36SS Z" 16 275 1 6
-    ∷ row "36SS Z" 17 275 1 6
-    ∷ row "36SS Z" 0 276 1 0
-    ∷ row "36SS Z" 15 276 1 0
-    ∷ row "36SS Z" 16 276 1 6
-    ∷ row "36SS Z" 17 276 1 6
-    ∷ row "36SS Z" 0 307 1 0
-    ∷ row "36SS Z" 15 307 1 0
-    ∷ row "36SS Z" 16 307 1 6
-    ∷ row "36SS Z" 17 307 1 6
-    ∷ row "36SS Z" 0 308 1 0
     ∷ row "36SS Z" 15 308 1 0
+    ∷ row "36SS Z" 16 276 1 6
+    ∷ row "36SS Z" 16 307 1 6
     ∷ row "36SS Z" 16 308 0 4
-    ∷ row "36SS Z" 17 308 0 4
-    ∷ row "36SS Z" 0 309 1 0
-    ∷ row "36SS Z" 15 309 1 0
-    ∷ row "36SS Z" 16 309 0 4
     ∷ row "36SS Z" 17 309 0 4
-    ∷ row "36SS Z" 0 400 1 0
-    ∷ row "36SS Z" 15 400 1 0
-    ∷ row "36SS Z" 16 400 0 4
-    ∷ row "36SS Z" 17 400 0 4
-    ∷ row "35SS Z" 0 0 1 0
     ∷ row "35SS Z" 15 0 1 0
     ∷ row "35SS Z" 16 0 3 6
-    ∷ row "35SS Z" 17 0 3 6
-    ∷ row "35SS Z" 0 275 1 0
-    ∷ row "35SS Z" 15 275 1 0
-    ∷ row "35SS Z" 16 275 3 6
-    ∷ row "35SS Z" 17 275 3 6
-    ∷ row "W E" 0 0 1 0
     ∷ row "W E" 15 0 1 0
     ∷ row "W E" 16 0 0 6
-    ∷ row "W E" 17 0 0 6
-    ∷ row "W E" 0 275 1 0
-    ∷ row "W E" 15 275 1 0
-    ∷ row "W E" 16 275 0 6
-    ∷ row "W E" 17 275 0 6
-    ∷ row "36CCA Q=1" 0 0 1 0
     ∷ row "36CCA Q=1" 15 0 1 0
     ∷ row "36CCA Q=1" 16 0 2 6
-    ∷ row "36CCA Q=1" 17 0 2 6
-    ∷ row "36CCA Q=1" 0 275 1 0
-    ∷ row "36CCA Q=1" 15 275 1 0
-    ∷ row "36CCA Q=1" 16 275 2 6
-    ∷ row "36CCA Q=1" 17 275 2 6
     ∷ []
 
 -- of a card of thirty-two cells, whose record has 516 bytes
 abbrev largeRows : List Row
 largeRows =
-    row "36SS Z" 0 0 1 0
-    ∷ row "36SS Z" 15 0 1 0
-    ∷ row "36SS Z" 16 0 1 6
-    ∷ row "36SS Z" 17 0 1 6
-    ∷ row "36SS Z" 0 276 1 0
-    ∷ row "36SS Z" 15 276 1 0
-    ∷ row "36SS Z" 16 276 1 6
-    ∷ row "36SS Z" 17 276 1 6
-    ∷ row "36SS Z" 0 308 1 0
-    ∷ row "36SS Z" 15 308 1 0
+    row "36SS Z" 15 516 1 0
     ∷ row "36SS Z" 16 308 1 6
-    ∷ row "36SS Z" 17 308 1 6
-    ∷ row "36SS Z" 0 515 1 0
-    ∷ row "36SS Z" 15 515 1 0
     ∷ row "36SS Z" 16 515 1 6
-    ∷ row "36SS Z" 17 515 1 6
-    ∷ row "36SS Z" 0 516 1 0
-    ∷ row "36SS Z" 15 516 1 0
     ∷ row "36SS Z" 16 516 0 4
-    ∷ row "36SS Z" 17 516 0 4
-    ∷ row "36SS Z" 0 517 1 0
-    ∷ row "36SS Z" 15 517 1 0
-    ∷ row "36SS Z" 16 517 0 4
-    ∷ row "36SS Z" 17 517 0 4
-    ∷ row "35SS Z" 0 0 1 0
-    ∷ row "35SS Z" 15 0 1 0
     ∷ row "35SS Z" 16 0 3 6
-    ∷ row "35SS Z" 17 0 3 6
-    ∷ row "35SS Z" 0 276 1 0
-    ∷ row "35SS Z" 15 276 1 0
-    ∷ row "35SS Z" 16 276 3 6
-    ∷ row "35SS Z" 17 276 3 6
-    ∷ row "W E" 0 0 1 0
-    ∷ row "W E" 15 0 1 0
-    ∷ row "W E" 16 0 0 6
-    ∷ row "W E" 17 0 0 6
-    ∷ row "W E" 0 276 1 0
-    ∷ row "W E" 15 276 1 0
-    ∷ row "W E" 16 276 0 6
-    ∷ row "W E" 17 276 0 6
-    ∷ row "36CCA Q=1" 0 0 1 0
-    ∷ row "36CCA Q=1" 15 0 1 0
-    ∷ row "36CCA Q=1" 16 0 2 6
-    ∷ row "36CCA Q=1" 17 0 2 6
-    ∷ row "36CCA Q=1" 0 276 1 0
-    ∷ row "36CCA Q=1" 15 276 1 0
-    ∷ row "36CCA Q=1" 16 276 2 6
-    ∷ row "36CCA Q=1" 17 276 2 6
     ∷ []
 
 -- the line to a fresh card of n cells
@@ -154,7 +75,7 @@ expected : Row → ℕ × ℕ
 expected e = (e .k, e .len)
 
 examples : (map (given cellCount) rows ≡ map expected rows) × (map (given cellRoom) largeRows ≡ map expected largeRows)
-unfolding given expected listed bytesOf isDigit digitsOf leads plain numberIn numberAt decimalFrom decimal fresh currentCell currentConnector isWord isWhole toEnd slotOf writeOf ccaWrite ccaRead ccaForm readForm cardForm plainForm addressed parse refusal changed changeFor responseTo decision decisionFor lineDecision lineOutcome replyOf lineReply kindAt sourceAt withKind withSource each fromEach wellFormed bitAt wordOf
+unfolding given expected listed isDigit digitsOf leads plain numberIn numberAt decimalFrom decimal fresh currentCell currentConnector isWord isWhole toEnd slotOf writeOf ccaWrite ccaRead ccaForm readForm cardForm plainForm addressed parse refusal changed changeFor responseTo decision decisionFor lineDecision lineOutcome replyOf lineReply kindAt sourceAt withKind withSource each fromEach wellFormed bitAt wordOf
 examples = (refl, refl)
 
 -- the longest reply: the duration of a timer, in a buffer of 16 bytes
@@ -165,5 +86,18 @@ longestReply : List ℕ
 longestReply = lineReply cellCount (afterLine (setType cellCount fresh 9) "36CCA Z=4294967295") (bytesOf "36CCA Z?") shortestReply 0
 
 longest-reply : (longestReply ≡ bytesOf ":A 4294967295" ++ ending) × (length longestReply ≡ 15)
-unfolding afterLine longestReply listed bytesOf valueBy isDigit digitsOf leads plain numberIn numberAt decimalFrom decimal rowOf fresh currentCell currentConnector putCell typed setType configuredState configured setConfig configShown badConfig noConfig isWord isWhole toEnd slotOf writeOf ccaWrite ccaRead ccaForm readForm cardForm plainForm addressed parse refusal changed changeFor responseTo decision decisionFor lineDecision lineOutcome replyOf lineReply kindAt sourceAt withKind withSource each fromEach wellFormed bitAt wordOf
+unfolding afterLine longestReply listed valueBy isDigit digitsOf leads plain numberIn numberAt decimalFrom decimal rowOf fresh currentCell currentConnector putCell typed setType configuredState configured setConfig configShown badConfig noConfig isWord isWhole toEnd slotOf writeOf ccaWrite ccaRead ccaForm readForm cardForm plainForm addressed parse refusal changed changeFor responseTo decision decisionFor lineDecision lineOutcome replyOf lineReply kindAt sourceAt withKind withSource each fromEach wellFormed bitAt wordOf
 longest-reply = (refl, refl)
+
+-- "The reply is at the front of the reply buffer": what is beyond it stays, and so does a store
+-- that is not written to
+left : (reply store : ℕ) → String → List ℕ × List ℕ
+left reply store text =
+    let r = lineResult cellCount fresh (bytesOf text) (replicate reply 7) (replicate store 7) in
+    (r .reply, r .store)
+
+untouched : (left 20 3 "W E" ≡ (bytesOf ":A 1\r\n" ++ replicate 14 7, replicate 3 7))
+    × (left 20 3 "36SS Z" ≡ (bytesOf ":N-1\r\n" ++ replicate 14 7, replicate 3 7))
+    × (left 15 3 "W E" ≡ (replicate 15 7, replicate 3 7))
+unfolding left listed isDigit digitsOf leads plain numberIn numberAt decimalFrom decimal fresh currentCell currentConnector isWord isWhole toEnd slotOf writeOf ccaWrite ccaRead ccaForm readForm cardForm plainForm addressed parse refusal changed changeFor responseTo decision decisionFor lineDecision lineOutcome replyOf lineReply kindAt sourceAt withKind withSource each fromEach wellFormed bitAt wordOf
+untouched = (refl, refl, refl)

@@ -1,5 +1,5 @@
--- The examples of document 01's table "When the card says no", with the cases of precedence and those of document 02, as one table by computation;
--- and the whole text of some replies.
+-- The examples of document 01's table "When the card says no", with the cases of precedence and
+-- those of document 02, as one table by computation; and the whole text of some replies.
 use Prim.Native.Nat.{ℕ}
 use Prim.Native.String.{String}
 use mathlib.Core.Path.{_≡_, refl}
@@ -110,13 +110,15 @@ numbers =
     ∷ (number (typedCard 5) "36CCB X=41 Y=192", 0)
     ∷ (number fresh "HOME E", 0)
     ∷ (number fresh "! E", 0)
-    -- document 02, "Long exposures": below the limit of a line's number, a large one meets the next rule; "`M E=70000` now gives 5"
+    -- document 02, "Long exposures": below the limit of a line's number, a large one meets the next
+    -- rule; "`M E=70000` now gives 5"
     ∷ (number fresh "M E=70000", 5)
     ∷ (number fresh "PM E=70000", 7)
     ∷ (number fresh "36CCA Y=70000", 7)
     ∷ (number (at 33) "36CCA Y=70000", 7)
     ∷ (number fresh "36CCA X=70000", 8)
-    -- "lookup codes, constants and counter cells do not" go above 65535, and gates have no configuration; the source of a connector is an address
+    -- "lookup codes, constants and counter cells do not" go above 65535, and gates have no
+    -- configuration; the source of a connector is an address
     ∷ (number fresh "36CCA Z=70000", 9)
     ∷ (number (typedCard 4) "36CCA Z=65536", 9)
     ∷ (number (typedCard 4) "36CCA Z=65535", 0)
@@ -139,7 +141,7 @@ numbers =
     ∷ []
 
 examples : map (λ (e : ℕ × ℕ). e .0) numbers ≡ map (λ (e : ℕ × ℕ). e .1) numbers
-unfolding listed bytesOf numberWith number at typedCard frontCard withBit wordOf bitAt valueBy isDigit digitsOf leads plain numberIn numberAt rowOf currentCell currentConnector putCell typed setType setTrigger fresh permittedBase badPlace badCellType badConnectorType badClock badConfig noConfig unusedSlot badAddress badStateAs badState noState frontDriven presetTable settingOf offered presetCell presetSource setsFront preset isWord isWhole toEnd slotOf gave give pairRead pairsOf writeOf ccaWrite ccaRead ccaForm slotForm ccbForm readOf readForm cardForm plainForm addressed parse alone refusal changed changeFor responseTo decision decisionFor lineDecision lineOutcome kindAt sourceAt withKind withSource each fromEach wellFormed
+unfolding listed numberWith number at typedCard frontCard withBit wordOf bitAt valueBy isDigit digitsOf leads plain numberIn numberAt rowOf currentCell currentConnector putCell typed setType setTrigger fresh permittedBase badPlace badCellType badConnectorType badClock badConfig noConfig unusedSlot badAddress badStateAs badState noState frontDriven presetTable settingOf offered presetCell presetSource setsFront preset isWord isWhole toEnd slotOf gave give pairRead pairsOf writeOf ccaWrite ccaRead ccaForm slotForm ccbForm readOf readForm cardForm plainForm addressed parse alone refusal changed changeFor responseTo decision decisionFor lineDecision lineOutcome kindAt sourceAt withKind withSource each fromEach wellFormed
 examples = refl
 
 -- ---- the whole text of a reply
@@ -176,5 +178,5 @@ replies =
     ∷ []
 
 texts : map (λ (e : String × String). replyTo (e .0)) replies ≡ map (λ (e : String × String). bytesOf (e .1)) replies
-unfolding replyTo told listed bytesOf withBit wordOf bitAt valueBy isDigit digitsOf leads plain numberIn numberAt decimalFrom decimal rowOf currentCell currentConnector putCell typed setType setTrigger fresh permittedBase badPlace badCellType badConnectorType badClock badConfig noConfig unusedSlot badAddress badStateAs badState noState frontDriven presetTable settingOf offered presetCell presetSource setsFront preset isWord isWhole toEnd slotOf gave give pairRead pairsOf writeOf ccaWrite ccaRead ccaForm slotForm ccbForm readOf readForm cardForm plainForm addressed parse alone refusal changed changeFor responseTo decision decisionFor lineDecision lineOutcome replyOf lineReply kindAt sourceAt withKind withSource each fromEach wellFormed
+unfolding replyTo told listed withBit wordOf bitAt valueBy isDigit digitsOf leads plain numberIn numberAt decimalFrom decimal rowOf currentCell currentConnector putCell typed setType setTrigger fresh permittedBase badPlace badCellType badConnectorType badClock badConfig noConfig unusedSlot badAddress badStateAs badState noState frontDriven presetTable settingOf offered presetCell presetSource setsFront preset isWord isWhole toEnd slotOf gave give pairRead pairsOf writeOf ccaWrite ccaRead ccaForm slotForm ccbForm readOf readForm cardForm plainForm addressed parse alone refusal changed changeFor responseTo decision decisionFor lineDecision lineOutcome replyOf lineReply kindAt sourceAt withKind withSource each fromEach wellFormed
 texts = refl

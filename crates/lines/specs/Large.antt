@@ -1,4 +1,5 @@
--- Document 02, "Thirty-two cells": the numbers that a card of sixteen cells and one of thirty-two give to the same line, by computation.
+-- Document 02, "Thirty-two cells": the numbers that a card of sixteen cells and one of thirty-two
+-- give to the same line, by computation.
 use Prim.Native.Nat.{ℕ}
 use Prim.Native.String.{String}
 use mathlib.Core.Path.{_≡_, refl}
@@ -22,7 +23,8 @@ use Rattle.commands.specs.Grammar.{readOf, readForm, cardForm, plainForm, addre
 use Rattle.lines.specs.Refusal.{refusal}
 use Rattle.lines.specs.Line.{changeFor, responseTo, decision, decisionFor, lineDecision, lineOutcome}
 
--- the number of a line with room for its reply and a store of some length, on a card of each size made from a fresh one
+-- the number of a line with room for its reply and a store of some length, on a card of each size
+-- made from a fresh one
 both : (ℕ → Card → Card) → (store : ℕ) → String → ℕ × ℕ
 both made store text = (
   lineOutcome cellCount (made cellCount (freshOf cellCount)) (bytesOf text) 16 store .k,
@@ -66,7 +68,7 @@ numbers =
     ∷ []
 
 number-table : map (λ (e : (ℕ × ℕ) × (ℕ × ℕ)). e .0) numbers ≡ map (λ (e : (ℕ × ℕ) × (ℕ × ℕ)). e .1) numbers
-unfolding both fresh and2 front listed bytesOf withBit wordOf bitAt valueBy isDigit digitsOf leads plain numberIn numberAt rowOf currentCell
+unfolding both fresh and2 front listed withBit wordOf bitAt valueBy isDigit digitsOf leads plain numberIn numberAt rowOf currentCell
     currentConnector putCell typed setType setTrigger permittedBase badPlace unusedSlot badAddress presetTable settingOf offered presetCell presetSource setsFront preset
     isWord isWhole toEnd slotOf gave give pairRead pairsOf writeOf ccaWrite ccaRead ccaForm slotForm ccbForm readOf readForm cardForm plainForm
     addressed parse refusal changed changeFor responseTo decision decisionFor lineDecision lineOutcome kindAt sourceAt withKind withSource each fromEach wellFormed

@@ -1,11 +1,13 @@
--- Document 01, "Lines": what a line answers, what it does to the card, and what it leaves in the two lent buffers.
+-- Document 01, "Lines": what a line answers, what it does to the card, and what it leaves in the
+-- two lent buffers.
 use Prim.Native.Nat.{ℕ}
 use mathlib.Core.Bool.{Bool, true, false, _&&_, cond}
-use mathlib.Core.List.{List, [], _∷_, _++_}
+use mathlib.Core.List.{List, [], _++_}
 use lib.Dec.{eqb, ltb}
 use lib.ListN.{length}
 use lib.Seq.{sets}
 use Rattle.text.specs.Decimal.{decimal}
+use Rattle.text.specs.Written.{bytesOf}
 use Rattle.card.specs.declared.card.Card.{Card}
 use Rattle.card.specs.declared.change.Change.{Change}
 use Rattle.card.specs.declared.change.Change.the-variants as Changes
@@ -51,8 +53,8 @@ changeFor x Where = Changes.Nothing
 changeFor x (Trigger v) = Changes.Trigger v
 changeFor x Home = Changes.Home
 changeFor x (Preset v) = Changes.Preset v
-changeFor x (SetKind v) = cond (x .celled) (Changes.Kind v) (Changes.ConnectorKind v)
-changeFor x (SetConfig v) = cond (x .celled) (Changes.Config v) (Changes.Source v)
+changeFor x (SetKind v) = cond (x .«at_cell») (Changes.Kind v) (Changes.ConnectorKind v)
+changeFor x (SetConfig v) = cond (x .«at_cell») (Changes.Config v) (Changes.Source v)
 changeFor x (SetState v) = Changes.State v
 changeFor x GetKind = Changes.Nothing
 changeFor x GetConfig = Changes.Nothing
@@ -114,14 +116,14 @@ responseTo x Save = saving
 abbrev pub decided : ℕ → Change → Response → Decision
 decided k change response = record { k = k; change = cond (eqb k 0) change Changes.Nothing; response = response }
 
-unfoldable pub decision : ℕ → Context → ℕ → Command → Decision
+unfoldable pub decision : (n : ℕ) → Context → (store : ℕ) → Command → Decision
 decision n x store command = decided (refusal n x store command) (changeFor x command) (responseTo x command)
 
 abbrev pub refused : ℕ → Decision
 refused k = record { k = k; change = Changes.Nothing; response = silent }
 
 -- 2: "line of another form or length", 3: "two digits, not 36, before a card command"
-unfoldable pub decisionFor : ℕ → Context → ℕ → Parsed → Decision
+unfoldable pub decisionFor : (n : ℕ) → Context → (store : ℕ) → Parsed → Decision
 decisionFor n x store Malformed = refused 2
 decisionFor n x store Elsewhere = refused 3
 decisionFor n x store (Here command) = decision n x store command
@@ -131,50 +133,51 @@ abbrev pub shortestReply : ℕ
 shortestReply = 16
 
 -- by the lengths of the two buffers: under 16 bytes of reply, nothing at all
-unfoldable pub lineDecision : ℕ → Context → List ℕ → ℕ → ℕ → Decision
+unfoldable pub lineDecision : (n : ℕ) → Context → (text : List ℕ) (reply store : ℕ) → Decision
 lineDecision n x text reply store = cond (ltb reply shortestReply) (refused 1) (decisionFor n x store (parse n text))
 
 -- the change that a line makes in a card
-abbrev pub lineChange : ℕ → Card → List ℕ → ℕ → ℕ → Change
+abbrev pub lineChange : (n : ℕ) → Card → (text : List ℕ) (reply store : ℕ) → Change
 lineChange n c text reply store = lineDecision n (contextOf n c) text reply store .change
 
 -- what a line comes to: its number, the card, and the response
 abbrev pub outcomeOf : ℕ → Card → Decision → Outcome
 outcomeOf n c d = record { k = d .k; card = changed n c (d .change); response = d .response }
 
-unfoldable pub lineOutcome : ℕ → Card → List ℕ → ℕ → ℕ → Outcome
+unfoldable pub lineOutcome : (n : ℕ) → Card → (text : List ℕ) (reply store : ℕ) → Outcome
 lineOutcome n c text reply store = outcomeOf n c (lineDecision n (contextOf n c) text reply store)
 
 -- ---- the answer to a line
 
 -- CR LF
 abbrev pub ending : List ℕ
-ending = 13 ∷ 10 ∷ []
+ending = bytesOf "\r\n"
 
 -- "The reply is `:A` or `:A n`, refused `:N-k`, each with CR LF"
 abbrev pub acceptance : Response → List ℕ
-acceptance r = 58 ∷ 65 ∷ cond (r .number) (32 ∷ decimal (r .value)) [] ++ ending
+acceptance r = bytesOf ":A" ++ cond (r .number) (bytesOf " " ++ decimal (r .value)) [] ++ ending
 
 abbrev pub refusalText : ℕ → List ℕ
-refusalText k = 58 ∷ 78 ∷ 45 ∷ decimal k ++ ending
+refusalText k = bytesOf ":N-" ++ decimal k ++ ending
 
 unfoldable pub replyOf : ℕ → Response → List ℕ
 replyOf k r = cond (eqb k 0) (acceptance r) (refusalText k)
 
 -- a reply buffer under 16 bytes gets no reply
-abbrev pub replyWith : ℕ → ℕ → Response → List ℕ
+abbrev pub replyWith : (reply k : ℕ) → Response → List ℕ
 replyWith reply k r = cond (ltb reply shortestReply) [] (replyOf k r)
 
-unfoldable pub lineReply : ℕ → Card → List ℕ → ℕ → ℕ → List ℕ
+unfoldable pub lineReply : (n : ℕ) → Card → (text : List ℕ) (reply store : ℕ) → List ℕ
 lineReply n c text reply store =
     let o = lineOutcome n c text reply store in
     replyWith reply (o .k) (o .response)
 
--- "`36SS Z` writes the record to the front of the store"; a refused line, and any other, leaves the store as it was
+-- "`36SS Z` writes the record to the front of the store"; a refused line, and any other, leaves the
+-- store as it was
 abbrev pub storeWith : ℕ → Card → Outcome → List ℕ → List ℕ
 storeWith n c o store = cond (eqb (o .k) 0 && o .response .saves) (savedTo n configWidth c store) store
 
-unfoldable pub storeAfter : ℕ → Card → List ℕ → ℕ → List ℕ → List ℕ
+unfoldable pub storeAfter : (n : ℕ) → Card → (text : List ℕ) (reply : ℕ) (store : List ℕ) → List ℕ
 storeAfter n c text reply store = storeWith n c (lineOutcome n c text reply (length store)) store
 
 -- all that a line answers and leaves: its number, the reply's length, the card, and the two buffers
@@ -185,7 +188,8 @@ pub record LineResult : Type 0 where
   pub reply : List ℕ
   pub store : List ℕ
 
--- the answer to an outcome of card c, which has n cells: the reply is "at the front of the reply buffer", which is as it was beyond
+-- the answer to an outcome of card c, which has n cells: the reply is "at the front of the reply
+-- buffer", which is as it was beyond
 abbrev pub resultFor : ℕ → Card → Outcome → (reply store : List ℕ) → LineResult
 resultFor n c o reply store =
     record {

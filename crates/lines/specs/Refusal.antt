@@ -1,4 +1,5 @@
--- Document 01, "When the card says no": the lowest number that applies to a command, 0 where none does.
+-- Document 01, "When the card says no": the lowest number that applies to a command, 0 where none
+-- does.
 use Prim.Native.Nat.{ℕ}
 use mathlib.Core.Bool.{Bool, true, false, _&&_, _||_, not, cond}
 use lib.Dec.{eqb, ltb}
@@ -21,10 +22,11 @@ abbrev pub when : Bool → ℕ → ℕ
 when test k = cond test k 0
 
 -- the first of two numbers, else the second
-abbrev pub orElse : ℕ → ℕ → ℕ
+abbrev pub orElse : (a b : ℕ) → ℕ
 orElse a b = cond (eqb a 0) b a
 
--- 4: "number over" the largest; document 02, "Long exposures": "A line's number has 1 to 10 digits, and 4 is given above that limit", 4,294,967,295
+-- 4: "number over" the largest; document 02, "Long exposures": "A line's number has 1 to 10 digits,
+-- and 4 is given above that limit", 4,294,967,295
 abbrev pub largestNumber : ℕ
 largestNumber = 4294967295
 
@@ -50,27 +52,28 @@ alone F = slots false false false true
 alone NoSlot = slots false false false false
 
 -- a command that gives one number v: 4, else k where the test of v holds
-abbrev pub judged : ℕ → Bool → ℕ → ℕ
+abbrev pub judged : (v : ℕ) (bad : Bool) (k : ℕ) → ℕ
 judged v bad k = orElse (when (tooLarge v) 4) (when bad k)
 
--- the rows of the table that a command can meet, lowest number first; "Reads meet 6, 9, 10 and 12 as writes do"
-unfoldable pub refusal : ℕ → Context → ℕ → Command → ℕ
+-- the rows of the table that a command can meet, lowest number first; "Reads meet 6, 9, 10 and 12
+-- as writes do"
+unfoldable pub refusal : (n : ℕ) → Context → (store : ℕ) → Command → ℕ
 refusal n x store (Move v) = judged v (badPlace n v) 5
 refusal n x store Where = 0
 refusal n x store (Trigger v) = judged v (badClock v) 7
 refusal n x store Home = 0
 refusal n x store (Preset v) = orElse (judged v (not (offered n v)) 8) (when (presetDrives n x v) 13)
 refusal n x store (SetKind v) =
-    cond (x .celled) (judged v (badCellType v) 7) (orElse (judged v (badConnectorType v) 7) (when (drivesFront x v) 13))
-refusal n x store (SetConfig v) = cond (x .celled) (judged v (badConfig (x .cell .kind) v) 9) (judged v (badAddress n v) 11)
-refusal n x store (SetState v) = orElse (judged v (not (x .celled)) 6) (when (badState (x .cell .kind) v) 12)
+    cond (x .«at_cell») (judged v (badCellType v) 7) (orElse (judged v (badConnectorType v) 7) (when (drivesFront x v) 13))
+refusal n x store (SetConfig v) = cond (x .«at_cell») (judged v (badConfig (x .cell .kind) v) 9) (judged v (badAddress n v) 11)
+refusal n x store (SetState v) = orElse (judged v (not (x .«at_cell»)) 6) (when (badState (x .cell .kind) v) 12)
 refusal n x store GetKind = 0
-refusal n x store GetConfig = when (x .celled && noConfig (x .cell .kind)) 9
-refusal n x store GetState = orElse (when (not (x .celled)) 6) (when (noState (x .cell .kind)) 12)
+refusal n x store GetConfig = when (x .«at_cell» && noConfig (x .cell .kind)) 9
+refusal n x store GetState = orElse (when (not (x .«at_cell»)) 6) (when (noState (x .cell .kind)) 12)
 refusal n x store (SetSlots p) =
-    orElse (orElse (when (anyTooLarge p) 4) (when (not (x .celled)) 6))
+    orElse (orElse (when (anyTooLarge p) 4) (when (not (x .«at_cell»)) 6))
     (orElse (when (unusedSlot (x .cell .kind) (p .given)) 10) (when (anyBadAddress n p) 11))
-refusal n x store (GetSlot s) = orElse (when (not (x .celled)) 6) (when (unusedSlot (x .cell .kind) (alone s)) 10)
+refusal n x store (GetSlot s) = orElse (when (not (x .«at_cell»)) 6) (when (unusedSlot (x .cell .kind) (alone s)) 10)
 refusal n x store Front = 0
 refusal n x store Back = 0
 refusal n x store Cells = 0

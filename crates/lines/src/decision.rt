@@ -39,35 +39,35 @@ pub const SILENT: Response = Response {
 };
 
 // A number, where the test holds.
-pub fn when(test: bool, k: u8) -> u8
+pub(crate) fn when(test: bool, k: u8) -> u8
     ensures { λ r. ⌜ r ≡ Refusal.when test k ⌝ }
 {
     if test { k } else { 0 }
 }
 
 // The first of two numbers, else the second.
-pub fn or_else(a: u8, b: u8) -> u8
+pub(crate) fn or_else(a: u8, b: u8) -> u8
     ensures { λ r. ⌜ r ≡ orElse a b ⌝ }
 {
     if a == 0 { b } else { a }
 }
 
 // 4: more than a line's number may be.
-pub fn too_large(v: Number) -> bool
+pub(crate) fn too_large(v: Number) -> bool
     ensures { λ q. ⌜ q ≡ tooLarge v ⌝ }
 {
     LARGEST_NUMBER < v
 }
 
 // A command that gives one number: 4, else k where the test of it holds.
-pub fn judged(v: Number, bad: bool, k: u8) -> u8
+pub(crate) fn judged(v: Number, bad: bool, k: u8) -> u8
     ensures { λ r. ⌜ r ≡ Refusal.judged v bad k ⌝ }
 {
     or_else(when(too_large(v), 4), when(bad, k))
 }
 
 // A write: the change where no number applies, else none.
-pub fn write(k: u8, change: Change) -> Decision
+pub(crate) fn write(k: u8, change: Change) -> Decision
     ensures { λ d. ⌜ d ≡ decided k change silent ⌝ }
 {
     let response = SILENT;
@@ -86,7 +86,7 @@ pub fn write(k: u8, change: Change) -> Decision
 }
 
 // A read: no change.
-pub fn read(k: u8, v: Value) -> Decision
+pub(crate) fn read(k: u8, v: Value) -> Decision
     ensures { λ d. ⌜ d ≡ record { k = k; change = Change.Nothing; response = Line.number v } ⌝ }
 {
     Decision {
@@ -101,7 +101,7 @@ pub fn read(k: u8, v: Value) -> Decision
 }
 
 // A line that is refused whatever the card is.
-pub fn refused(k: u8) -> Decision
+pub(crate) fn refused(k: u8) -> Decision
     ensures { λ d. ⌜ d ≡ Line.refused k ⌝ }
 {
     let response = SILENT;

@@ -23,7 +23,7 @@ pub fn config(x: Context) -> Decision
     ensures { λ d. ⌜ d ≡ decision (cellsFor (x .size)) x 0 Command.GetConfig ⌝ }
 {
     let cell = x.cell;
-    let k = when(x.celled & valid::no_config(cell.kind), 9);
+    let k = when(x.at_cell & valid::no_config(cell.kind), 9);
     read(k, card::context::read_config(x))
 }
 
@@ -32,7 +32,7 @@ pub fn state(x: Context) -> Decision
     ensures { λ d. ⌜ d ≡ decision (cellsFor (x .size)) x 0 Command.GetState ⌝ }
 {
     let cell = x.cell;
-    let k = or_else(when(!x.celled, 6), when(valid::no_state(cell.kind), 12));
+    let k = or_else(when(!x.at_cell, 6), when(valid::no_state(cell.kind), 12));
     read(k, card::context::read_state(x))
 }
 
@@ -68,7 +68,7 @@ pub fn slot(x: Context, s: Slot) -> Decision
 {
     let cell = x.cell;
     let k = or_else(
-        when(!x.celled, 6),
+        when(!x.at_cell, 6),
         when(valid::unused_slot(cell.kind, alone(s)), 10),
     );
     read(k, card::context::read_slot(x, slot_index(s)))

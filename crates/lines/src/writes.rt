@@ -69,7 +69,7 @@ pub fn to_preset(x: Context, v: Number) -> Decision
 pub fn to_kind(x: Context, v: Number) -> Decision
     ensures { λ d. ⌜ d ≡ decision (cellsFor (x .size)) x 0 (Command.SetKind v) ⌝ }
 {
-    if x.celled {
+    if x.at_cell {
         return write(
             decision::judged(v, valid::bad_cell_type(v), 7),
             Change::Kind(low8(v)),
@@ -87,7 +87,7 @@ pub fn to_config(x: Context, v: Number) -> Decision
     ensures { λ d. ⌜ d ≡ decision (cellsFor (x .size)) x 0 (Command.SetConfig v) ⌝ }
 {
     let cell = x.cell;
-    if x.celled {
+    if x.at_cell {
         return write(
             decision::judged(v, valid::bad_config(cell.kind, v), 9),
             Change::Config(low32(v)),
@@ -104,7 +104,7 @@ pub fn to_state(x: Context, v: Number) -> Decision
     ensures { λ d. ⌜ d ≡ decision (cellsFor (x .size)) x 0 (Command.SetState v) ⌝ }
 {
     let cell = x.cell;
-    let k = decision::judged(v, !x.celled, 6);
+    let k = decision::judged(v, !x.at_cell, 6);
     write(
         or_else(k, when(valid::bad_state(cell.kind, v), 12)),
         Change::State(low32(v)),
@@ -140,7 +140,7 @@ fn slots_number(x: Context, p: Pairs) -> u8
     ensures { λ k. ⌜ k ≡ decision (cellsFor (x .size)) x 0 (Command.SetSlots p) .k ⌝ }
 {
     let cell = x.cell;
-    let first = or_else(when(any_too_large(p), 4), when(!x.celled, 6));
+    let first = or_else(when(any_too_large(p), 4), when(!x.at_cell, 6));
     let unused = when(valid::unused_slot(cell.kind, p.given), 10);
     or_else(first, or_else(unused, when(any_bad_address(p, x.size), 11)))
 }

@@ -24,7 +24,7 @@ rows =
     ∷ []
 
 row-table : map (λ (e : List ℕ × List ℕ). e .0) rows ≡ map (λ (e : List ℕ × List ℕ). e .1) rows
-unfolding row bytesOf decimalFrom decimal permittedBase fieldText rowText rowsBelow
+unfolding row decimalFrom decimal permittedBase fieldText rowText rowsBelow
 row-table = refl
 
 -- 256 rows

@@ -16,7 +16,8 @@ use Rattle.card.specs.Connectors.{each}
 use Rattle.card.specs.declared.card.Card.{Card}
 use Rattle.card.specs.declared.card.Connector.{Connector}
 use Rattle.card.specs.Address.{connectorCount, firstCell, firstConnector}
-use Rattle.card.specs.Valid.{validCell, validConnector, every, validCard}
+use Rattle.text.specs.Digits.{every}
+use Rattle.card.specs.Valid.{validCell, validConnector, validCard}
 use Rattle.card.proofs.Bounds.{clock-most, kind-most, connector-kind-most}
 use Rattle.card.proofs.Settings.{split, cell-config}
 use Rattle.card.proofs.ValidLaws.{kind-known, kind-good, source-good, settings-valid}

@@ -23,7 +23,8 @@ use Rattle.card.specs.Change.{changed}
 use Rattle.card.specs.Context.{contextOf}
 use Rattle.card.specs.Edits.{currentCell, clearedCell, typed, configured, wiredSlot, wired, move, setTrigger}
 use Rattle.card.specs.Fresh.{freshCell, freshOf}
-use Rattle.card.specs.Valid.{frontDriven, badCellType, badConnectorType, badAddress, badConfig, validCell, validConnector, every, valid, validSlot}
+use Rattle.text.specs.Digits.{every}
+use Rattle.card.specs.Valid.{frontDriven, badCellType, badConnectorType, badAddress, badConfig, validCell, validConnector, valid, validSlot}
 use Rattle.card.specs.Written.{configuredAs, written}
 use Rattle.card.proofs.Settings.{cell-config, Sound, split}
 use Rattle.card.proofs.ConnectorLaws.{length-each, each-unique}

@@ -1,4 +1,5 @@
--- Document 02: "Fed line by line to a fresh card, the lines of any card that calls can reach give a card with the same settings and trigger."
+-- Document 02: "Fed line by line to a fresh card, the lines of any card that calls can reach give a
+-- card with the same settings and trigger."
 use Prim.Native.Nat.{ℕ, _≤_}
 use mathlib.Core.Path.{_≡_}
 use mathlib.Core.Bool.{true, cond}
@@ -19,8 +20,8 @@ linesBehind line (b ∷ bs) = cond (eqb b lineFeed) (line ∷ linesBehind [] bs)
 abbrev pub linesIn : List ℕ → List (List ℕ)
 linesIn text = linesBehind [] text
 
--- the lines that a card prints behind any list of calls are each accepted by a fresh card, where they have room for their replies, and set there what
--- they were printed of
+-- the lines that a card prints behind any list of calls are each accepted by a fresh card, where
+-- they have room for their replies, and set there what they were printed of
 unfoldable pub FeedsBack : ℕ → Type 0
 FeedsBack n = (calls : List Call) (reply store : ℕ) → shortestReply ≤ reply
     → let c = end n (freshOf n) calls in let texts = linesIn (wiringText n c) in

@@ -1,4 +1,5 @@
--- What a reader must believe: the way from settings to lines, the definitions that the contracts cite, and what is promised of the text.
+-- What a reader must believe: the way from settings to lines, the definitions that the contracts
+-- cite, and what is promised of the text.
 pub mod Wiring
 pub mod Settable
 pub mod Parts

@@ -1,4 +1,5 @@
--- The longest wiring that a card of n cells prints, if lines can set it: a buffer of this length never gives 16.
+-- The longest wiring that a card of n cells prints, if lines can set it: a buffer of this length
+-- never gives 16.
 use Prim.Native.Nat.{ℕ, zero, suc, _+_, _*_, _≤_}
 use mathlib.Core.Path.{_≡_, refl}
 use mathlib.Core.Bool.{true}
@@ -9,7 +10,8 @@ use Rattle.card.specs.Address.{cellCount, cellRoom, connectorCount, firstCell, 
 use Rattle.card.specs.Valid.{validCard}
 use Rattle.printed.specs.Print.{wiringText, printNumber}
 
--- the digits of a cell's type, up to 22, of a configuration, up to 4294967295, of an address, up to 255, of a connector's type and of a clock code
+-- the digits of a cell's type, up to 22, of a configuration, up to 4294967295, of an address, up to
+-- 255, of a connector's type and of a clock code
 abbrev pub typeDigits : ℕ
 typeDigits = 2
 
@@ -36,7 +38,8 @@ cellLines = ccaLine typeDigits + (ccaLine configDigits + ccbLine)
 abbrev pub connectorLines : ℕ
 connectorLines = ccaLine oneDigit + ccaLine addressDigits
 
--- places from the one at i on, so many of them, each `M E=` with its number and LF, and so many bytes behind it
+-- places from the one at i on, so many of them, each `M E=` with its number and LF, and so many
+-- bytes behind it
 unfoldable pub places : (first each i count : ℕ) → ℕ
 places first each i zero = 0
 places first each i (suc count) = (4 + (length (decimal (first + i)) + 1)) + (each + places first each (suc i) count)

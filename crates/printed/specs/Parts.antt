@@ -1,4 +1,5 @@
--- The parts in which a wiring is written, and how many bytes each has at most, on any card: a card that no calls reach prints too.
+-- The parts in which a wiring is written, and how many bytes each has at most, on any card: a card
+-- that no calls reach prints too.
 use Prim.Native.Nat.{ℕ, _+_, _*_}
 use mathlib.Core.Bool.{Bool, cond}
 use mathlib.Core.List.{List, [], _∷_, _++_, map}
@@ -31,7 +32,8 @@ part given word v ending = cond given (word ++ (decimal v ++ ending)) []
 unfoldable pub slotsText : Cell → List ℕ
 slotsText cell = commandsText (only (anySlot (rowOf (cell .kind) .used)) (SetSlots (pairsIn cell)))
 
--- a line of one number, whose words have eight bytes at most; a slot's pair; a line of four pairs behind `36CCB`
+-- a line of one number, whose words have eight bytes at most; a slot's pair; a line of four pairs
+-- behind `36CCB`
 abbrev pub numberMost : ℕ
 numberMost = 8 + (maxDigits + 1)
 

@@ -1,4 +1,5 @@
--- Document 02, "Print the wiring as lines": the text that a card of n cells prints of itself, and what the call gives.
+-- Document 02, "Print the wiring as lines": the text that a card of n cells prints of itself, and
+-- what the call gives.
 use Prim.Native.Nat.{ℕ}
 use mathlib.Core.Bool.{Bool, cond}
 use mathlib.Core.List.{List}
@@ -27,6 +28,7 @@ printNumber n c size = when (tooLong n c size) 16
 abbrev pub printLength : ℕ → Card → (size : ℕ) → ℕ
 printLength n c size = cond (tooLong n c size) 0 (length (wiringText n c))
 
--- "the buffer is then untouched"; else the text stands at its front, and what lies beyond is as it was
+-- "the buffer is then untouched"; else the text stands at its front, and what lies beyond is as it
+-- was
 abbrev pub printedTo : ℕ → Card → (buffer : List ℕ) → List ℕ
 printedTo n c buffer = cond (tooLong n c (length buffer)) buffer (sets buffer 0 (wiringText n c))

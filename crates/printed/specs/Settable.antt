@@ -1,4 +1,5 @@
--- Document 01, row 15 of "When the card says no", "record value no line could set": the settings that a record may hold are those that lines set.
+-- Document 01, row 15 of "When the card says no", "record value no line could set": the settings
+-- that a record may hold are those that lines set.
 use Prim.Native.Nat.{ℕ, _+_, _≤_}
 use mathlib.Core.Path.{_≡_}
 use mathlib.Core.Logic.{_↔_}
@@ -19,7 +20,8 @@ use Rattle.calls.specs.Calls.{Call, end}
 use Rattle.calls.specs.Calls.Call.{line}
 use Rattle.printed.specs.Wiring.{wiringLines}
 
--- lines one after the other, with buffers of these lengths: the card that they leave, and whether each is accepted
+-- lines one after the other, with buffers of these lengths: the card that they leave, and whether
+-- each is accepted
 unfoldable pub fed : (n reply store : ℕ) → Card → List (List ℕ) → Card
 fed n reply store c [] = c
 fed n reply store c (text ∷ texts) = fed n reply store (lineOutcome n c text reply store .card) texts
@@ -35,7 +37,8 @@ pub record Has (n t : ℕ) (cs : List Cell) (ks : Connectors) (c : Card) : Type 
   pub cells : take n (c .cells) ≡ map clearedCell (take n cs)
   pub connectors : c .connectors ≡ ks
 
--- valid settings are set by their lines on a fresh card, of any number of cells whose places end before those of the connectors
+-- valid settings are set by their lines on a fresh card, of any number of cells whose places end
+-- before those of the connectors
 unfoldable pub Settable : Type 0
 Settable = (n reply store trigger : ℕ) (cells : List Cell) (connectors : Connectors) → firstCell + n ≤ firstConnector → shortestReply ≤ reply
     → validSettings n trigger cells connectors ≡ true → let texts = wiringLines trigger (take n cells) (each connectors) in

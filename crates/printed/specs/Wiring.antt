@@ -1,4 +1,5 @@
--- The settings of a card as a list of commands, and as the lines that say them. Document 01, "Lines", has the commands' forms.
+-- The settings of a card as a list of commands, and as the lines that say them. Document 01,
+-- "Lines", has the commands' forms.
 use Prim.Native.Nat.{ℕ, suc, _+_}
 use mathlib.Core.Bool.{Bool, cond}
 use mathlib.Core.List.{List, [], _∷_, _++_, map}
@@ -27,7 +28,8 @@ pairsIn cell =
       f = getD (cell .slots) 3 0;
     }
 
--- a cell: the pointer, the type, the configuration where the type has one, and the slots where it uses any
+-- a cell: the pointer, the type, the configuration where the type has one, and the slots where it
+-- uses any
 unfoldable pub cellCommands : ℕ → Cell → List Command
 cellCommands i cell =
     Move (firstCell + i)

@@ -31,7 +31,7 @@ const CONNECTOR_MOST: usize = 3 * NUMBER_MOST;
 pub const TEXT_MOST: usize = CELLS * CELL_MOST + (CONNECTORS * CONNECTOR_MOST + NUMBER_MOST);
 
 // A number behind a word and before an ending, where it is given. The place behind it.
-pub fn put(
+pub(crate) fn put(
     out: &mut [u8; TEXT_MOST],
     at: usize,
     given: bool,
@@ -111,7 +111,7 @@ fn put_connector(out: &mut [u8; TEXT_MOST], at: usize, k: u8, c: Connector) -> u
 }
 
 // The lines of the first n cells, at the front.
-pub fn put_cells(out: &mut [u8; TEXT_MOST], cells: [Cell; CELLS], n: u8) -> usize
+pub(crate) fn put_cells(out: &mut [u8; TEXT_MOST], cells: [Cell; CELLS], n: u8) -> usize
     requires { ⌜ n ≤ cellRoom ⌝ }
     ensures { λ _. ⌜ now (out .exit) ≡ sets (now (out .entry)) 0 (commandsText (commandsFrom cellCommands 0 (take n cells))) ⌝ }
     ensures { λ r. ⌜ r ≡ 0 + length (commandsText (commandsFrom cellCommands 0 (take n cells))) ⌝ }
@@ -126,7 +126,7 @@ pub fn put_cells(out: &mut [u8; TEXT_MOST], cells: [Cell; CELLS], n: u8) -> usiz
 }
 
 // The lines of all connectors, behind those of the cells.
-pub fn put_connectors(
+pub(crate) fn put_connectors(
     out: &mut [u8; TEXT_MOST],
     start: usize,
     connectors: [Connector; CONNECTORS],

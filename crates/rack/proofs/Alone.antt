@@ -20,11 +20,11 @@ use Rattle.ticks.specs.Levels.{effectiveSample, pulledAt, pulledWord, levelBit,
 use Rattle.ticks.specs.Tick.{wiresOf, linesIn, lines, tickedOn, idle, tick}
 use Rattle.ticks.specs.Runs.{stepped}
 use Rattle.ticks.proofs.Sleep.{quick-set}
-use Rattle.ticks.proofs.Timing.{keeps-word-on, ignores-all-on}
+use Rattle.ticks.proofs.Timing.{timer-promise-on, ignores-all-on}
 use Rattle.rack.specs.Shared.{pulls, sharedAt, sharedLevels, sharedLines, sharedTick}
 use Rattle.rack.specs.Supply.{mostCards}
 use Rattle.rack.specs.Rack.{anyLarge, badFronts, inputFor, lowLines, ticksFrom, tickedRow, idleAnswer, rowAnswers}
-use Rattle.rack.specs.Alone.{SharedWoken, SharedTicks, sharedStep, SharedKeepsWord, NoPush, AloneInRow}
+use Rattle.rack.specs.Alone.{SharedWoken, SharedTicks, sharedStep, SharedTimerPromise, NoPush, AloneInRow}
 
 module _ (n : ℕ) where
   pub shared-woken : SharedWoken n
@@ -39,9 +39,9 @@ module _ (n : ℕ) where
   unfolding sharedTick
   shared-step c t = refl
 
-  pub shared-keeps-word : SharedKeepsWord n
-  unfolding SharedKeepsWord
-  shared-keeps-word = (keeps-word-on n SharedTicks (sharedStep n), ignores-all-on n SharedTicks (sharedStep n))
+  pub shared-timer-promise : SharedTimerPromise n
+  unfolding SharedTimerPromise
+  shared-timer-promise = (timer-promise-on n SharedTicks (sharedStep n), ignores-all-on n SharedTicks (sharedStep n))
 
   -- ---- the levels of one card
 

@@ -25,7 +25,7 @@ use Rattle.calls.specs.Calls
 use Rattle.calls.specs.Calls.{Call, Reply, savedBytes}
 use Rattle.calls.specs.History.{Wakes, WhoWakes}
 use Rattle.calls.specs.Tallies.{Tallied, EveryListTallied}
-use Rattle.calls.proofs.Honest.{who-wakes}
+use Rattle.calls.proofs.MemoryIsHistory.{who-wakes}
 use Rattle.calls.proofs.Lists.{refused-kept}
 use Rattle.calls.proofs.Reached.{fresh-reached-valid}
 use Rattle.calls.proofs.Runs.{end-append, answers-append}

@@ -5,7 +5,6 @@ use Rattle.words.specs.Bits.{withBit, wordOf, bitAt}
 use Rattle.words.specs.Listed.{listed}
 use Rattle.text.specs.Digits.{valueBy}
 use Rattle.text.specs.Decimal.{isDigit, digitsOf, leads, plain, numberIn, numberAt, decimalFrom, decimal}
-use Rattle.text.specs.Written.{bytesOf}
 use Rattle.card.specs.Address.{cellCount}
 use Rattle.card.specs.Fresh.{freshOf}
 use Rattle.card.specs.Connectors.{kindAt, sourceAt, withKind, withSource}
@@ -22,5 +21,5 @@ use Rattle.rack.specs.Rack.{startCard}
 use Rattle.rack.specs.Cards.{startLines}
 
 pub start-reached : end cellCount (freshOf cellCount) startLines ≡ startCard cellCount
-unfolding startLines bytesOf withBit wordOf bitAt listed valueBy isDigit digitsOf leads plain numberIn numberAt decimalFrom decimal kindAt sourceAt withKind withSource move currentConnector putConnectors setConnectorType changed permittedBase badPlace badConnectorType frontDriven isWord isWhole toEnd slotOf gave give pairRead pairsOf writeOf ccaWrite ccaRead ccaForm slotForm ccbForm readOf readForm cardForm plainForm addressed parse alone refusal changeFor decision decisionFor lineDecision lineOutcome endOf afterCall
+unfolding startLines withBit wordOf bitAt listed valueBy isDigit digitsOf leads plain numberIn numberAt decimalFrom decimal kindAt sourceAt withKind withSource move currentConnector putConnectors setConnectorType changed permittedBase badPlace badConnectorType frontDriven isWord isWhole toEnd slotOf gave give pairRead pairsOf writeOf ccaWrite ccaRead ccaForm slotForm ccbForm readOf readForm cardForm plainForm addressed parse alone refusal changeFor decision decisionFor lineDecision lineOutcome endOf afterCall
 start-reached = refl

@@ -22,7 +22,7 @@ use Rattle.rack.specs.Rack.{ticksFrom, cardsOf, tickedRow}
 use Rattle.rack.specs.Rack.{cardOf, outcomeBy, numberBy, outcomeIn, rowOutcome, linedRow, rowLoadNumber, loadedRow}
 use Rattle.rack.specs.Calls.{RackCall, afterCall, end}
 use Rattle.rack.specs.Calls.RackCall.{start, line, load, tick}
-use Rattle.rack.specs.Demand3.{WithinSupply, GetsItsFour}
+use Rattle.rack.specs.Demand3.{WithinSupply, ShareGuaranteed}
 use Rattle.rack.proofs.Orders.{or-left, or-right}
 use Rattle.rack.proofs.Takes.{in-range}
 use Rattle.rack.proofs.Draws.{same-draw, tick-draw, start-draw}
@@ -228,8 +228,8 @@ module _ (n : ℕ) where
       invariant (afterCall n) (λ row. length row ≡ cards) (λ row call e. call-long row call ∙ e) (replicate cards (startCard n)) calls
       (length-replicate cards (startCard n))
 
-  pub gets-its-four : GetsItsFour n
-  unfolding GetsItsFour WithinSupply
-  gets-its-four cards calls i d few h least =
+  pub share-guaranteed : ShareGuaranteed n
+  unfolding ShareGuaranteed WithinSupply
+  share-guaranteed cards calls i d few h least =
       let row = end n (replicate cards (startCard n)) calls in
       four-free row i (startCard n) d (subst (λ (m : ℕ). i < m) (sym (list-long cards calls)) h) (within-supply cards calls few) least

@@ -1,4 +1,5 @@
--- Document 02, 12: lists of rack calls, each on the row that the one before it left, over the number n of cells of each card.
+-- Document 02, 12: lists of rack calls, each on the row that the one before it left, over the
+-- number n of cells of each card.
 use Prim.Native.Nat.{ℕ}
 use mathlib.Core.Path.{_≡_}
 use mathlib.Core.Bool.{Bool, _&&_, cond}
@@ -21,8 +22,8 @@ pub data RackCall : Type 0 where
   load : (number : ℕ) (bytes : List ℕ) → RackCall
   tick : (full : Bool) (input : RackInput) → RackCall
 
--- what each call answers: of a start and a load its number; of a line its number, the reply (with its length) and the bytes that it saved; of a tick its
--- number and the answers
+-- what each call answers: of a start and a load its number; of a line its number, the reply (with
+-- its length) and the bytes that it saved; of a tick its number and the answers
 pub data RackReply : Type 0 where
   numberReply : (k : ℕ) → RackReply
   lineReply : (k : ℕ) (reply saved : List ℕ) → RackReply
@@ -30,18 +31,19 @@ pub data RackReply : Type 0 where
 
 module _ (n : ℕ) where
   -- a reply buffer under 16 bytes gets no reply, also with 20
-  unfoldable pub rowReply : List Card → (number : ℕ) → List ℕ → ℕ → ℕ → List ℕ
+  unfoldable pub rowReply : List Card → (number : ℕ) (text : List ℕ) (reply store : ℕ) → List ℕ
   rowReply cards number text reply store =
       let o = rowOutcome n cards number text reply store in
       replyWith reply (o .k) (o .response)
 
   -- "the bytes that `36SS Z` wrote"
-  unfoldable pub rowSaved : List Card → (number : ℕ) → List ℕ → ℕ → ℕ → List ℕ
+  unfoldable pub rowSaved : List Card → (number : ℕ) (text : List ℕ) (reply store : ℕ) → List ℕ
   rowSaved cards number text reply store =
       let o = rowOutcome n cards number text reply store in
       cond (eqb (o .k) 0 && o .response .saves) (recordOf n configWidth (cardOf n cards number)) []
 
-  -- what a line answers and saves is what it leaves in the buffers, and the row is the one that it leaves
+  -- what a line answers and saves is what it leaves in the buffers, and the row is the one that it
+  -- leaves
   pub record Buffers (cards : List Card) (number : ℕ) (text reply store : List ℕ) : Type 0 where
     pub k : rowResult n cards number text reply store .k ≡ rowOutcome n cards number text (length reply) (length store) .k
     pub len : rowResult n cards number text reply store .len ≡ length (rowReply cards number text (length reply) (length store))

@@ -1,6 +1,7 @@
--- Document 02, 12: a card in a rack is a card. Each call to a rack is for the card at a place one of the calls that a card by itself knows, or a new start,
--- or nothing, and it answers what the card then answers. So all that is said of every list of calls on a fresh card (tallies, who wakes, saving, printing,
--- rest) is said of every card of a rack.
+-- Document 02, 12: a card in a rack is a card. Each call to a rack is for the card at a place one
+-- of the calls that a card by itself knows, or a new start, or nothing, and it answers what the
+-- card then answers. So all that is said of every list of calls on a fresh card (tallies, who
+-- wakes, saving, printing, rest) is said of every card of a rack.
 use Prim.Native.Nat.{ℕ, suc, _<_}
 use mathlib.Core.Path.{_≡_}
 use mathlib.Core.Bool.{true, not, _&&_, _||_, cond}
@@ -33,7 +34,8 @@ pub data Part : Type 0 where
   own : Call → Part
   anew : Part
 
--- a line or a load is the card's own where its number is the card's and it is not the rack that refuses it
+-- a line or a load is the card's own where its number is the card's and it is not the rack that
+-- refuses it
 abbrev pub goesTo : (i number k : ℕ) → Call → Part
 goesTo i number k call = cond (eqb number (suc i) && not (eqb k overSupply || eqb k noRack)) (Part.own call) Part.none
 
@@ -58,7 +60,8 @@ heardMore was (Part.own call) reply = record { calls = was .calls ++ (call ∷ [
 heardMore was Part.anew reply = nothing
 
 module _ (n : ℕ) where
-  -- a tick is the card's own with its own front, and with the lines that some card of the row pulls low
+  -- a tick is the card's own with its own front, and with the lines that some card of the row pulls
+  -- low
   unfoldable pub partOf : (i : ℕ) → List Card → RackCall → Part
   partOf i cards start = cond (eqb (startNumber cards) 0) Part.anew Part.none
   partOf i cards (line number text reply store) =
@@ -77,7 +80,8 @@ module _ (n : ℕ) where
   abbrev pub heard : (i : ℕ) → List Card → List RackCall → Heard
   heard i cards calls = since (afterCall n) (heardNext i) cards calls nothing
 
-  -- the card at a place of the row that a list of rack calls leaves is the card that its own calls leave, with their answers
+  -- the card at a place of the row that a list of rack calls leaves is the card that its own calls
+  -- leave, with their answers
   pub record InRack (cards : ℕ) (calls : List RackCall) (i : ℕ) : Type 0 where
     pub card : getD (end n (startRow n cards) calls) i (startCard n) ≡ Calls.end n (startCard n) (heard i (startRow n cards) calls .calls)
     pub replies : heard i (startRow n cards) calls .replies ≡ Calls.answers n (startCard n) (heard i (startRow n cards) calls .calls)
@@ -109,10 +113,12 @@ Reached = (cards : ℕ) (calls : List RackCall) (i : ℕ) → i < cards → card
 unfoldable pub RackTallied : Type 0
 RackTallied = (cards : ℕ) (calls : List RackCall) (i : ℕ) → i < cards → Tallied cellCount (cardIn cards calls i) (callsTo cards calls i)
 
--- every card of a rack has settings that lines could set, so it saves, loads and prints as a card by itself
+-- every card of a rack has settings that lines could set, so it saves, loads and prints as a card
+-- by itself
 unfoldable pub RackValid : Type 0
 RackValid = (cards : ℕ) (calls : List RackCall) (i : ℕ) → i < cards → validCard cellCount (cardIn cards calls i) ≡ true
 
--- who wakes in a quick tick of a card in a rack, by the calls that it has got and by what its last tick read, whatever the other cards pull low
+-- who wakes in a quick tick of a card in a rack, by the calls that it has got and by what its last
+-- tick read, whatever the other cards pull low
 unfoldable pub RackWakes : Type 0
 RackWakes = (cards : ℕ) (calls : List RackCall) (i : ℕ) → i < cards → Wakes cellCount (cardIn cards calls i) (callsTo cards calls i)

@@ -1,5 +1,6 @@
--- Document 02, 12: "In any list of rack calls from that start, replacing quick by full rack ticks changes nothing that demand 3 compares, in any card", and
--- "from that start each card always gets its four, whatever the others hold".
+-- Document 02, 12: "In any list of rack calls from that start, replacing quick by full rack ticks
+-- changes nothing that demand 3 compares, in any card", and "from that start each card always gets
+-- its four, whatever the others hold".
 use Prim.Native.Nat.{ℕ, _≤_, _<_}
 use mathlib.Core.Path.{_≡_}
 use mathlib.Core.Bool.{Bool, false}
@@ -36,7 +37,7 @@ pub data AlikeReply : RackReply → RackReply → Type 0 where
       → AlikeReply (tickReply (record { k = k; answers = s })) (tickReply (record { k = k; answers = t }))
 
 -- a row of as many cards as a start leaves
-abbrev pub startRow : ℕ → ℕ → List Card
+abbrev pub startRow : (n cards : ℕ) → List Card
 startRow n cards = replicate cards (startCard n)
 
 -- the whole rows are equal, and the answers alike
@@ -52,6 +53,6 @@ unfoldable pub WithinSupply : ℕ → Type 0
 WithinSupply n = (cards : ℕ) (calls : List RackCall) → cards ≤ mostCards → draws (end n (startRow n cards) calls) ≤ supply
 
 -- so a change that leaves a card with at most four push-pull front connectors is never 19
-unfoldable pub GetsItsFour : ℕ → Type 0
-GetsItsFour n = (cards : ℕ) (calls : List RackCall) (i : ℕ) (d : Card) → cards ≤ mostCards → i < cards → pushes (d .connectors) ≤ share
+unfoldable pub ShareGuaranteed : ℕ → Type 0
+ShareGuaranteed n = (cards : ℕ) (calls : List RackCall) (i : ℕ) (d : Card) → cards ≤ mostCards → i < cards → pushes (d .connectors) ≤ share
     → let row = end n (startRow n cards) calls in over (drawsOf row) i (getD row i (startCard n) .connectors) (d .connectors) ≡ false

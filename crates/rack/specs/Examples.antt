@@ -1,4 +1,5 @@
--- Document 02, 12: what a row of cards answers, by computation, in the numbers of the document: the supply, who pulls a line low, and what is no rack.
+-- Document 02, 12: what a row of cards answers, by computation, in the numbers of the document: the
+-- supply, who pulls a line low, and what is no rack.
 use Prim.Native.Nat.{ℕ}
 use Prim.Native.String.{String}
 use mathlib.Core.Path.{_≡_, refl}
@@ -16,7 +17,8 @@ use Rattle.card.specs.Context.{configShown, stateAs}
 use Rattle.card.specs.Change.{changed}
 use Rattle.card.specs.Presets.{presetTable, settingOf, offered, presetCell, presetSource, setsFront, preset}
 use Rattle.card.specs.Valid.{permittedBase, badPlace, badCellType, badConnectorType, badClock, badConfig, unusedSlot, badAddress, noConfig, badStateAs}
-use Rattle.card.specs.Valid.{badState, noState, frontDriven, validSlot, validSlots, validCell, validConnector, every, valid}
+use Rattle.text.specs.Digits.{every}
+use Rattle.card.specs.Valid.{badState, noState, frontDriven, validSlot, validSlots, validCell, validConnector, valid}
 use Rattle.ticks.specs.Tick.{readNow, readLast, named, turnAt, outputsBelow, turned, tick}
 use Rattle.commands.specs.Grammar.{isWord, isWhole, toEnd, slotOf, gave, give, pairRead, pairsOf, writeOf, ccaWrite, ccaRead, ccaForm, slotForm, ccbForm}
 use Rattle.commands.specs.Grammar.{readOf, readForm, cardForm, plainForm, addressed, parse}
@@ -62,7 +64,7 @@ lineTo number text = Calls.RackCall.line number (bytesOf text) (replicate shorte
 said : ℕ → String → String → Exchange
 said number text reply = (lineTo number text, lineReply 0 (bytesOf reply) [])
 
-refused : ℕ → String → ℕ → String → Exchange
+refused : (number : ℕ) → String → (k : ℕ) → String → Exchange
 refused number text k reply = (lineTo number text, lineReply k (bytesOf reply) [])
 
 -- lines that the card of a number accepts
@@ -95,7 +97,8 @@ ticked answers = tickReply (record { k = 0; answers = answers })
 ticks : ℕ → Answer → Answer → Exchange
 ticks code one two = (tickOf code, ticked (one ∷ two ∷ replicate 2 idleAnswer))
 
--- a record of constants 0 with this trigger, the eight front connectors of one type and the eight of the backplane of another, all from 0
+-- a record of constants 0 with this trigger, the eight front connectors of one type and the eight
+-- of the backplane of another, all from 0
 recordWith : (trigger front back : ℕ) → List ℕ
 recordWith trigger front back =
     encode configWidth trigger (replicate cellCount freshCell)
@@ -107,8 +110,9 @@ Session = List Card × List Exchange
 
 -- ---- the supply
 
--- "the sum over the cards of the larger of 4 and the card's push-pull front connectors is then at most 16": three cards with 8, 1 and 0 draw 16, whatever is
--- open-drain or on the backplane. Then five on the second are one too many; 13 and 15 come before that
+-- "the sum over the cards of the larger of 4 and the card's push-pull front connectors is then at
+-- most 16": three cards with 8, 1 and 0 draw 16, whatever is open-drain or on the backplane. Then
+-- five on the second are one too many; 13 and 15 come before that
 supplySession : Session
 supplySession = (
   startRow cellCount 3,
@@ -119,8 +123,9 @@ supplySession = (
       ++ (refused 2 "36CCA X=19" 13 ":N-13\r\n" ∷ []),
 )
 
--- on a row that draws too much already, three fresh cards with 24: what changes no front type is free, a preset on connectors that are push-pull already too;
--- a change that leaves the row over 16 is refused, open-drain and `PM E=4` among them
+-- on a row that draws too much already, three fresh cards with 24: what changes no front type is
+-- free, a preset on connectors that are push-pull already too; a change that leaves the row over 16
+-- is refused, open-drain and `PM E=4` among them
 overSession : Session
 overSession = (
   replicate 3 (freshOf cellCount),
@@ -128,7 +133,8 @@ overSession = (
       ++ (refused 1 "36CCA Y=1" 19 ":N-19\r\n" ∷ refused 1 "PM E=4" 19 ":N-19\r\n" ∷ accepts 1 ("PM E=3" ∷ [])),
 )
 
--- "a lent row of 1 to 4 cards": four take a start, a load of open-drain fronts, four push-pull ones on the last and no fifth, and a tick with a front for each
+-- "a lent row of 1 to 4 cards": four take a start, a load of open-drain fronts, four push-pull ones
+-- on the last and no fifth, and a tick with a front for each
 fourSession : Session
 fourSession = (
   startRow cellCount 4,
@@ -146,7 +152,8 @@ fourSession = (
 
 -- ---- who pulls a line low
 
--- card 1 has TTL0 open-drain from 0: both cards see it low. It idles and its connector becomes an input: it goes on pulling, until it runs again
+-- card 1 has TTL0 open-drain from 0: both cards see it low. It idles and its connector becomes an
+-- input: it goes on pulling, until it runs again
 idleSession : Session
 idleSession = (
   startRow cellCount 2,
@@ -156,7 +163,8 @@ idleSession = (
       ∷ ticks 0 idleAnswer (ran 0) ∷ said 2 "36RDADC Y?" ":A 255\r\n" ∷ []),
 )
 
--- "before its first tick it drives nothing"; "push-pull there counts as open-drain": card 1 drives TTL0 high and card 2 low, and it is low for both
+-- "before its first tick it drives nothing"; "push-pull there counts as open-drain": card 1 drives
+-- TTL0 high and card 2 low, and it is low for both
 driverSession : Session
 driverSession = (
   startRow cellCount 2,
@@ -165,9 +173,10 @@ driverSession = (
       ∷ ticks 1 idleAnswer (ran 0) ∷ ticks 0 (ran 0x0100) idleAnswer ∷ said 1 "36RDADC Y?" ":A 254\r\n" ∷ []),
 )
 
--- "one backplane sample" for all, and for each card its own front, each with its attached bits: BNC2 of card 1, BNC3 of card 2 and, of the backplane, TTL1 and
--- TTL3 to TTL7 are high. Card 1 drives TTL0 high, push-pull, and it is low, for the sample is; then it drives it low, and card 2 sees it; then both drive it
--- low, and it is low
+-- "one backplane sample" for all, and for each card its own front, each with its attached bits:
+-- BNC2 of card 1, BNC3 of card 2 and, of the backplane, TTL1 and TTL3 to TTL7 are high. Card 1
+-- drives TTL0 high, push-pull, and it is low, for the sample is; then it drives it low, and card 2
+-- sees it; then both drive it low, and it is low
 apartSession : Session
 apartSession = (
   startRow cellCount 2,
@@ -185,7 +194,8 @@ apartSession = (
 
 -- ---- what a start leaves
 
--- "makes every card of the row fresh, but with all front connectors as inputs": pointer, trigger, cells, levels, types, sources, and the record that it saves
+-- "makes every card of the row fresh, but with all front connectors as inputs": pointer, trigger,
+-- cells, levels, types, sources, and the record that it saves
 startSession : Session
 startSession = (
   replicate 2 (freshOf cellCount),
@@ -215,7 +225,8 @@ sessions = supplySession ∷ overSession ∷ fourSession ∷ idleSession ∷ dri
 
 -- ---- tallies
 
--- a rack tick counts; "A load clears them", a start too, and of a row the load of one card leaves the other's
+-- a rack tick counts; "A load clears them", a start too, and of a row the load of one card leaves
+-- the other's
 tallyRows : List (List RackCall × List ℕ)
 tallyRows =
     (tickOf 0 ∷ tickOf 1 ∷ tickOf 0 ∷ [], 2 ∷ 2 ∷ [])
@@ -229,5 +240,5 @@ computed :
     ≡ map (λ (s : Session). map (λ (e : Exchange). e .1) (s .1)) sessions)
     × (map (λ (e : List RackCall × List ℕ). map totalOf (end cellCount (startRow cellCount 2) (e .0))) tallyRows
     ≡ map (λ (e : List RackCall × List ℕ). e .1) tallyRows)
-unfolding presetCell presetSource setsFront preset bytesOf ones onesIn withBit wordOf bitAt listed valueBy isDigit digitsOf leads plain numberIn numberAt decimalFrom decimal rowOf slotsOf taken raised workAs workOut stirredAs stirred disagree wakes levelAt readsLevels reads slotsRead mixed view effectiveSample linesOf move setTrigger home currentCell currentConnector putCell putConnectors typed setType configuredState configured setConfig statedAs stated setState wired setSlots setConnectorType setSource configShown stateAs presetTable settingOf offered readNow readLast named turnAt outputsBelow turned tick permittedBase badPlace badCellType badConnectorType badClock badConfig unusedSlot badAddress noConfig badStateAs badState noState frontDriven validSlot validSlots validCell validConnector every valid bigEndian cellField connectorField fieldsFrom encode bigValue cellIn connectorIn normalCell recordOf sameBytes loadNumberAs loadedAs loadNumber loaded isWord isWhole toEnd slotOf gave give pairRead pairsOf writeOf ccaWrite ccaRead ccaForm slotForm ccbForm readOf readForm cardForm plainForm addressed parse alone refusal slotIndex changed changeFor responseTo decision decisionFor lineDecision lineOutcome replyOf kindAt sourceAt withKind withSource each fromEach wellFormed drivenWord levelsFrom pulledWord countOf pulls sharedLevels sharedTick pushes draw sameKinds sumOf over anyLarge startNumber startedRow lowLines ticksFrom tickNumber tickedRow rowAnswers rowOutcome linedRow rowLoadNumber loadedRow rowReply rowSaved afterCall answer answersOf counted talliedBy endOf sessions supplySession overSession fourSession idleSession driverSession apartSession startSession noRackSessions tallyRows lineTo said refused accepts loads starts tickOn tickOf ran ticked ticks recordWith
+unfolding presetCell presetSource setsFront preset ones onesIn withBit wordOf bitAt listed valueBy isDigit digitsOf leads plain numberIn numberAt decimalFrom decimal rowOf slotsOf taken raised workAs workOut stirredAs stirred disagree wakes levelAt readsLevels reads slotsRead mixed view effectiveSample linesOf move setTrigger home currentCell currentConnector putCell putConnectors typed setType configuredState configured setConfig statedAs stated setState wired setSlots setConnectorType setSource configShown stateAs presetTable settingOf offered readNow readLast named turnAt outputsBelow turned tick permittedBase badPlace badCellType badConnectorType badClock badConfig unusedSlot badAddress noConfig badStateAs badState noState frontDriven validSlot validSlots validCell validConnector every valid bigEndian cellField connectorField fieldsFrom encode bigValue cellIn connectorIn normalCell recordOf sameBytes loadNumberAs loadedAs loadNumber loaded isWord isWhole toEnd slotOf gave give pairRead pairsOf writeOf ccaWrite ccaRead ccaForm slotForm ccbForm readOf readForm cardForm plainForm addressed parse alone refusal slotIndex changed changeFor responseTo decision decisionFor lineDecision lineOutcome replyOf kindAt sourceAt withKind withSource each fromEach wellFormed drivenWord levelsFrom pulledWord countOf pulls sharedLevels sharedTick pushes draw sameKinds sumOf over anyLarge startNumber startedRow lowLines ticksFrom tickNumber tickedRow rowAnswers rowOutcome linedRow rowLoadNumber loadedRow rowReply rowSaved afterCall answer answersOf counted talliedBy endOf sessions supplySession overSession fourSession idleSession driverSession apartSession startSession noRackSessions tallyRows lineTo said refused accepts loads starts tickOn tickOf ran ticked ticks recordWith
 computed = (refl, refl)

@@ -1,5 +1,6 @@
--- The passes over a row as the code makes them: the cards are looked at, and then what was ordered is done to each. What goes from card to card is a `Pass`. The
--- definitions of the calls, in Rack, know no passes: proofs/Orders and Takes show that these do what they say.
+-- The passes over a row as the code makes them: the cards are looked at, and then what was ordered
+-- is done to each. What goes from card to card is a `Pass`. The definitions of the calls, in Rack,
+-- know no passes: proofs/Orders and Takes show that these do what they say.
 use Prim.Native.Nat.{ℕ, _+_, _-_}
 use mathlib.Core.Bool.{Bool, false, not, _&&_, _||_, cond}
 use mathlib.Core.List.{List, [], _∷_}
@@ -32,7 +33,8 @@ starts = 1
 abbrev pub ticks : ℕ
 ticks = 2
 
--- a pass with this number, the lines that some card pulls low, what each draws, the place of the next card, and the answers
+-- a pass with this number, the lines that some card pulls low, what each draws, the place of the
+-- next card, and the answers
 abbrev pub made : (act : ℕ) → (full : Bool) → RackInput → (k low : ℕ) → (draws : List ℕ) → (at : ℕ) → List Answer → Pass
 made act full input k low draws at answers =
     record { act = act; full = full; k = k; low = low; at = at; input = input; draws = draws; answers = answers }

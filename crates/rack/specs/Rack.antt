@@ -23,7 +23,8 @@ use Rattle.rack.specs.declared.job.Replied.{Replied}
 use Rattle.rack.specs.Shared.{pulls, sharedTick}
 use Rattle.rack.specs.Supply.{mostCards, drawsOf, over}
 
--- ---- 20: "a rack of 0 or over 4 cards or with one of 32 cells, a card number outside it or samples not one for each card"
+-- ---- 20: "a rack of 0 or over 4 cards or with one of 32 cells, a card number outside it or
+-- samples not one for each card"
 
 abbrev pub noRack : ℕ
 noRack = 20
@@ -74,7 +75,7 @@ inputFor r i =
     record { code = r .code; sample = r .sample * 256 + front .sample; attached = r .attached * 256 + front .attached }
 
 -- "all drive": the lines that some card pulls low, with those of `low`
-unfoldable pub lowLines : ℕ → ℕ → (low : ℕ) → List Card → ℕ
+unfoldable pub lowLines : (n code low : ℕ) → List Card → ℕ
 lowLines n code low [] = low
 lowLines n code low (c ∷ cs) = lowLines n code (bitOr low (pulls n code c)) cs
 
@@ -109,17 +110,19 @@ rowAnswers n full r cards =
 abbrev pub rowTicked : ℕ → Bool → RackInput → List Card → RackTicked
 rowTicked n full r cards = record { k = tickNumber cards r; answers = rowAnswers n full r cards }
 
--- ---- a line and a load to one card: refused with 20 at once, with 19 where all else would be accepted
+-- ---- a line and a load to one card: refused with 20 at once, with 19 where all else would be
+-- accepted
 
 -- the card of a number; a started card stands for one past the row
-abbrev pub cardOf : ℕ → List Card → ℕ → Card
+abbrev pub cardOf : (n : ℕ) → List Card → (number : ℕ) → Card
 cardOf n cards number = getD cards (number - 1) (startCard n)
 
 abbrev pub overSupply : ℕ
 overSupply = 19
 
--- what the rack itself refuses of a call that would give number k and connectors b for a: 20 where row and number are no rack's; 19 where all else is accepted
--- and the supply does not bear it; 0 where it leaves the call as it is
+-- what the rack itself refuses of a call that would give number k and connectors b for a: 20 where
+-- row and number are no rack's; 19 where all else is accepted and the supply does not bear it; 0
+-- where it leaves the call as it is
 abbrev pub refusalIn : (bad : Bool) → (numbers : List ℕ) → (place : ℕ) → (a b : Connectors) → (k : ℕ) → ℕ
 refusalIn bad numbers place a b k = cond bad noRack (cond (eqb k 0 && over numbers place a b) overSupply 0)
 
@@ -133,11 +136,11 @@ numberBy r k = cond (eqb r 0) k r
 abbrev pub outcomeIn : (bad : Bool) → (numbers : List ℕ) → (place : ℕ) → Card → Outcome → Outcome
 outcomeIn bad numbers place c o = outcomeBy (refusalIn bad numbers place (c .connectors) (o .card .connectors) (o .k)) c o
 
-unfoldable pub rowOutcome : ℕ → List Card → (number : ℕ) → List ℕ → ℕ → ℕ → Outcome
+unfoldable pub rowOutcome : (n : ℕ) → List Card → (number : ℕ) (text : List ℕ) (reply store : ℕ) → Outcome
 rowOutcome n cards number text reply store =
     outcomeIn (badNumber cards number) (drawsOf cards) (number - 1) (cardOf n cards number) (lineOutcome n (cardOf n cards number) text reply store)
 
-unfoldable pub linedRow : ℕ → List Card → (number : ℕ) → List ℕ → ℕ → ℕ → List Card
+unfoldable pub linedRow : (n : ℕ) → List Card → (number : ℕ) (text : List ℕ) (reply store : ℕ) → List Card
 linedRow n cards number text reply store = set cards (number - 1) (rowOutcome n cards number text reply store .card)
 
 -- the number of a load that would give k and card d, and the card then
@@ -157,7 +160,8 @@ abbrev pub lineIn : ℕ → (bad : Bool) → (numbers : List ℕ) → (place : �
 lineIn n bad numbers place c text reply store =
     resultFor n c (outcomeIn bad numbers place c (lineOutcome n c text (length reply) (length store))) reply store
 
--- what a line to a card of a row answers and leaves: its number and the reply's length, the row, and the two buffers
+-- what a line to a card of a row answers and leaves: its number and the reply's length, the row,
+-- and the two buffers
 pub record RowResult : Type 0 where
   pub k : ℕ
   pub len : ℕ

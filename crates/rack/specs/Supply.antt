@@ -48,7 +48,7 @@ drawsOf cards = map (λ (c : Card). draw (c .connectors)) cards
 abbrev pub draws : List Card → ℕ
 draws cards = sumOf (drawsOf cards)
 
--- 19: "a change of a front connector's type is accepted only if the sum ... is then at most 16": the connectors a of the card at a place among
--- numbers become b
+-- 19: "a change of a front connector's type is accepted only if the sum ... is then at most 16":
+-- the connectors a of the card at a place among numbers become b
 unfoldable pub over : List ℕ → ℕ → (a b : Connectors) → Bool
 over numbers i a b = not (sameFronts a b) && ltb supply (sumOf (set numbers i (draw b)))

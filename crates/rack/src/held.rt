@@ -15,7 +15,7 @@ pub struct Held {
     pub pass: Pass,
 }
 
-pub fn put_by(cards: [Card; HELD], pass: Pass) -> Held
+fn put_by(cards: [Card; HELD], pass: Pass) -> Held
     ensures { λ r. ⌜ r ≡ heldOf cards pass ⌝ }
 {
     Held {

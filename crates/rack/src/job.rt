@@ -120,21 +120,21 @@ pub fn load_in(t: Taken, card: Card, bytes: &[u8]) -> Loaded
 }
 
 // What is left of an answer: the card went back to the row.
-pub fn reply_of(a: Answered) -> Replied
+pub(crate) fn reply_of(a: Answered) -> Replied
     ensures { λ r. ⌜ r ≡ Passes.replyOf a ⌝ }
 {
     Replied { k: a.k, len: a.len }
 }
 
 // The number that a pass over the row ended with.
-pub fn number_of(p: Pass) -> u8
+pub(crate) fn number_of(p: Pass) -> u8
     ensures { λ k. ⌜ k ≡ p .k ⌝ }
 {
     p.k
 }
 
 // What a rack tick gives, of the pass that it ended with.
-pub fn answers_of(p: Pass) -> RackTicked
+pub(crate) fn answers_of(p: Pass) -> RackTicked
     ensures { λ r. ⌜ r ≡ Passes.answersOf p ⌝ }
 {
     let answers = p.answers;

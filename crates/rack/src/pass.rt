@@ -140,7 +140,7 @@ fn refused_if(bad: bool, k: u8) -> u8
 }
 
 // Before a row of n cards is looked at: 20 where they are not 1 to MOST.
-pub fn looking(p: Pass, n: usize) -> Pass
+pub(crate) fn looking(p: Pass, n: usize) -> Pass
     ensures { λ r. ⌜ r ≡ Passes.looking p n ⌝ }
 {
     let k = refused_if((n < 1) | (MOST < n), p.k);
@@ -150,14 +150,14 @@ pub fn looking(p: Pass, n: usize) -> Pass
 }
 
 // The same where the cards are to be looked at only.
-pub fn look_pass(n: usize) -> Pass
+pub(crate) fn look_pass(n: usize) -> Pass
     ensures { λ p. ⌜ p ≡ Passes.looking Passes.lookOrder n ⌝ }
 {
     looking(look_order(), n)
 }
 
 // Before what was ordered is done to the row: 20 where a tick's samples are not one for each card.
-pub fn acting(p: Pass) -> Pass
+pub(crate) fn acting(p: Pass) -> Pass
     ensures { λ r. ⌜ r ≡ Passes.acting p ⌝ }
 {
     let input = p.input;
@@ -225,7 +225,7 @@ fn next_at(at: usize) -> usize
 }
 
 // A card is looked at.
-pub fn look(p: Pass, card: Card) -> Pass
+pub(crate) fn look(p: Pass, card: Card) -> Pass
     ensures { λ r. ⌜ r ≡ Passes.look p card ⌝ }
 {
     let input = p.input;
@@ -266,7 +266,7 @@ fn ticked(p: Pass, card: Card) -> Visited
 }
 
 // What is done to the card that a pass has come to.
-pub fn visit(pass: Pass, card: Card) -> Visited
+pub(crate) fn visit(pass: Pass, card: Card) -> Visited
     ensures { λ v. ⌜ v ≡ Passes.visit pass card ⌝ }
 {
     if (pass.k == 0) & (pass.act == START) {

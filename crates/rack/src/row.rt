@@ -10,7 +10,7 @@ use crate::pass::visit;
 use card::card::Card;
 
 // Each card of the row is looked at; the row stays as it is.
-pub fn look_each(row: &mut [Card], pass: Pass) -> Pass
+pub(crate) fn look_each(row: &mut [Card], pass: Pass) -> Pass
     ensures { λ p. ⌜ (p ≡ lookedAll pass (now (row .entry))) × (now (row .exit) ≡ now (row .entry)) ⌝ }
 {
     let mut p = pass;
@@ -23,7 +23,7 @@ pub fn look_each(row: &mut [Card], pass: Pass) -> Pass
 }
 
 // A pass over the row: each card is handed by value to `visit`, and what that gives takes its place.
-pub fn each(row: &mut [Card], pass: Pass) -> Pass
+fn each(row: &mut [Card], pass: Pass) -> Pass
     ensures { λ p. ⌜ (p ≡ afterRow pass (now (row .entry))) × (now (row .exit) ≡ visitedRow pass (now (row .entry))) ⌝ }
 {
     let mut p = pass;
@@ -38,7 +38,7 @@ pub fn each(row: &mut [Card], pass: Pass) -> Pass
 }
 
 // Puts a card at place i of the row, and gives what stood there; where there is no such place, the card itself.
-pub fn swap_at(row: &mut [Card], i: usize, card: Card) -> Card
+pub(crate) fn swap_at(row: &mut [Card], i: usize, card: Card) -> Card
     ensures { λ r. ⌜ (r ≡ getD (now (row .entry)) i card) × (now (row .exit) ≡ set (now (row .entry)) i card) ⌝ }
 {
     if i < row.len() {
@@ -51,7 +51,7 @@ pub fn swap_at(row: &mut [Card], i: usize, card: Card) -> Card
 }
 
 // An order: the cards are looked at, and then it is done.
-pub fn passes(row: &mut [Card], order: Pass) -> Pass
+pub(crate) fn passes(row: &mut [Card], order: Pass) -> Pass
     ensures { λ p. ⌜ (p ≡ actedOver order (now (row .entry))) × (now (row .exit) ≡ actedRow order (now (row .entry))) ⌝ }
 {
     let n = row.len();

@@ -15,7 +15,7 @@ use ticks::tick::quick_tick_on;
 use ticks::view::Input;
 
 // The backplane lines that a card pulls low in a tick of a clock.
-pub fn pulled(card: Card, code: u8) -> u16
+pub(crate) fn pulled(card: Card, code: u8) -> u16
     ensures { λ r. ⌜ r ≡ pulls (cellsFor (card .size)) code card ⌝ }
 {
     if code != card.trigger {
@@ -39,7 +39,7 @@ fn levels_on(own: u16, sample: u16, low: u16) -> u16
 }
 
 // A tick of either kind in which the lines of `low` are pulled low by some card.
-pub fn tick(full: bool, card: Card, input: Input, low: u16) -> Ticked
+pub(crate) fn tick(full: bool, card: Card, input: Input, low: u16) -> Ticked
     ensures { λ t. ⌜ t ≡ sharedTick (cellsFor (card .size)) full card input low ⌝ }
 {
     if input.code != card.trigger {

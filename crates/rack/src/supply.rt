@@ -25,7 +25,7 @@ fn pushes(c: Connectors) -> u8
 }
 
 // What a card draws: the larger of its share and the number of its push-pull front connectors.
-pub fn draw(c: Connectors) -> u8
+pub(crate) fn draw(c: Connectors) -> u8
     ensures { λ r. ⌜ r ≡ Supply.draw c ⌝ }
 {
     let m = pushes(c);
@@ -59,7 +59,7 @@ fn sum(draws: [u8; MOST]) -> u32
 }
 
 // Another number at a place, where there is such a place.
-pub fn put_draw(draws: [u8; MOST], at: usize, v: u8) -> [u8; MOST]
+pub(crate) fn put_draw(draws: [u8; MOST], at: usize, v: u8) -> [u8; MOST]
     ensures { λ r. ⌜ r ≡ set draws at v ⌝ }
 {
     let mut next = draws;
@@ -70,7 +70,7 @@ pub fn put_draw(draws: [u8; MOST], at: usize, v: u8) -> [u8; MOST]
 }
 
 // Whether a card with other connectors is more than the supply bears: the type of a front one changed, and the sum with them in its place is over it.
-pub fn over(draws: [u8; MOST], at: usize, a: Connectors, b: Connectors) -> bool
+pub(crate) fn over(draws: [u8; MOST], at: usize, a: Connectors, b: Connectors) -> bool
     ensures { λ q. ⌜ q ≡ Supply.over draws at a b ⌝ }
 {
     if same_fronts(a, b) {

@@ -39,7 +39,7 @@ fn put_at_connector(out: &mut Page, at: usize, x: Context) -> usize {
 
 // 7: no such type, or clock.
 fn put_type(out: &mut Page, at: usize, x: Context, v: Number) -> usize {
-    if x.celled {
+    if x.at_cell {
         return around(
             out,
             at,

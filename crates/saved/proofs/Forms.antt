@@ -23,7 +23,8 @@ use Rattle.card.specs.Connectors.{each, noConnector, fromEach, wellFormed}
 use Rattle.card.specs.Fresh.{clearState, noCell}
 use Rattle.card.specs.Valid.{validCell, validConnector, valid, validCard}
 use Rattle.card.specs.Edits.{clearedCell}
-use Rattle.card.proofs.Settings.{every-at, Sound, split, cell-slots, cell-config, config-most, valid-cleared, valid-first}
+use Rattle.text.proofs.DigitLaws.{every-at}
+use Rattle.card.proofs.Settings.{Sound, split, cell-slots, cell-config, config-most, valid-cleared, valid-first}
 use Rattle.card.proofs.ConnectorLaws.{Known, each-from, from-formed, from-each}
 use Rattle.card.proofs.Slots.{four}
 use Rattle.card.proofs.ValidLaws.{formed, kind-good, settings-valid}

@@ -14,9 +14,11 @@ use lib.Seq.{drop-cons, drop-drop, take-add, take-all, length-take-le, getD-take
 use borrow.Author.Tests.{eq-eqb, ne-eqb, eqb-true, eqb-false}
 use Rattle.words.proofs.Bools.{and-left}
 use Rattle.words.specs.Listed.{listed}
+use Rattle.text.specs.Digits.{every}
 use Rattle.words.proofs.Listed.{length-listed}
 use Rattle.card.specs.Address.{cellCount, firstCell, firstConnector, connectorCount}
 use Rattle.card.specs.Valid.{valid}
+use Rattle.card.proofs.Settings.{every-snoc}
 use Rattle.saved.specs.Record.{field, bigEndian, bigValue, triggerField, cellField, connectorField, fieldsFrom, encode, triggerLength, cellLength}
 use Rattle.saved.specs.Record.{connectorLength, recordLength, triggerIn, cellIn, connectorIn, cellsIn, loadCells, connectorsIn, sameBytes, loadNumberAs}
 use Rattle.saved.specs.Record.{configWidth, narrowWidth, widthOf, loadNumber}
@@ -27,15 +29,20 @@ use Rattle.saved.proofs.Forms.{cell-length, connector-length, other-len
 -- ---- every index below a number
 
 -- one more is tested
+every-suc : (f : ℕ → Bool) (i : ℕ) → everyBelow f (suc i) ≡ (everyBelow f i && f i)
+unfolding listed
+every-suc f i = every-snoc f (listed (λ k. k) i) i
+
 pub every-next : (f : ℕ → Bool) (i : ℕ) → everyBelow f (i + 1) ≡ (everyBelow f i && f i)
-unfolding everyBelow
-every-next f i = rw add-one
+every-next f i = rw add-one (every-suc f i)
 
 pub every-same : (f g : ℕ → Bool) (n : ℕ) → ((i : ℕ) → i < n → f i ≡ g i) → everyBelow f n ≡ everyBelow g n
-unfolding everyBelow
+unfolding every listed
 every-same f g zero h = refl
 every-same f g (suc n) h =
-    ap₂ (λ (a b : Bool). a && b) (every-same f g n (λ i k. h i (omega arith))) (h n (omega arith))
+    every-suc f n
+    ∙ ap₂ (λ (a b : Bool). a && b) (every-same f g n (λ i k. h i (omega arith))) (h n (omega arith))
+    ∙ sym (every-suc g n)
 
 -- ---- parts of a list
 
@@ -99,7 +106,7 @@ module _ {A : Type 0} (f : ℕ → A → List ℕ) (g : ℕ → A) (w : ℕ) (lo
   fields-same : (at : ℕ) (l : List ℕ) (n : ℕ) → at + n * w ≤ length l
       → sameBytes (fieldsFrom f 0 (listed g n)) (take (n * w) (drop at l))
       ≡ everyBelow (λ i. sameBytes (f i (g i)) (take w (drop (at + i * w) l))) n
-  unfolding everyBelow listed fieldsFrom sameBytes
+  unfolding every listed fieldsFrom sameBytes
   fields-same at l zero h = rw (zero-mul w)
   fields-same at l (suc n) h =
       let e : suc n * w ≡ n * w + w = omega (arith, suc-mul n w) in
@@ -108,6 +115,7 @@ module _ {A : Type 0} (f : ℕ → A → List ℕ) (g : ℕ → A) (w : ℕ) (lo
       ∙ same-append (fieldsFrom f 0 (listed g n)) (f n (g n)) (take (n * w) (drop at l)) (take w (drop (at + n * w) l))
       (fields-long n ∙ sym (part-length l at (n * w) inside))
       ∙ ap (λ (b : Bool). b && sameBytes (f n (g n)) (take w (drop (at + n * w) l))) (fields-same at l n inside)
+      ∙ sym (every-suc (λ i. sameBytes (f i (g i)) (take w (drop (at + i * w) l))) n)
 
 -- ---- the settings in some bytes
 

@@ -97,7 +97,6 @@ loaded-wide (suc m) d bytes e = ap (λ (w : ℕ). loadedAs (suc m) w d bytes) (w
 
 -- ---- loads
 
--- a refused load changes nothing
 -- by its number a load powers the card up or leaves it
 pub loaded-by : (n : ℕ) (d : Card) (bytes : List ℕ) → let from = widthOf n bytes in
     loaded n d bytes
@@ -106,6 +105,7 @@ pub loaded-by : (n : ℕ) (d : Card) (bytes : List ℕ) → let from = widthOf n
 unfolding loadNumber loaded loadedAs
 loaded-by n d bytes = refl
 
+-- a refused load changes nothing
 pub load-refused : (n : ℕ) (d : Card) (bytes : List ℕ) → eqb (loadNumber n bytes) 0 ≡ false → loaded n d bytes ≡ d
 unfolding loadNumber loaded
 load-refused n d bytes e = load-refused-as n (widthOf n bytes) d bytes e

@@ -1,5 +1,7 @@
--- Document 01, "Saved record" and rows 14 and 15, with document 02, "Long exposures", as one table by computation: a whole record written out from
--- the documents, what it loads as, and what a load gives where bytes of it are others, or in the old form; and a second table of a large card's record.
+-- Document 01, "Saved record" and rows 14 and 15, with document 02, "Long exposures", as one table
+-- by computation: a whole record written out from the documents, what it loads as, and what a load
+-- gives where bytes of it are others, or in the old form; and a second table of a large card's
+-- record.
 use Prim.Native.Nat.{ℕ, _+_, _*_, _/_, _%_}
 use mathlib.Core.Path.{_≡_, refl}
 use mathlib.Core.List.{List, [], _∷_, _++_, map}
@@ -16,13 +18,15 @@ use Rattle.card.specs.declared.card.Card.{Card}
 use Rattle.card.specs.Edits.{withPointer}
 use Rattle.card.specs.Tally.{ticks, tallyOf}
 use Rattle.card.specs.Valid.{permittedBase, badClock, frontDriven, badCellType, badConnectorType, badAddress, validSlot, validSlots, validCell}
-use Rattle.card.specs.Valid.{validConnector, every, valid}
+use Rattle.text.specs.Digits.{every}
+use Rattle.card.specs.Valid.{validConnector, valid}
 use Rattle.saved.specs.Record.{bigEndian, cellField, connectorField, fieldsFrom, encode, configWidth, bigValue, triggerIn, cellIn, connectorIn, recordOf}
 use Rattle.saved.specs.Record.{normalCell, sameBytes, loadNumberAs, loadedAs, loadNumber, loaded}
 
 -- ---- a record
 
--- a field: tag, length high and low; of a cell then number, type, configuration in four bytes, X, Y, Z, F; of a connector address, type, source
+-- a field: tag, length high and low; of a cell then number, type, configuration in four bytes, X,
+-- Y, Z, F; of a connector address, type, source
 unfoldable pub whole : List ℕ
 whole =
     -- trigger 3
@@ -45,7 +49,8 @@ whole =
     ++ (2 ∷ 0 ∷ 10 ∷ 8 ∷ 7 ∷ 0 ∷ 0 ∷ 0 ∷ 0 ∷ 8 ∷ 48 ∷ 0 ∷ 0 ∷ [])
     -- cell 9: one-shot, duration 4294967295, trigger at the rise of BNC1, clock 192, reset 0
     ++ (2 ∷ 0 ∷ 10 ∷ 9 ∷ 8 ∷ 255 ∷ 255 ∷ 255 ∷ 255 ∷ 161 ∷ 192 ∷ 0 ∷ 0 ∷ [])
-    -- cell 10: delay, duration 70000, trigger at the rise of TTL0, clock 192, reset by the inverse of TTL1
+    -- cell 10: delay, duration 70000, trigger at the rise of TTL0, clock 192, reset by the inverse
+    -- of TTL1
     ++ (2 ∷ 0 ∷ 10 ∷ 10 ∷ 9 ∷ 0 ∷ 1 ∷ 17 ∷ 112 ∷ 169 ∷ 192 ∷ 106 ∷ 0 ∷ [])
     -- cell 11: AND4
     ++ (2 ∷ 0 ∷ 10 ∷ 11 ∷ 10 ∷ 0 ∷ 0 ∷ 0 ∷ 0 ∷ 42 ∷ 8 ∷ 108 ∷ 64 ∷ [])
@@ -57,9 +62,11 @@ whole =
     ++ (2 ∷ 0 ∷ 10 ∷ 14 ∷ 13 ∷ 0 ∷ 0 ∷ 0 ∷ 0 ∷ 7 ∷ 71 ∷ 200 ∷ 0 ∷ [])
     -- cell 15: one-shot of type 16, duration 515, triggers at the rises of cells 2 and 3
     ++ (2 ∷ 0 ∷ 10 ∷ 15 ∷ 16 ∷ 0 ∷ 0 ∷ 2 ∷ 3 ∷ 130 ∷ 192 ∷ 0 ∷ 131 ∷ [])
-    -- cell 16: D-flop of type 18 of itself, clock at its own fall, reset by its inverse, reset at clock by BNC4
+    -- cell 16: D-flop of type 18 of itself, clock at its own fall, reset by its inverse, reset at
+    -- clock by BNC4
     ++ (2 ∷ 0 ∷ 10 ∷ 16 ∷ 18 ∷ 0 ∷ 0 ∷ 0 ∷ 0 ∷ 16 ∷ 208 ∷ 80 ∷ 36 ∷ [])
-    -- BNC1 to BNC8: push-pull from cell 1, open-drain from cell 2, input, push-pull from 192, from 0, from 64, from cell 16, open-drain from TTL7
+    -- BNC1 to BNC8: push-pull from cell 1, open-drain from cell 2, input, push-pull from 192, from
+    -- 0, from 64, from cell 16, open-drain from TTL7
     ++ (3 ∷ 0 ∷ 3 ∷ 33 ∷ 2 ∷ 1 ∷ [])
     ++ (3 ∷ 0 ∷ 3 ∷ 34 ∷ 1 ∷ 2 ∷ [])
     ++ (3 ∷ 0 ∷ 3 ∷ 35 ∷ 0 ∷ 0 ∷ [])
@@ -68,7 +75,8 @@ whole =
     ++ (3 ∷ 0 ∷ 3 ∷ 38 ∷ 2 ∷ 64 ∷ [])
     ++ (3 ∷ 0 ∷ 3 ∷ 39 ∷ 2 ∷ 16 ∷ [])
     ++ (3 ∷ 0 ∷ 3 ∷ 40 ∷ 1 ∷ 48 ∷ [])
-    -- TTL0 to TTL7: inputs, but TTL3 push-pull from the rise of cell 4 and TTL7 open-drain from the inverse of cell 10; TTL1 has a source all the same
+    -- TTL0 to TTL7: inputs, but TTL3 push-pull from the rise of cell 4 and TTL7 open-drain from the
+    -- inverse of cell 10; TTL1 has a source all the same
     ++ (3 ∷ 0 ∷ 3 ∷ 41 ∷ 0 ∷ 0 ∷ [])
     ++ (3 ∷ 0 ∷ 3 ∷ 42 ∷ 0 ∷ 5 ∷ [])
     ++ (3 ∷ 0 ∷ 3 ∷ 43 ∷ 0 ∷ 0 ∷ [])
@@ -79,7 +87,7 @@ whole =
     ++ (3 ∷ 0 ∷ 3 ∷ 48 ∷ 1 ∷ 74 ∷ [])
 
 -- some of its bytes, from a place on
-unfoldable pub part : ℕ → ℕ → List ℕ
+unfoldable pub part : (from count : ℕ) → List ℕ
 part from count = take count (drop from whole)
 
 -- it in the old form, each configuration by its two low bytes
@@ -90,7 +98,7 @@ unfoldable pub old : List ℕ
 old = part 0 4 ++ fieldsFrom (λ i (x : ℕ). oldCell i) 0 (replicate 16 0) ++ part 212 96
 
 -- the field of a cell above 16 that is constant 0, and that of the old form
-unfoldable pub constantField : ℕ → ℕ → List ℕ
+unfoldable pub constantField : (width i : ℕ) → List ℕ
 constantField width i = (2 ∷ 0 ∷ (6 + width) ∷ (i + 17) ∷ 0 ∷ []) ++ replicate (width + 4) 0
 
 -- the record of a large card with the settings of `whole`, and what the old form would make of it
@@ -155,7 +163,8 @@ constantRead v =
 -- given, expected
 abbrev table : List (List ℕ × List ℕ)
 table =
-    -- it loads; saved again it is the same, but for its constant 258, which is loaded as 1, reads 1 and is saved as 1
+    -- it loads; saved again it is the same, but for its constant 258, which is loaded as 1, reads 1
+    -- and is saved as 1
     (load whole, 0 ∷ [])
     ∷ (saved whole, changed ((11, 0) ∷ (12, 1) ∷ []) whole)
     ∷ (constantRead 258, 1 ∷ [])
@@ -230,7 +239,8 @@ table =
     ∷ (with ((8, 23) ∷ (11, 0) ∷ (12, 0) ∷ []), 15 ∷ [])
     ∷ (with ((216, 3) ∷ []), 15 ∷ [])
     ∷ (with ((3, 5) ∷ []), 15 ∷ [])
-    -- 15: a configuration over its range, 16 in type 2, 256 in type 3 and 65536 in type 4, and one of types that have none
+    -- 15: a configuration over its range, 16 in type 2, 256 in type 3 and 65536 in type 4, and one
+    -- of types that have none
     ∷ (with ((38, 16) ∷ []), 15 ∷ [])
     ∷ (with ((50, 1) ∷ (51, 0) ∷ []), 15 ∷ [])
     ∷ (with ((62, 1) ∷ (63, 0) ∷ (64, 0) ∷ []), 15 ∷ [])
@@ -242,7 +252,8 @@ table =
     -- 15: "unused slot ... not 0", Z of AND2 and X of a constant
     ∷ (with ((80, 1) ∷ []), 15 ∷ [])
     ∷ (with ((13, 64) ∷ []), 15 ∷ [])
-    -- 15: "edge slot under 128", the clock of a D-flop and of JK, the triggers of types 8 and 16; 128 itself is allowed
+    -- 15: "edge slot under 128", the clock of a D-flop and of JK, the triggers of types 8 and 16;
+    -- 128 itself is allowed
     ∷ (with ((27, 5) ∷ []), 15 ∷ [])
     ∷ (with ((27, 65) ∷ []), 15 ∷ [])
     ∷ (with ((27, 128) ∷ []), 0 ∷ [])
@@ -253,7 +264,8 @@ table =
     ∷ (with ((8, 19) ∷ (11, 0) ∷ (12, 0) ∷ (14, 127) ∷ []), 15 ∷ [])
     ∷ (with ((8, 21) ∷ (11, 0) ∷ (12, 0) ∷ (13, 128) ∷ (14, 128) ∷ (16, 42) ∷ []), 15 ∷ [])
     ∷ (with ((8, 21) ∷ (11, 0) ∷ (12, 0) ∷ (13, 128) ∷ (14, 128) ∷ (16, 170) ∷ []), 0 ∷ [])
-    -- 15: a reserved source, of an output and of an input; a reserved address in a slot, as a level and as an edge
+    -- 15: a reserved source, of an output and of an input; a reserved address in a slot, as a level
+    -- and as an edge
     ∷ (with ((217, 17) ∷ []), 15 ∷ [])
     ∷ (with ((229, 49) ∷ []), 15 ∷ [])
     ∷ (with ((78, 20) ∷ []), 15 ∷ [])
@@ -271,9 +283,11 @@ examples : map (λ (e : List ℕ × List ℕ). e .0) table ≡ map (λ (e : List
 unfolding whole part oldCell old changed saved pointerAfter countedCard talliesAfter cellRead connectorRead load with constantRead configShown listed rowOf fresh permittedBase badClock frontDriven badCellType badConnectorType badAddress validSlot validSlots validCell validConnector every valid bigEndian cellField connectorField fieldsFrom encode bigValue cellIn normalCell connectorIn bitAt wordOf kindAt sourceAt each fromEach recordOf sameBytes loadNumberAs loadedAs loadNumber loaded
 examples = refl
 
--- ---- document 02, "Thirty-two cells": "A record has 32 cell fields and 516 bytes, the only length that a 32-cell card loads or saves"
+-- ---- document 02, "Thirty-two cells": "A record has 32 cell fields and 516 bytes, the only length
+-- that a 32-cell card loads or saves"
 
--- cell 17: OR2 of cell 16 and the inverse of cell 32; cell 32: one-shot, duration 3, trigger at the rise of cell 17, clock 192
+-- cell 17: OR2 of cell 16 and the inverse of cell 32; cell 32: one-shot, duration 3, trigger at the
+-- rise of cell 17, clock 192
 wired : List ℕ
 wired = changed ((216, 6) ∷ (221, 16) ∷ (222, 96) ∷ (411, 8) ∷ (415, 3) ∷ (416, 145) ∷ (417, 192) ∷ []) large
 
@@ -321,7 +335,8 @@ largeHeads =
 -- 15
 abbrev largeValues : List (List ℕ × List ℕ)
 largeValues =
-    -- type 23 in cell 32, slot Z of OR2, a reserved address in a slot, BNC1 an output with trigger 4
+    -- type 23 in cell 32, slot Z of OR2, a reserved address in a slot, BNC1 an output with trigger
+    -- 4
     (withLarge ((411, 23) ∷ []), 15 ∷ [])
     ∷ (withLarge ((223, 1) ∷ []), 15 ∷ [])
     ∷ (withLarge ((221, 49) ∷ []), 15 ∷ [])

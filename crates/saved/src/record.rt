@@ -422,7 +422,7 @@ fn load_as(card: Card, width: usize, bytes: &[u8], n: u8) -> Loaded
 }
 
 // The form that the length of a record tells.
-pub fn width_of(bytes: &[u8], size: u8) -> usize
+fn width_of(bytes: &[u8], size: u8) -> usize
     ensures { λ r. ⌜ r ≡ widthOf (cellsFor size) (now (bytes .entry)) ⌝ }
     ensures { λ r. ⌜ r ≤ configWidth ⌝ }
 {

@@ -20,7 +20,7 @@ use Rattle.cells.specs.Table.{rowOf, masked}
 use Rattle.cells.specs.Work.{pulses, largestCount, trigger, taken, shotBusy, delayBusy, nextCount, nextPulse, raised, countedUp, activeAfter, keptActive, workAs, workOut}
 use Rattle.cells.specs.Wake.{stirredAs, stirred, wakes}
 use Rattle.cells.proofs.Laws.{wakes-splits, disagree-self}
-use Rattle.ticks.specs.Tick.{Turn, turnTo, workedTurn, sleptTurn, namedBy, turnBy}
+use Rattle.ticks.specs.Tick.{Turn, turnTo, workedTurn, sleptTurn, rulesName, turnBy}
 use Rattle.ticks.proofs.Cases.{by-turn}
 use Rattle.steady.specs.Steady.{countHolds, stateHolds, countThrough, stateThrough, cellHolds, cellThrough}
 
@@ -293,7 +293,7 @@ or-off true = refl
 or-off false = refl
 
 -- with readings that did not change the rules name a cell exactly where something stirs it
-pub named-stirred : (cell : Cell) (r : Slots) → namedBy cell false r r ≡ stirred (cell .kind) (stateOf cell) r
+pub named-stirred : (cell : Cell) (r : Slots) → rulesName cell false r r ≡ stirred (cell .kind) (stateOf cell) r
 named-stirred cell r =
     wakes-splits (cell .kind) (stateOf cell) false r r
     ∙ ap (λ (b : Bool). stirred (cell .kind) (stateOf cell) r || b) (disagree-self (cell .kind) r)
@@ -305,7 +305,7 @@ through-itself a m = ap (λ (x : ℕ). withState a (at (stateOf a) x)) (through-
 pub through-zero : (a b : Cell) → cellThrough a b 0 ≡ a
 through-zero a b = ap (λ (x : ℕ). withState a (at (stateOf a) x)) (through-none (a .count .0) (b .count .0))
 
-turn-is : (cell : Cell) (out : Bool) (r : Slots) (b : Bool) → namedBy cell false r r ≡ b
+turn-is : (cell : Cell) (out : Bool) (r : Slots) (b : Bool) → rulesName cell false r r ≡ b
     → turnBy false cell false out r r ≡ cond b (workedTurn cell b r) (sleptTurn cell out)
 turn-is cell out r b e = ap (λ (b : Bool). cond b (workedTurn cell b r) (sleptTurn cell out)) e
 
@@ -323,17 +323,17 @@ turn-through a out r m = by-turn false a false out r r P worked slept
         → turnBy false (cellThrough a (t .cell) m) false out r r
         ≡ record { cell = cellThrough a (t .cell) (suc m); out = out; named = t .named; woke = t .woke }
 
-    slept : namedBy a false r r ≡ false → P (sleptTurn a out)
+    slept : rulesName a false r r ≡ false → P (sleptTurn a out)
     slept e _ _ =
         ap (λ (c : Cell). turnBy false c false out r r) (through-itself a m) ∙ turn-is a out r false e
         ∙ (λ i. record { cell = sym (through-itself a (suc m)) i; out = out; named = false; woke = false })
 
-    worked : namedBy a false r r ≡ true → P (workedTurn a (namedBy a false r r) r)
+    worked : rulesName a false r r ≡ true → P (workedTurn a (rulesName a false r r) r)
     worked e same holds =
         let k = rowOf (a .kind) .class in
         let used = masked (rowOf (a .kind) .used) r in
         let up = sym (named-stirred a r) ∙ e in
-        let b = workedTurn a (namedBy a false r r) r .cell in
+        let b = workedTurn a (rulesName a false r r) r .cell in
         let g = goes-on k (a .config) (stateOf a) used m up holds in
         turn-is (cellThrough a b m) out r true (named-stirred (cellThrough a b m) r ∙ g .0)
         ∙ (λ i. record { cell = withState a (g .1 i .state); out = (ap (λ (w : Worked). w .out) (g .1) ∙ same) i; named = sym e i; woke = true })

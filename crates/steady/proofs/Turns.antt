@@ -15,7 +15,7 @@ use Rattle.card.specs.Fresh.{noCell}
 use Rattle.ticks.specs.declared.view.Wires.{Wires}
 use Rattle.ticks.specs.declared.tick.Turned.{Turned}
 use Rattle.ticks.specs.Reading.{slotsRead, view}
-use Rattle.ticks.specs.Tick.{Turn, readNow, readLast, turnBy, turnAt, outputsBelow, turnOf, cellAfter, namedAt, wokeAt, turned}
+use Rattle.ticks.specs.Tick.{Turn, readNow, readLast, turnBy, turnAt, outputsBelow, turnOf, cellAfter, turnNamed, wokeAt, turned}
 use Rattle.ticks.specs.Rest.{steadyWires}
 use Rattle.ticks.proofs.Sleep.{view-same, output-bit}
 use Rattle.ticks.proofs.AtRest.{view-any}
@@ -80,6 +80,6 @@ module _ (n o l : ℕ) (cells : List Cell) where
         let w = steadyWires o l in
         let cs = listed-same (cellAfter n false cells 0 w) (λ i. next i .cell) n (λ i h. ap (λ (t : Turn). t .cell) (turn-of i h)) in
         let out = below-steady n (le-refl n) ∙ built-of-bits o n ho in
-        let names = built-same (namedAt n false cells 0 w) (λ i. next i .named) n (λ i h. ap (λ (t : Turn). t .named) (turn-of i h)) in
+        let names = built-same (turnNamed n false cells 0 w) (λ i. next i .named) n (λ i h. ap (λ (t : Turn). t .named) (turn-of i h)) in
         let set = built-same (wokeAt n false cells 0 w) (λ i. next i .woke) n (λ i h. ap (λ (t : Turn). t .woke) (turn-of i h)) in
         λ k. record { cells = cs k ++ drop n cells; outputs = out k; named = names k; woken = set k }

@@ -24,8 +24,8 @@ use Rattle.ticks.specs.Tick.{readNow, readLast, named, turnAt, outputsBelow, tu
 use Rattle.ticks.specs.Examples.{card, clock0}
 use Rattle.steady.specs.Steady.{quickTicks, countHolds, stateHolds, leastHolds, sameBut, steadyFrom, steadyFor, madeOf, advanced}
 
--- a card whose cell 1 is of a type, with a configuration, clocked in every tick (192), in the midst of its work; its output was high or low in every tick so
--- far
+-- a card whose cell 1 is of a type, with a configuration, clocked in every tick (192), in the midst
+-- of its work; its output was high or low in every tick so far
 running : (kind config x count : ℕ) (bit out : Bool) → Card
 running kind config x count bit out =
     card (set (fresh .cells) 0 (cellOf kind config (x ∷ 192 ∷ 0 ∷ 0 ∷ []) (state (pulses count) bit false))) (cond out 1 0) 0
@@ -38,24 +38,27 @@ for : Card → ℕ
 for c = steadyFor cellCount c (clock0 0)
 
 pub record Table : Type 0 where
-  -- a delay of two hours at 4000 ticks a second goes on to its last count but one, whether its trigger is high in every tick or not; at its last count it
-  -- does not
+  -- a delay of two hours at 4000 ticks a second goes on to its last count but one, whether its
+  -- trigger is high in every tick or not; at its last count it does not
   delay : for (running 15 28800000 41 28800000 false false) ≡ 28799999
   triggered : for (running 15 28800000 192 28800000 false false) ≡ 28799999
   last : for (running 15 28800000 41 1 false false) ≡ 0
   -- a one-shot, and one that is triggered anew in every tick
   shot : for (running 14 86400000 0 500 false true) ≡ 499
   anew : for (running 8 20 192 20 false true) ≡ 4294967295
-  -- a count that the configuration may have set: one that fell to it, by a clock or by a trigger; one that rose to it by 1; one that jumped to it
+  -- a count that the configuration may have set: one that fell to it, by a clock or by a trigger;
+  -- one that rose to it by 1; one that jumped to it
   fell-there : for (running 15 499 0 500 false false) ≡ 0
   set-there : for (running 8 499 192 500 false true) ≡ 0
   rose-there : for (running 8 6 192 5 false true) ≡ 0
   jumped : for (running 8 20 192 5 false true) ≡ 0
-  -- a counter that counts every tick (A and B need not: type 21, active), up to the largest count; and one that is there
+  -- a counter that counts every tick (A and B need not: type 21, active), up to the largest count;
+  -- and one that is there
   counter : for (running 21 0 0 10 true true) ≡ 65525
   last-counter : for (running 21 0 0 65534 true true) ≡ 1
   full-counter : for (running 21 0 0 65535 true true) ≡ 4294967295
-  -- a D flip-flop that takes the same D in every tick; one that takes another; and one whose bit changes beside an output that was high before
+  -- a D flip-flop that takes the same D in every tick; one that takes another; and one whose bit
+  -- changes beside an output that was high before
   flop : for (running 1 0 64 0 true true) ≡ 4294967295
   other-flop : for (running 1 0 64 0 false false) ≡ 0
   bit : for (running 1 0 64 0 false true) ≡ 0
@@ -93,7 +96,8 @@ steady-table =
 
 -- ---- what else ends it: each word of the memory, and the edits
 
--- the fresh card, with these words of its last ticks and these edits. In each row below a tick leaves one of them other than it was, and the rest as they were
+-- the fresh card, with these words of its last ticks and these edits. In each row below a tick
+-- leaves one of them other than it was, and the rest as they were
 remembering : (edited driven pulled outputs outputs2 outputs3 levels levels2 : ℕ) → Card
 remembering edited driven pulled outputs outputs2 outputs3 levels levels2 =
     record {
@@ -147,7 +151,8 @@ remembered-table =
 
 -- ---- ticks at once
 
--- how many were made, the count and the tally of cell 1 after them, the tick total, and the woken set of the last
+-- how many were made, the count and the tally of cell 1 after them, the tick total, and the woken
+-- set of the last
 at-once : Card → ℕ → ℕ × ℕ × ℕ × ℕ × ℕ
 at-once c k =
     let a = advanced cellCount c (clock0 0) k in
@@ -175,7 +180,8 @@ pub record Ticked : Type 0 where
   single : at-once (running 15 9 0 1 false false) 1000 ≡ (1, 0, 1, 1, 1)
   counter : at-once (running 21 0 0 65533 true true) 1000 ≡ (2, 65535, 2, 2, 1)
   full-counter : at-once (running 21 0 0 65535 true true) 3 ≡ (3, 65535, 3, 3, 1)
-  -- a total that comes to its standstill in the midst of them, one that is there, and a tally that is there before the total
+  -- a total that comes to its standstill in the midst of them, one that is there, and a tally that
+  -- is there before the total
   reaches : at-once (tallied 7 4294967293) 3 ≡ (3, 1, 9, 4294967295, 1)
   stands : at-once (tallied 7 4294967295) 3 ≡ (3, 1, 7, 4294967295, 1)
   tally-stands : at-once (tallied 4294967294 10) 3 ≡ (3, 1, 4294967295, 13, 1)

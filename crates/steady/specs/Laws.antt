@@ -1,5 +1,5 @@
--- What the number of steady ticks promises: nothing but counts changes in them, a card at rest is steady for ever, and as many ticks as are asked for are made
--- as long as the card is steady.
+-- What the number of steady ticks promises: nothing but counts changes in them, a card at rest is
+-- steady for ever, and as many ticks as are asked for are made as long as the card is steady.
 use Prim.Native.Nat.{ℕ, _≤_, _<_}
 use mathlib.Core.Path.{_≡_}
 use mathlib.Core.Bool.{true}
@@ -12,7 +12,8 @@ use Rattle.ticks.specs.declared.tick.Ticked.{Ticked}
 use Rattle.ticks.specs.Rest.{AtRest}
 use Rattle.steady.specs.Steady.{forever, quickTicks, steadyFor, advanced}
 
--- "nothing but counts changes": what ticks leave of a card whose first n cells count. They drive what the last tick before them drove
+-- "nothing but counts changes": what ticks leave of a card whose first n cells count. They drive
+-- what the last tick before them drove
 pub record Keeps (n : ℕ) (c : Card) (t : Ticked) : Type 0 where
   pub edited : t .card .edited ≡ c .edited
   pub memory : t .card .memory ≡ c .memory
@@ -23,7 +24,8 @@ pub record Keeps (n : ℕ) (c : Card) (t : Ticked) : Type 0 where
       b ≡ withState a (state (b .count) (a .bit) (a .pulse))
   pub driven : t .answer .ran ≡ true → t .answer .driven ≡ c .memory .driven
 
--- so a processor may sleep through a steady stretch, and through any part of it, with its outputs as they are
+-- so a processor may sleep through a steady stretch, and through any part of it, with its outputs
+-- as they are
 unfoldable pub KeepsAll : ℕ → Type 0
 KeepsAll n = (c : Card) (input : Input) (m : ℕ) → n ≤ length (c .cells) → n ≤ length (c .tallies .cells) → m ≤ steadyFor n c input
     → Keeps n c (quickTicks n c input m)

@@ -1,6 +1,7 @@
--- Many ticks at once. Where a quick tick changes nothing but counts, and no count comes to its end, the ticks after it do the same again: the definition of
--- such a stretch, and the card after any number of its ticks. No rule of document 01 is defined here; the law is that this card is the one that so many quick
--- ticks leave, one after the other.
+-- Many ticks at once. Where a quick tick changes nothing but counts, and no count comes to its end,
+-- the ticks after it do the same again: the definition of such a stretch, and the card after any
+-- number of its ticks. No rule of document 01 is defined here; the law is that this card is the one
+-- that so many quick ticks leave, one after the other.
 use Prim.Native.Nat.{ℕ, zero, suc, _+_, _-_}
 use mathlib.Core.Bool.{Bool, false, not, _&&_, _||_, Bool·beq, cond}
 use mathlib.Core.List.{List, _++_}
@@ -26,7 +27,8 @@ use Rattle.steady.specs.declared.Advanced.{Advanced}
 
 -- ---- ticks one after the other
 
--- m quick ticks with one input: the card after them, and the answer of the last. With none the card is as it was, and the answer an idle one's
+-- m quick ticks with one input: the card after them, and the answer of the last. With none the card
+-- is as it was, and the answer an idle one's
 unfoldable pub quickTicks : (n : ℕ) → Card → Input → ℕ → Ticked
 quickTicks n c input zero = idle c
 quickTicks n c input (suc m) = tick n false (quickTicks n c input m .card) input
@@ -37,13 +39,15 @@ quickTicks n c input (suc m) = tick n false (quickTicks n c input m .card) input
 abbrev pub forever : ℕ
 forever = 4294967295
 
--- a tick left the count y where it was x. The same count stays. One that fell by 1 does so again down to 1, and one that rose by 1 goes on to the largest
--- count of a counter; but not a count that the cell's configuration may have set
+-- a tick left the count y where it was x. The same count stays. One that fell by 1 does so again
+-- down to 1, and one that rose by 1 goes on to the largest count of a counter; but not a count that
+-- the cell's configuration may have set
 unfoldable pub countHolds : (config x y : ℕ) → ℕ
 countHolds config x y =
     cond (eqb x y) forever (cond (eqb y config) 0 (cond (eqb x (y + 1)) y (cond (eqb y (x + 1)) (largestCount - x) 0)))
 
--- a state that a tick left where it was s: for how many ticks, that one among them, it goes on so. A bit or a pulse that changed does not
+-- a state that a tick left where it was s: for how many ticks, that one among them, it goes on so.
+-- A bit or a pulse that changed does not
 unfoldable pub stateHolds : (config : ℕ) (s t : State) → ℕ
 stateHolds config s t =
     cond (not (Bool·beq (s .bit) (t .bit)) || not (Bool·beq (s .pulse) (t .pulse))) 0 (countHolds config (s .count .0) (t .count .0))
@@ -63,7 +67,7 @@ cellThrough a b m = withState a (stateThrough (stateOf a) (stateOf b) m)
 
 -- ---- the card
 
-abbrev pub least : ℕ → ℕ → ℕ
+abbrev pub least : (a b : ℕ) → ℕ
 least a b = cond (ltb b a) b a
 
 -- for how many ticks all of the first n cells go on
@@ -81,7 +85,8 @@ sameOutputs a b = (eqb (a .outputs) (b .outputs) && eqb (a .outputs2) (b .output
 unfoldable pub sameBut : (before after : Card) → Bool
 sameBut c d = eqb (c .edited) (d .edited) && (sameWords (c .memory) (d .memory) && sameOutputs (c .memory) (d .memory))
 
--- of a card and the card after one tick: for how many ticks, that one among them, nothing but counts changes
+-- of a card and the card after one tick: for how many ticks, that one among them, nothing but
+-- counts changes
 unfoldable pub steadyFrom : (n : ℕ) (before after : Card) → ℕ
 steadyFrom n c d = cond (sameBut c d) (leastHolds n (c .cells) (d .cells)) 0
 
@@ -123,7 +128,8 @@ cardThrough n c t m =
 unfoldable pub madeOf : (k steady : ℕ) → ℕ
 madeOf k steady = least k (cond (ltb steady 1) 1 steady)
 
--- ticks at once: how many, the card after so many quick ticks one after the other, and the answer of the last
+-- ticks at once: how many, the card after so many quick ticks one after the other, and the answer
+-- of the last
 unfoldable pub advanced : (n : ℕ) → Card → Input → (k : ℕ) → Advanced
 advanced n c input k =
     let made = madeOf k (steadyFor n c input) in

@@ -16,7 +16,7 @@ use Rattle.card.specs.Tally.{ticks, standstill, tallyOf, counted, talliedBy}
 use Rattle.card.proofs.TallyLaws.{tallied-total, tallied-at, tallied-off}
 use Rattle.ticks.specs.declared.view.Input.{Input}
 use Rattle.ticks.specs.declared.view.Wires.{Wires}
-use Rattle.ticks.specs.Tick.{Turn, turnAt, outputsBelow, cellAfter, namedAt, wokeAt, turned, wiresOf, lines, ticked, idle, tick}
+use Rattle.ticks.specs.Tick.{Turn, turnAt, outputsBelow, cellAfter, turnNamed, wokeAt, turned, wiresOf, lines, ticked, idle, tick}
 use Rattle.ticks.specs.Runs.{Ticks, afterTick, cellAt, runs}
 use Rattle.ticks.proofs.Cases.{by-turn, by-tick, by-ticks}
 use Rattle.ticks.proofs.Sleep.{output-bit}
@@ -104,8 +104,8 @@ module _ (n : ℕ) (set : ℕ → Bool) (k : ℕ) where
       let tallies : (i : ℕ) → i < n → set (firstCell + i) ≡ false
       → tallyOf (ticked n full c x .card .tallies) i ≡ tallyOf (ticked n full d y .card .tallies) i = λ i h o.
       tally-alike n i _ _ (c .tallies) (d .tallies) h (same .total) (same .tallies i h o)
-      (bit-built (namedAt n full (c .cells) (c .edited) v) n i h ∙ ap (λ (r : Turn). r .named) (turn i h o)
-      ∙ sym (bit-built (namedAt n full (d .cells) (d .edited) w) n i h)) in
+      (bit-built (turnNamed n full (c .cells) (c .edited) v) n i h ∙ ap (λ (r : Turn). r .named) (turn i h o)
+      ∙ sym (bit-built (turnNamed n full (d .cells) (d .edited) w) n i h)) in
       let total = total-alike n _ _ (c .tallies) (d .tallies) (same .total) in (
         record {
           cells = cells;

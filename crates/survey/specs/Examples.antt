@@ -1,5 +1,5 @@
--- Surveys by computation, worked out from document 02, 11: rounds find the two words, and the next round adds nothing. Law `settles-shown` makes each row a
--- row of the call.
+-- Surveys by computation, worked out from document 02, 11: rounds find the two words, and the next
+-- round adds nothing. Law `settles-shown` makes each row a row of the call.
 use Prim.Native.Nat.{ℕ, _-_}
 use mathlib.Core.Path.{_≡_, refl}
 use mathlib.Core.Bool.{false}
@@ -29,8 +29,10 @@ or2 x y = whole 6 0 (x ∷ y ∷ 0 ∷ 0 ∷ [])
 
 -- ---- sixteen cells
 
--- cell 1 reads TTL0 (41); cells 2 and 3 read each other, and 2 reads 1; cell 4 reads BNC1 (33), which cell 2 drives; cell 5, a one-shot, is triggered by
--- the rise of TTL2 (171); cell 6 reads the inverse of TTL3 (108), and its unused slots hold TTL1 (42); cell 7 is clocked by the fall of TTL4 (237)
+-- cell 1 reads TTL0 (41); cells 2 and 3 read each other, and 2 reads 1; cell 4 reads BNC1 (33),
+-- which cell 2 drives; cell 5, a one-shot, is triggered by the rise of TTL2 (171); cell 6 reads the
+-- inverse of TTL3 (108), and its unused slots hold TTL1 (42); cell 7 is clocked by the fall of TTL4
+-- (237)
 abbrev cells : List Cell
 cells =
     or2 41 0
@@ -42,8 +44,9 @@ cells =
     ∷ whole 1 0 (64 ∷ 237 ∷ 0 ∷ 0 ∷ [])
     ∷ []
 
--- BNC1 is push-pull from cell 2, BNC2 open-drain from cell 4, BNC3 push-pull from the inverse of cell 5 (69); TTL1 is an input whose source is cell 1, TTL2 is
--- open-drain from 0, and the others are inputs
+-- BNC1 is push-pull from cell 2, BNC2 open-drain from cell 4, BNC3 push-pull from the inverse of
+-- cell 5 (69); TTL1 is an input whose source is cell 1, TTL2 is open-drain from 0, and the others
+-- are inputs
 abbrev connectors : Connectors
 connectors =
     fromEach
@@ -64,7 +67,8 @@ connectors =
 abbrev Row : (place m x y : ℕ) → Type 0
 Row place m x y = Settles cellCount cells connectors (place - firstConnector) m x y
 
--- TTL0: cell 1, the loop of cells 2 and 3, BNC1, cell 4 by the level of BNC1, BNC2. TTL1 is an input, whatever its source
+-- TTL0: cell 1, the loop of cells 2 and 3, BNC1, cell 4 by the level of BNC1, BNC2. TTL1 is an
+-- input, whatever its source
 chain : Row 41 5 0x000f 0x0103
 unfolding wire or2 bitAt wordOf listed kindAt sourceAt withSource fromEach rowOf levelAt readsSet drivenFrom startOf readersOf followersOf rounds
 chain = record { found = refl; stays = refl }
@@ -74,7 +78,8 @@ push-pull : Row 33 0 0 0
 unfolding wire or2 bitAt wordOf listed kindAt sourceAt withSource fromEach rowOf levelAt readsSet drivenFrom startOf readersOf followersOf rounds
 push-pull = record { found = refl; stays = refl }
 
--- open-drain lines hold themselves: BNC2, which nobody reads, and TTL2, whose rise triggers cell 5, whose inverse drives BNC3
+-- open-drain lines hold themselves: BNC2, which nobody reads, and TTL2, whose rise triggers cell 5,
+-- whose inverse drives BNC3
 open-drain : Row 34 0 0 0x0002
 unfolding wire or2 bitAt wordOf listed kindAt sourceAt withSource fromEach rowOf levelAt readsSet drivenFrom startOf readersOf followersOf rounds
 open-drain = record { found = refl; stays = refl }
@@ -99,7 +104,8 @@ fall = record { found = refl; stays = refl }
 
 -- ---- thirty-two cells
 
--- cell 32 reads the rise of TTL0 (169), cell 20 the fall of cell 32 (224), and BNC1 is driven from cell 20
+-- cell 32 reads the rise of TTL0 (169), cell 20 the fall of cell 32 (224), and BNC1 is driven from
+-- cell 20
 abbrev upper : List Cell
 upper = set (set (freshOf cellRoom .cells) 31 (or2 169 0)) 19 (or2 224 0)
 
@@ -114,7 +120,8 @@ small = record { found = refl; stays = refl }
 
 -- ---- other places
 
--- "Another place gives 5 and zero words": the places around the connectors', an address of a connector's inverse, and a number past all addresses
+-- "Another place gives 5 and zero words": the places around the connectors', an address of a
+-- connector's inverse, and a number past all addresses
 abbrev Refused : ℕ → Type 0
 Refused place = (n : ℕ) (c : Card) (r : Surveyed) → Survey n c place r → r ≡ record { k = 5; cells = 0; connectors = 0 }
 

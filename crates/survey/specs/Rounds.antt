@@ -1,5 +1,6 @@
--- The set of a line grown in rounds, from the connector itself: every round adds the cells that read what is found so far and the outputs that are driven from
--- it. Where a round adds nothing, what is found is the smallest set (law `settled-smallest`).
+-- The set of a line grown in rounds, from the connector itself: every round adds the cells that
+-- read what is found so far and the outputs that are driven from it. Where a round adds nothing,
+-- what is found is the smallest set (law `settled-smallest`).
 use Prim.Native.Nat.{ℕ, zero, suc, _^_}
 use mathlib.Core.Path.{_≡_}
 use mathlib.Core.Bool.{cond}

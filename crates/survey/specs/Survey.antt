@@ -1,5 +1,5 @@
--- Document 02, "How far does one line reach: a survey call": the smallest set, over the number n of cells. What is promised of everything outside it stands
--- in Unreached.
+-- Document 02, "How far does one line reach: a survey call": the smallest set, over the number n of
+-- cells. What is promised of everything outside it stands in Unreached.
 use Prim.Native.Nat.{ℕ, _+_, _-_, _^_, _<_}
 use mathlib.Core.Path.{_≡_}
 use mathlib.Core.Bool.{Bool, true, false, _&&_}
@@ -33,14 +33,16 @@ readsSet set cell = anySlot (masked (rowOf (cell .kind) .used) (slotsIn set (cel
 unfoldable pub drivenFrom : (ℕ → Bool) → Connector → Bool
 drivenFrom set c = isOutput (c .kind) && set (baseOf (c .source))
 
--- a set that "holds the connector itself, unless it is push-pull, every cell with a used slot whose base is in the set, and every output
--- connector whose source's base is in it"; the connector is number k of sixteen, from 0
+-- a set that "holds the connector itself, unless it is push-pull, every cell with a used slot whose
+-- base is in the set, and every output connector whose source's base is in it"; the connector is
+-- number k of sixteen, from 0
 pub record Holds (n : ℕ) (cs : List Cell) (ds : Connectors) (k : ℕ) (set : ℕ → Bool) : Type 0 where
   pub itself : eqb (connectorAt ds k .kind) pushPull ≡ false → set (firstConnector + k) ≡ true
   pub cells : (i : ℕ) → i < n → readsSet set (getD cs i noCell) ≡ true → set (firstCell + i) ≡ true
   pub outputs : (j : ℕ) → j < connectorCount → drivenFrom set (connectorAt ds j) ≡ true → set (firstConnector + j) ≡ true
 
--- the set that "a cell word and a word in the sample's order" give: base 0 and reserved bases are never in it
+-- the set that "a cell word and a word in the sample's order" give: base 0 and reserved bases are
+-- never in it
 abbrev pub setOf : (n cells connectors : ℕ) → ℕ → Bool
 setOf n cells connectors = levelAt n (bitAt cells) (bitAt connectors)
 

@@ -1,4 +1,5 @@
--- Document 02, "How far does one line reach", its last sentence: what is promised of every cell and connector outside the set. Over the number n of cells.
+-- Document 02, "How far does one line reach", its last sentence: what is promised of every cell and
+-- connector outside the set. Over the number n of cells.
 use Prim.Native.Nat.{ℕ, _+_, _-_, _<_}
 use mathlib.Core.Path.{_≡_}
 use mathlib.Core.Bool.{Bool, true, false}
@@ -21,8 +22,9 @@ use Rattle.survey.specs.Survey.{setOf, Survey}
 abbrev pub SameBut : (k sample other : ℕ) → Type 0
 SameBut k sample other = (j : ℕ) → j < connectorCount → (j ≡ k → ⊥) → bitAt sample j ≡ bitAt other j
 
--- "the same ticks and attached words": two ticks, and two lists of them. The attached words, too, may differ in that one line, so that a cable that is
--- cut in one of the two runs is a case of it, and equal words are another
+-- "the same ticks and attached words": two ticks, and two lists of them. The attached words, too,
+-- may differ in that one line, so that a cable that is cut in one of the two runs is a case of it,
+-- and equal words are another
 pub record AlikeTick (k : ℕ) (t u : Bool × Input) : Type 0 where
   pub kind : t .0 ≡ u .0
   pub code : t .1 .code ≡ u .1 .code
@@ -44,8 +46,9 @@ CellsOutside n set v w = (i : ℕ) → i < n → set (firstCell + i) ≡ false �
 abbrev pub LinesOutside : (set : ℕ → Bool) (v w : ℕ) → Type 0
 LinesOutside set v w = (j : ℕ) → j < connectorCount → set (firstConnector + j) ≡ false → bitAt v j ≡ bitAt w j
 
--- two ticks "agree .. in every cell and connector outside the set": settings and state, output, level and driven bit, in the card and in the
--- answer, whether a cell was worked out, and in how many ticks it was named. What belongs to no cell and no connector agrees too
+-- two ticks "agree .. in every cell and connector outside the set": settings and state, output,
+-- level and driven bit, in the card and in the answer, whether a cell was worked out, and in how
+-- many ticks it was named. What belongs to no cell and no connector agrees too
 pub record AgreeOutside (n : ℕ) (set : ℕ → Bool) (a b : Ticked) : Type 0 where
   pub cells : (i : ℕ) → i < n → set (firstCell + i) ≡ false → cellAt (a .card) i ≡ cellAt (b .card) i
   pub outputs : CellsOutside n set (a .card .memory .outputs) (b .card .memory .outputs)

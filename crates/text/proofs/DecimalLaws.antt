@@ -323,4 +323,4 @@ digits-byte t at j h =
 
 -- and a digit
 pub digits-is : (t : List ℕ) (at j : ℕ) → j < length (digitsOf (drop at t)) → isDigit (getD t (at + j) 0) ≡ true
-digits-is t at j h = rw (digits-byte t at j h) (every-at isDigit (digitsOf (drop at t)) j (digits-all (drop at t)) h)
+digits-is t at j h = rw (digits-byte t at j h) (every-at isDigit (digitsOf (drop at t)) j 0 (digits-all (drop at t)) h)

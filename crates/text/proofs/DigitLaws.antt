@@ -20,7 +20,7 @@ pub both-right : (a b : Bool) → (a && b) ≡ true → b ≡ true
 both-right true b e = e
 both-right false b e = absurd (let z : _≡_ {A = ℕ} 0 1 = cc in omega arith)
 
-pub every-append : (f : ℕ → Bool) (xs ys : List ℕ) → every f (xs ++ ys) ≡ (every f xs && every f ys)
+pub every-append : {A : Type 0} (f : A → Bool) (xs ys : List A) → every f (xs ++ ys) ≡ (every f xs && every f ys)
 unfolding every
 every-append f [] ys = refl
 every-append f (x ∷ xs) ys = ap (λ (t : Bool). f x && t) (every-append f xs ys) ∙ sym (and-assoc (f x) (every f xs) (every f ys))
@@ -30,11 +30,12 @@ unfolding valueBy
 value-append base d acc [] ys = refl
 value-append base d acc (x ∷ xs) ys = value-append base d (acc * base + d x) xs ys
 
-pub every-at : (f : ℕ → Bool) (xs : List ℕ) (i : ℕ) → every f xs ≡ true → i < length xs → f (getD xs i 0) ≡ true
+-- what every entry passes, an entry passes
+pub every-at : {A : Type 0} (f : A → Bool) (xs : List A) (i : ℕ) (d : A) → every f xs ≡ true → i < length xs → f (getD xs i d) ≡ true
 unfolding every
-every-at f [] i e h = absurd (omega arith)
-every-at f (x ∷ xs) zero e h = both-left (f x) (every f xs) e
-every-at f (x ∷ xs) (suc i) e h = every-at f xs i (both-right (f x) (every f xs) e) (le-of-suc-le-suc h)
+every-at f [] i d e h = absurd (omega arith)
+every-at f (x ∷ xs) zero d e h = both-left (f x) (every f xs) e
+every-at f (x ∷ xs) (suc i) d e h = every-at f xs i d (both-right (f x) (every f xs) e) (le-of-suc-le-suc h)
 
 -- a turn of a loop that reads digits: of those from i on, the first is taken
 pub every-next : (f : ℕ → Bool) (xs : List ℕ) (i : ℕ) → i < length xs → every f (drop i xs) ≡ (f (getD xs i 0) && every f (drop (i + 1) xs))

@@ -51,7 +51,7 @@ unfoldable pub numberAt : List ℕ → ℕ → Number
 numberAt t at = numberIn (digitsOf (drop at t)) at
 
 -- the digits of n; k bounds how many steps it takes
-unfoldable pub decimalFrom : ℕ → ℕ → List ℕ
+unfoldable pub decimalFrom : (k n : ℕ) → List ℕ
 decimalFrom zero n = (48 + n) ∷ []
 decimalFrom (suc k) n = let more = decimalFrom k (n / 10) ++ ((48 + n % 10) ∷ []) in cond (ltb n 10) ((48 + n) ∷ []) more
 

@@ -1,4 +1,5 @@
--- Document 01, "Lines", and document 02, "A line's number has 1 to 10 digits": texts that are numbers and texts that are none, by computation.
+-- Document 01, "Lines", and document 02, "A line's number has 1 to 10 digits": texts that are
+-- numbers and texts that are none, by computation.
 use Prim.Native.Nat.{ℕ}
 use Prim.Native.String.{String}
 use mathlib.Core.Path.{_≡_, refl}
@@ -25,5 +26,5 @@ numbers =
     ∷ []
 
 examples : map (λ (e : String × Option ℕ). numberOf (bytesOf (e .0))) numbers ≡ map (λ (e : String × Option ℕ). e .1) numbers
-unfolding every valueBy isDigit leads plain numberOf bytesOf
+unfolding every valueBy isDigit leads plain numberOf
 examples = refl

@@ -13,7 +13,7 @@ unfoldable pub hexDigit : ℕ → ℕ
 hexDigit d = cond (ltb d 10) (48 + d) (87 + d)
 
 -- the last k digits of w
-unfoldable pub hexDigits : ℕ → ℕ → List ℕ
+unfoldable pub hexDigits : (k w : ℕ) → List ℕ
 hexDigits zero w = []
 hexDigits (suc k) w = hexDigits k (w / 16) ++ (hexDigit (w % 16) ∷ [])
 

@@ -35,7 +35,7 @@ use Rattle.ticks.specs.declared.view.Input.{Input}
 use Rattle.ticks.specs.declared.tick.Turned.{Turned}
 use Rattle.ticks.specs.declared.tick.Ticked.{Ticked}
 use Rattle.ticks.specs.declared.tick.Answer.{Answer}
-use Rattle.ticks.specs.Tick.{Turn, readNow, readLast, sleptTurn, named, turnAt, outputsBelow, turnOf, cellAfter, namedAt, wokeAt, turned}
+use Rattle.ticks.specs.Tick.{Turn, readNow, readLast, sleptTurn, named, turnAt, outputsBelow, turnOf, cellAfter, turnNamed, wokeAt, turned}
 use Rattle.ticks.specs.Tick.{wiresOf, lines, turnedIn, ticked, idle, tick}
 use Rattle.ticks.specs.Reading.{levelAt, slotsRead, mixed, view}
 use Rattle.ticks.specs.Rest.{steadyWires, sleptAll, steady, cellRests, allRest, AtRest, restAnswer, withTotal, totalOf, totalAfter, restTotal}
@@ -147,7 +147,7 @@ module _ (n o l : ℕ) (cells : List Cell) (rest : allRest n (view n 0 o o l) ce
       let out = below-same n (le-refl n) ∙ built-of-bits o n ho in
       let set = built-same (wokeAt n false cells 0 w) (bitAt 0) n (λ i h. ap (λ (t : Turn). t .woke) (turn-of i h) ∙ sym (bit-zero i))
       ∙ built-of-bits 0 n (pow-pos n) in
-      let names = built-same (namedAt n false cells 0 w) (bitAt 0) n (λ i h. ap (λ (t : Turn). t .named) (turn-of i h) ∙ sym (bit-zero i))
+      let names = built-same (turnNamed n false cells 0 w) (bitAt 0) n (λ i h. ap (λ (t : Turn). t .named) (turn-of i h) ∙ sym (bit-zero i))
       ∙ built-of-bits 0 n (pow-pos n) in
       λ k. record { cells = cs k; outputs = out k; named = names k; woken = set k }
 

@@ -14,19 +14,19 @@ use Rattle.card.specs.declared.card.Card.{Card}
 use Rattle.ticks.specs.declared.connectors.Lines.{Lines}
 use Rattle.ticks.specs.declared.view.Input.{Input}
 use Rattle.ticks.specs.declared.tick.Ticked.{Ticked}
-use Rattle.ticks.specs.Tick.{Turn, workedTurn, sleptTurn, namedBy, turnBy, lines, tickedOn, ticked, idle, tickOn, tick}
+use Rattle.ticks.specs.Tick.{Turn, workedTurn, sleptTurn, rulesName, turnBy, lines, tickedOn, ticked, idle, tickOn, tick}
 
 -- ---- one cell: worked out or slept
 
 module _ (full : Bool) (cell : Cell) (edited out : Bool) (now last : Slots) where
   abbrev rule : Bool
-  rule = namedBy cell edited now last
+  rule = rulesName cell edited now last
 
   -- what holds of the cell worked out where it is due, and of the cell asleep where it is not,
   -- holds of its turn
   pub by-turn : (P : Turn → Type 0)
-      → ((full || namedBy cell edited now last) ≡ true → P (workedTurn cell (namedBy cell edited now last) now))
-      → ((full || namedBy cell edited now last) ≡ false → P (sleptTurn cell out))
+      → ((full || rulesName cell edited now last) ≡ true → P (workedTurn cell (rulesName cell edited now last) now))
+      → ((full || rulesName cell edited now last) ≡ false → P (sleptTurn cell out))
       → P (turnBy full cell edited out now last)
   by-turn P worked slept = go (full || rule) refl
     where
@@ -35,10 +35,10 @@ module _ (full : Bool) (cell : Cell) (edited out : Bool) (now last : Slots) wher
       go false e = slept e
 
   -- its turn says whether the rules name it, whatever the tick
-  pub turn-named : turnBy full cell edited out now last .named ≡ namedBy cell edited now last
+  pub turn-named : turnBy full cell edited out now last .named ≡ rulesName cell edited now last
   turn-named = by-turn (λ t. t .named ≡ rule) (λ _. refl) (λ e. sym (or-right full rule e))
 
-  pub turn-due : turnBy full cell edited out now last .woke ≡ (full || namedBy cell edited now last)
+  pub turn-due : turnBy full cell edited out now last .woke ≡ (full || rulesName cell edited now last)
   turn-due = by-turn (λ t. t .woke ≡ (full || rule)) sym sym
 
   -- woken is all, in a full tick, or named
@@ -47,11 +47,11 @@ module _ (full : Bool) (cell : Cell) (edited out : Bool) (now last : Slots) wher
 
   -- the cell, and its output
   pub turn-cell : turnBy full cell edited out now last .cell
-      ≡ cond (full || namedBy cell edited now last) (withState cell (workOut (cell .kind) (cell .config) (stateOf cell) now .state)) cell
+      ≡ cond (full || rulesName cell edited now last) (withState cell (workOut (cell .kind) (cell .config) (stateOf cell) now .state)) cell
   turn-cell = by-turn (λ t. t .cell ≡ cond (full || rule) (workedTurn cell rule now .cell) cell) (λ e. rw e) (λ e. rw e)
 
   pub turn-out : turnBy full cell edited out now last .out
-      ≡ cond (full || namedBy cell edited now last) (workOut (cell .kind) (cell .config) (stateOf cell) now .out) out
+      ≡ cond (full || rulesName cell edited now last) (workOut (cell .kind) (cell .config) (stateOf cell) now .out) out
   turn-out = by-turn (λ t. t .out ≡ cond (full || rule) (workedTurn cell rule now .out) out) (λ e. rw e) (λ e. rw e)
 
 -- ---- a tick: it ran or was idle

@@ -34,7 +34,7 @@ use Rattle.ticks.specs.declared.connectors.Lines.{Lines}
 use Rattle.ticks.specs.declared.view.Input.{Input}
 use Rattle.ticks.specs.declared.view.Wires.{Wires}
 use Rattle.ticks.specs.Reading.{levelAt, slotsRead, mixed, view}
-use Rattle.ticks.specs.Tick.{readNow, readLast, turnTo, workedTurn, named, turnAt, outputsBelow, cellAfter, namedAt, wokeAt, turned}
+use Rattle.ticks.specs.Tick.{readNow, readLast, turnTo, workedTurn, named, turnAt, outputsBelow, cellAfter, turnNamed, wokeAt, turned}
 use Rattle.ticks.specs.Tick.{trimmed, wiresOf, lines, cardAfter, readOn, readIn, tickedOn, ticked, tickOn, tick}
 use Rattle.ticks.specs.Settled.{remembered, Keeps, Settled, AlikeTicks}
 use Rattle.ticks.specs.Examples.{clock0, unsettled, wrong-stays, wrong-goes}
@@ -97,13 +97,13 @@ full-large cells edited w = full-set cellRoom cells edited w
 
 -- the set has a cell where the tick is full or the rules name it
 pub woken-set : (n : ℕ) (full : Bool) (cells : List Cell) (edited : ℕ) (w : Wires) (i : ℕ) → i < n
-    → bitAt (turned n full cells edited w .woken) i ≡ (full || namedAt n full cells edited w i)
+    → bitAt (turned n full cells edited w .woken) i ≡ (full || turnNamed n full cells edited w i)
 unfolding turned turnAt
 woken-set n full cells edited w i h = bit-built (wokeAt n full cells edited w) n i h ∙ all-or-named full (getD cells i noCell) _ _ _ _
 
 -- whom the rules name: it goes by the cells below, as the tick left them
 pub named-at : (n : ℕ) (full : Bool) (cells : List Cell) (edited : ℕ) (w : Wires) (i : ℕ)
-    → namedAt n full cells edited w i ≡ named n (getD cells i noCell) i edited w (outputsBelow n full cells edited w i)
+    → turnNamed n full cells edited w i ≡ named n (getD cells i noCell) i edited w (outputsBelow n full cells edited w i)
 unfolding turnAt named
 named-at n full cells edited w i = turn-named full (getD cells i noCell) _ _ _ _
 
@@ -225,10 +225,10 @@ module _ (n : ℕ) (c : Card) (levels : ℕ) (settled : Settled n c) where
 
   -- and name the same cells
   names-same : let w = wiresOf (c .memory) levels in
-      wordOf (namedAt n false (c .cells) (c .edited) w) n ≡ wordOf (namedAt n true (c .cells) (c .edited) w) n
+      wordOf (turnNamed n false (c .cells) (c .edited) w) n ≡ wordOf (turnNamed n true (c .cells) (c .edited) w) n
   names-same =
       let w = wiresOf (c .memory) levels in
-      built-same (namedAt n false (c .cells) (c .edited) w) (namedAt n true (c .cells) (c .edited) w) n
+      built-same (turnNamed n false (c .cells) (c .edited) w) (turnNamed n true (c .cells) (c .edited) w) n
       (λ i h. named-at n false (c .cells) (c .edited) w i
       ∙ ap (named n (getD (c .cells) i noCell) i (c .edited) w) (outputs-same i (le-of-lt h))
       ∙ sym (named-at n true (c .cells) (c .edited) w i))

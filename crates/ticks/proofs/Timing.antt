@@ -18,7 +18,7 @@ use Rattle.cells.proofs.Timers.{Word, taken-stirs, word-taken, word-worked, wor
 use Rattle.card.specs.declared.card.Card.{Card}
 use Rattle.ticks.specs.declared.view.Input.{Input}
 use Rattle.ticks.specs.Runs.{Step, cellAt, stepRuns, stepReads, stepped, tickBy, lastOf, afterAll, readingsIn, ResetLow, own}
-use Rattle.ticks.specs.Timing.{TakesTrigger, TakesNone, KeepsWordOn, IgnoresAllOn, KeepsWord, IgnoresAll}
+use Rattle.ticks.specs.Timing.{TakesTrigger, TakesNone, TimerPromiseOn, IgnoresAllOn, TimerPromise, IgnoresAll}
 use Rattle.ticks.proofs.Cases.{by-tick-on}
 use Rattle.ticks.proofs.Runs.{outputAt, workedCell, workedOut, after-step, Lasts, lasts, always}
 
@@ -144,9 +144,9 @@ module _ (n : ℕ) (T : Type 0) (on : Card → T → Step) where
   last-answer [] c t = answer-holds n c (on c t)
   last-answer (u ∷ ts) c t = last-answer ts (tickBy n T on c t .card) u
 
-  pub keeps-word-on : KeepsWordOn n T on
-  unfolding KeepsWordOn pulsesIn
-  keeps-word-on c t ts i inside took low none =
+  pub timer-promise-on : TimerPromiseOn n T on
+  unfolding TimerPromiseOn pulsesIn
+  timer-promise-on c t ts i inside took low none =
       let k = cellAt c i .kind in
       let d = cellAt c i .config in
       let next = tickBy n T on c t .card in
@@ -166,7 +166,7 @@ module _ (n : ℕ) (T : Type 0) (on : Card → T → Step) where
       }
 
   pub ignores-all-on : IgnoresAllOn n T on
-  unfolding KeepsWordOn IgnoresAllOn
+  unfolding TimerPromiseOn IgnoresAllOn
   ignores-all-on c t ts i inside took low busy =
       let k = cellAt c i .kind in
       let d = cellAt c i .config in
@@ -176,10 +176,10 @@ module _ (n : ℕ) (T : Type 0) (on : Card → T → Step) where
       record { p = 0; kept = triggered n c (on c t) i inside took; low = low; ignores = start-over k d (took .timer) rs busy } in
       let none = always (WillIgnore k d (took .timer)) TakesNone n T on i inside (will-ignore k d (took .timer)) (ignores-now k d
       (took .timer)) ts next start in
-      (none, keeps-word-on c t ts i inside took low none)
+      (none, timer-promise-on c t ts i inside took low none)
 
-pub keeps-word : (n : ℕ) → KeepsWord n
-keeps-word n = keeps-word-on n (Bool × Input) (own n)
+pub timer-promise : (n : ℕ) → TimerPromise n
+timer-promise n = timer-promise-on n (Bool × Input) (own n)
 
 pub ignores-all : (n : ℕ) → IgnoresAll n
 ignores-all n = ignores-all-on n (Bool × Input) (own n)

@@ -26,7 +26,7 @@ use Rattle.card.specs.Edits.{withSettings}
 use Rattle.card.specs.declared.card.Card.{Card}
 use Rattle.ticks.specs.declared.view.Wires.{Wires}
 use Rattle.ticks.specs.Reading.{slotsRead}
-use Rattle.ticks.specs.Tick.{cellAfter, namedAt, wokeAt, seesNow, sawLast, sawEarlier, readNow, readLast, namedBy, turnBy, named, turnAt}
+use Rattle.ticks.specs.Tick.{cellAfter, turnNamed, wokeAt, seesNow, sawLast, sawEarlier, readNow, readLast, rulesName, turnBy, named, turnAt}
 use Rattle.ticks.specs.Words.{ReadsAs, MovesAs, shiftedAt}
 use Rattle.ticks.proofs.Cases.{by-turn, turn-named, all-or-named}
 use Rattle.ticks.proofs.Sleep.{view-same}
@@ -43,7 +43,7 @@ abbrev pub outsOf : ℕ → Bool → Card → Wires → ℕ → Bool
 outsOf n full c w = outAt n full (c .cells) (c .edited) w
 
 abbrev pub namesOf : ℕ → Bool → Card → Wires → ℕ → Bool
-namesOf n full c w = namedAt n full (c .cells) (c .edited) w
+namesOf n full c w = turnNamed n full (c .cells) (c .edited) w
 
 abbrev pub wokesOf : ℕ → Bool → Card → Wires → ℕ → Bool
 wokesOf n full c w = wokeAt n full (c .cells) (c .edited) w
@@ -65,12 +65,12 @@ as-long X Y g l n e = sym (length-map l g) ∙ e
 -- a step that the code takes is the turn of the definition: whether the rules name the cell, the
 -- cell and its output
 module _ (full : Bool) (cell : Cell) (edited out : Bool) (now last : Slots) (r : Stepped)
-    (is : StepsTo r full (namedBy cell edited now last) (stateOf cell) (workOut (cell .kind) (cell .config) (stateOf cell) now) (lookedAt (cell .kind) now)) where
+    (is : StepsTo r full (rulesName cell edited now last) (stateOf cell) (workOut (cell .kind) (cell .config) (stateOf cell) now) (lookedAt (cell .kind) now)) where
   abbrev worked : Worked
   worked = workOut (cell .kind) (cell .config) (stateOf cell) now
 
   abbrev rule : Bool
-  rule = namedBy cell edited now last
+  rule = rulesName cell edited now last
 
   gives : (b : Bool) → (full || rule) ≡ b → cond b worked (keeping (stateOf cell) out) ≡ workedBy (stateOf cell) out (r .effect)
   gives b e = sym (is .gives out ∙ ap (λ (x : Bool). cond x worked (keeping (stateOf cell) out)) e)

@@ -20,7 +20,7 @@ use Rattle.card.specs.Tally.{talliedBy}
 use Rattle.ticks.specs.declared.connectors.Lines.{Lines}
 use Rattle.ticks.specs.declared.view.Input.{Input}
 use Rattle.ticks.specs.declared.tick.Ticked.{Ticked}
-use Rattle.ticks.specs.Tick.{namedBy, readOn, lines, trimmed, moved, idle, tickOn, tick}
+use Rattle.ticks.specs.Tick.{rulesName, readOn, lines, trimmed, moved, idle, tickOn, tick}
 use Rattle.ticks.specs.Settled.{remembered}
 
 -- cell i before the tick, and what its slots read in it
@@ -32,13 +32,13 @@ readsAt n full c levels i = readOn n full c levels i (cellBefore c i .slots)
 
 -- the rules name it, by what the memory says that it read in the last tick that ran; and it is
 -- worked out, if they do or the tick is full
-abbrev pub namedOn : (n : ℕ) → Bool → Card → (levels : ℕ) → ℕ → Bool
-namedOn n full c levels i =
+abbrev pub cellNamed : (n : ℕ) → Bool → Card → (levels : ℕ) → ℕ → Bool
+cellNamed n full c levels i =
     let cell = cellBefore c i in
-    namedBy cell (bitAt (c .edited) i) (readsAt n full c levels i) (remembered n i (c .memory) (cell .slots))
+    rulesName cell (bitAt (c .edited) i) (readsAt n full c levels i) (remembered n i (c .memory) (cell .slots))
 
 abbrev pub dueAt : (n : ℕ) → Bool → Card → (levels : ℕ) → ℕ → Bool
-dueAt n full c levels i = full || namedOn n full c levels i
+dueAt n full c levels i = full || cellNamed n full c levels i
 
 -- what "Cells" gives for it
 abbrev pub workedAt : (n : ℕ) → Bool → Card → (levels : ℕ) → ℕ → Worked
@@ -74,7 +74,7 @@ pub record Exact (n : ℕ) (full : Bool) (c : Card) (l : Lines) (t : Ticked) : T
   pub connectors : t .card .connectors ≡ c .connectors
   pub size : t .card .size ≡ c .size
   pub edited : t .card .edited ≡ 0
-  pub tallies : t .card .tallies ≡ talliedBy n (namedOn n full c (l .levels)) (c .tallies)
+  pub tallies : t .card .tallies ≡ talliedBy n (cellNamed n full c (l .levels)) (c .tallies)
   pub driven : t .answer .driven ≡ l .driven
   pub memory : t .card .memory ≡ moved (trimmed n (c .memory)) (record { driven = t .answer .driven; pulled = l .pulled; levels = l .levels })
       (t .answer .cells)

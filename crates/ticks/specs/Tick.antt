@@ -71,19 +71,19 @@ sleptTurn cell out = record { cell = cell; out = out; named = false; woke = fals
 
 -- the rules name a cell: by whether it was edited, and what its slots read now and read in the last
 -- tick that ran
-abbrev pub namedBy : Cell → (edited : Bool) → (now last : Slots) → Bool
-namedBy cell edited now last = wakes (cell .kind) (stateOf cell) edited now last
+abbrev pub rulesName : Cell → (edited : Bool) → (now last : Slots) → Bool
+rulesName cell edited now last = wakes (cell .kind) (stateOf cell) edited now last
 
 -- a full tick works out every cell, a quick tick those that the rules name; `out` is the last
 -- output
 abbrev pub turnBy : (full : Bool) → Cell → (edited out : Bool) → (now last : Slots) → Turn
 turnBy full cell edited out now last =
-    let rule = namedBy cell edited now last in
+    let rule = rulesName cell edited now last in
     cond (full || rule) (workedTurn cell rule now) (sleptTurn cell out)
 
 -- the rules name cell i, and its turn
 unfoldable pub named : (n : ℕ) → Cell → (i edited : ℕ) → Wires → ℕ → Bool
-named n cell i edited w below = namedBy cell (bitAt edited i) (readNow n i w below (cell .slots)) (readLast n i w (cell .slots))
+named n cell i edited w below = rulesName cell (bitAt edited i) (readNow n i w below (cell .slots)) (readLast n i w (cell .slots))
 
 unfoldable pub turnAt : (n : ℕ) → Bool → Cell → (i edited : ℕ) → Wires → ℕ → Turn
 turnAt n full cell i edited w below =
@@ -105,8 +105,8 @@ module _ (n : ℕ) (full : Bool) (cells : List Cell) (edited : ℕ) (w : Wires) 
   abbrev pub cellAfter : ℕ → Cell
   cellAfter i = turnOf i .cell
 
-  abbrev pub namedAt : ℕ → Bool
-  namedAt i = turnOf i .named
+  abbrev pub turnNamed : ℕ → Bool
+  turnNamed i = turnOf i .named
 
   abbrev pub wokeAt : ℕ → Bool
   wokeAt i = turnOf i .woke
@@ -115,7 +115,7 @@ module _ (n : ℕ) (full : Bool) (cells : List Cell) (edited : ℕ) (w : Wires) 
   -- a full tick too, and the woken set, "bit 0 cell 1"
   unfoldable pub turned : Turned
   turned =
-      record { cells = listed cellAfter n ++ drop n cells; outputs = outputsBelow n; named = wordOf namedAt n; woken = wordOf wokeAt n }
+      record { cells = listed cellAfter n ++ drop n cells; outputs = outputsBelow n; named = wordOf turnNamed n; woken = wordOf wokeAt n }
 
 -- ---- a tick
 

@@ -36,21 +36,21 @@ TakesNone cell r = takes (cell .kind) (stateOf cell) r ≡ false
 
 -- what is promised after a tick: the count, the output, that is the cell's bit in the cell word,
 -- and the same bit in the answer of a tick that ran
-pub record KeptWord (t : Ticked) (i : ℕ) (k : Class) (d p : ℕ) : Type 0 where
+pub record TimerAfter (t : Ticked) (i : ℕ) (k : Class) (d p : ℕ) : Type 0 where
   pub count : cellAt (t .card) i .count .0 ≡ d - p
   pub output : bitAt (t .card .memory .outputs) i ≡ shown k d p
   pub answer : t .answer .ran ≡ true → bitAt (t .answer .cells) i ≡ shown k d p
 
 module _ (n : ℕ) (T : Type 0) (on : Card → T → Step) where
   -- t is the tick of the trigger, whose own clock is not counted, and ts are those after it. "While
-  -- its reset stays low and no other trigger is taken" the word is kept after the last of them, and
-  -- so after each, since the list may end anywhere
-  unfoldable pub KeepsWordOn : Type 0
-  KeepsWordOn = (c : Card) (t : T) (ts : List T) (i : ℕ) → i < n → TakesTrigger n c (on c t) i
+  -- its reset stays low and no other trigger is taken" this holds after the last of them, and so
+  -- after each, since the list may end anywhere
+  unfoldable pub TimerPromiseOn : Type 0
+  TimerPromiseOn = (c : Card) (t : T) (ts : List T) (i : ℕ) → i < n → TakesTrigger n c (on c t) i
       → let next = tickBy n T on c t .card in
       let rs = readingsIn n T on next ts i in
       ResetLow rs → Throughout n T on TakesNone next ts i
-      → KeptWord (lastOf n T on c t ts) i (classOf (cellAt c i)) (cellAt c i .config) (pulsesIn rs)
+      → TimerAfter (lastOf n T on c t ts) i (classOf (cellAt c i)) (cellAt c i .config) (pulsesIn rs)
 
   -- "Types 14 and 16 ignore triggers while the count is above 0", and 15 and 17 "during the pulse
   -- as well". So with the reset low they take no other trigger up to and with the tick that makes
@@ -63,11 +63,11 @@ module _ (n : ℕ) (T : Type 0) (on : Card → T → Step) where
       let k = classOf (cellAt c i) in
       let d = cellAt c i .config in
       ResetLow rs → ignoring k d (pulsesBefore rs) ≡ true
-      → Throughout n T on TakesNone next ts i × KeptWord (lastOf n T on c t ts) i k d (pulsesIn rs)
+      → Throughout n T on TakesNone next ts i × TimerAfter (lastOf n T on c t ts) i k d (pulsesIn rs)
 
 -- over the card's own ticks
-abbrev pub KeepsWord : ℕ → Type 0
-KeepsWord n = KeepsWordOn n (Bool × Input) (own n)
+abbrev pub TimerPromise : ℕ → Type 0
+TimerPromise n = TimerPromiseOn n (Bool × Input) (own n)
 
 abbrev pub IgnoresAll : ℕ → Type 0
 IgnoresAll n = IgnoresAllOn n (Bool × Input) (own n)

@@ -12,7 +12,7 @@ ghost use Rattle.ticks.specs.Reading.{slotsRead};
 ghost use Rattle.ticks.specs.Rest.{turnedTo};
 ghost use Rattle.ticks.specs.Levels.{effectiveSample};
 ghost use Rattle.ticks.specs.Tick;
-ghost use Rattle.ticks.specs.Tick.{namedBy, turned, trimmed, wiresOf, linesIn, ranWith};
+ghost use Rattle.ticks.specs.Tick.{rulesName, turned, trimmed, wiresOf, linesIn, ranWith};
 ghost use Rattle.ticks.specs.Words.{ReadsAs, MovesAs, shiftedAt, FitsMemory};
 use crate::connectors::Lines;
 use crate::connectors::drive;
@@ -76,7 +76,7 @@ fn stepped(
 ) -> Stepped
     ensures { λ r. ⌜ ((f g h : ℕ → Bool) → ReadsAs (now (q .entry)) f g → MovesAs (now (d .entry)) f g h →
         let now = slotsRead f g (cell .slots) in
-        StepsTo r full (namedBy cell edited now (slotsRead g h (cell .slots))) (stateOf cell)
+        StepsTo r full (rulesName cell edited now (slotsRead g h (cell .slots))) (stateOf cell)
         (workOut (cell .kind) (cell .config) (stateOf cell) now) (lookedAt (cell .kind) now)) ⌝ }
 {
     let s = cell.slots;

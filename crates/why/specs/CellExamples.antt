@@ -1,5 +1,5 @@
--- Document 01, "Who wakes", and document 02, "Counter cells": the reasons of single cells, as one table by computation. The entries are read from the
--- papers.
+-- Document 01, "Who wakes", and document 02, "Counter cells": the reasons of single cells, as one
+-- table by computation. The entries are read from the papers.
 use Prim.Native.Nat.{ℕ}
 use mathlib.Core.Path.{_≡_, refl}
 use mathlib.Core.Bool.{Bool, true, false}
@@ -17,7 +17,8 @@ Why = Bool × Slots × Bool × Bool × Bool
 why : Reasons → Why
 why q = (q .edited, q .moved, q .clock, q .trigger, q .other)
 
--- a cell that nobody edited and that keeps nothing, with what its slots read now, and read in the last tick that ran
+-- a cell that nobody edited and that keeps nothing, with what its slots read now, and read in the
+-- last tick that ran
 resting : (kind : ℕ) → Slots → Slots → Why
 resting kind now last = why (reasonsOf kind (record { count = pulses 0; bit = false; pulse = false }) false now last)
 
@@ -61,24 +62,28 @@ xyf = slots true true false true
 -- given, expected
 abbrev table : List (Why × Why)
 table =
-    -- "it was edited since the last tick that ran": also a constant, and a type past the table, which have no slots; a gate whose slots moved too
+    -- "it was edited since the last tick that ran": also a constant, and a type past the table,
+    -- which have no slots; a gate whose slots moved too
     (edited 0, (true, no-slot, false, false, false))
     ∷ (edited 23, (true, no-slot, false, false, false))
     ∷ (edited 5, (true, XY, false, false, false))
-    -- "a used slot that isn't an edge slot has another value than in that tick", up or down; AND2 does not use Z and F
+    -- "a used slot that isn't an edge slot has another value than in that tick", up or down; AND2
+    -- does not use Z and F
     ∷ (resting 5 x no-slot, level x)
     ∷ (resting 5 no-slot x, level x)
     ∷ (resting 5 x x, none)
     ∷ (resting 5 XYZF XY, none)
     ∷ (resting 10 xf only-Y, level xyf)
-    -- "a flip-flop's clock slot is high": Y, and Z in a JK; a clock that went low is no reason, and a D that moved is
+    -- "a flip-flop's clock slot is high": Y, and Z in a JK; a clock that went low is no reason, and
+    -- a D that moved is
     ∷ (resting 1 only-Y no-slot, clock)
     ∷ (resting 1 only-Y only-Y, clock)
     ∷ (resting 1 no-slot only-Y, none)
     ∷ (resting 12 x no-slot, level x)
     ∷ (resting 13 only-Z no-slot, clock)
     ∷ (resting 13 only-Y no-slot, level only-Y)
-    -- "a timer's (8, 9, 14-17) trigger is high", taken or not; F is a trigger only in 16 and 17; the reset wakes by its value
+    -- "a timer's (8, 9, 14-17) trigger is high", taken or not; F is a trigger only in 16 and 17;
+    -- the reset wakes by its value
     ∷ (resting 8 x no-slot, trigger)
     ∷ (busy 14 3 false false x, trigger)
     ∷ (resting 14 f no-slot, none)
@@ -88,7 +93,8 @@ table =
     ∷ (busy 15 1 false false only-Y, clock)
     ∷ (busy 9 0 true false only-Y, clock)
     ∷ (busy 9 0 false true only-Y, none)
-    -- counters: "on a clock while active (19 and 20 by A and B as read in that tick, ..."; A and B wake by their value
+    -- counters: "on a clock while active (19 and 20 by A and B as read in that tick, ..."; A and B
+    -- wake by their value
     ∷ (busy 19 0 false false xyf, clock)
     ∷ (busy 19 0 false true XY, none)
     ∷ (busy 20 0 false false XY, clock)
@@ -107,7 +113,8 @@ reasons : map (λ (e : Why × Why). e .0) table ≡ map (λ (e : Why × Why). e 
 unfolding why resting busy edited none level clock trigger other rowOf reasonsOf
 reasons = refl
 
--- what is told with them: the values that the used slots have now. A slot that moved had the other one
+-- what is told with them: the values that the used slots have now. A slot that moved had the other
+-- one
 values : (kind : ℕ) → Slots → Slots → Slots × Slots
 values kind now last =
     let q = reasonsOf kind (record { count = pulses 0; bit = false; pulse = false }) false now last in

@@ -1,4 +1,5 @@
--- Document 01, "Who wakes": why the cells of a card wake in a tick, over the number n of cells. What they read is that of the tick's own definition.
+-- Document 01, "Who wakes": why the cells of a card wake in a tick, over the number n of cells.
+-- What they read is that of the tick's own definition.
 use Prim.Native.Nat.{ℕ}
 use mathlib.Core.Bool.{Bool, false, cond}
 use mathlib.Core.List.{List}
@@ -17,7 +18,8 @@ use Rattle.ticks.specs.declared.view.Input.{Input}
 use Rattle.ticks.specs.declared.view.Wires.{Wires}
 use Rattle.ticks.specs.Tick.{readNow, readLast, outputsBelow, wiresOf, lines}
 
--- cell i's reasons, by what it reads in this tick and read in the last one that ran; `below` is the word of this tick's outputs
+-- cell i's reasons, by what it reads in this tick and read in the last one that ran; `below` is the
+-- word of this tick's outputs
 unfoldable pub reasonsAt : (n : ℕ) → Cell → (i edited : ℕ) → Wires → ℕ → Reasons
 reasonsAt n cell i edited w below =
     reasonsOf (cell .kind) (stateOf cell) (bitAt edited i) (readNow n i w below (cell .slots)) (readLast n i w (cell .slots))

@@ -7,7 +7,7 @@ use lib.Seq.{getD-drop}
 use borrow.Author.Needs.{needs}
 use Rattle.card.specs.Address.{cellCount}
 use Rattle.card.specs.Fresh.{noCell}
-use Rattle.card.specs.Valid.{every}
+use Rattle.text.specs.Digits.{every}
 use Rattle.card.proofs.Settings.{Tested, tested-next}
 use Rattle.convert.specs.Convert.{isBlank}
 use Rattle.convert.proofs.all_blank.Statement.{statement}

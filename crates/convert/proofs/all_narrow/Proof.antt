@@ -5,7 +5,7 @@ use native.Mathlib.Omega.{arith}
 use lib.ListN.{take}
 use borrow.Author.Needs.{needs}
 use Rattle.card.specs.Fresh.{noCell}
-use Rattle.card.specs.Valid.{every}
+use Rattle.text.specs.Digits.{every}
 use Rattle.card.proofs.Settings.{Tested, tested-next}
 use Rattle.convert.specs.Convert.{narrowCell}
 use Rattle.convert.proofs.all_narrow.Statement.{statement}

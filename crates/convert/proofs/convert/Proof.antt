@@ -11,7 +11,8 @@ use borrow.Author.Needs.{needs}
 use Rattle.card.specs.declared.card.Card.{Card}
 use Rattle.card.specs.Address.{cellCount, cellRoom, cellsFor}
 use Rattle.card.specs.Connectors.{each}
-use Rattle.card.specs.Valid.{every, valid}
+use Rattle.text.specs.Digits.{every}
+use Rattle.card.specs.Valid.{valid}
 use Rattle.saved.specs.Record.{narrowWidth, recordLength, encode, recordOf, loadNumber, loaded}
 use Rattle.saved.proofs.Records.{loaded-cells}
 use Rattle.convert.specs.Convert.{largeLength, cellsOf, otherWidth, otherLength, shortFor, loaderNumber, narrowCell, tooLong, isBlank, aboveSmall}

@@ -6,7 +6,8 @@ use lib.ListN.{take}
 use borrow.Author.Needs.{needs}
 use Rattle.card.specs.Address.{cellRoom, cellsFor}
 use Rattle.card.specs.Fresh.{noCell}
-use Rattle.card.specs.Valid.{validCell, every}
+use Rattle.text.specs.Digits.{every}
+use Rattle.card.specs.Valid.{validCell}
 use Rattle.card.proofs.Settings.{Tested, tested-next}
 use Rattle.card.proofs.valid.valid_cells.Statement.{statement}
 use Rattle.card.proofs.valid.valid_cells.Tie as tie

@@ -5,7 +5,8 @@ use native.Mathlib.Omega.{arith}
 use lib.Seq.{take-all}
 use borrow.Author.Needs.{needs}
 use Rattle.card.specs.Address.{cellsFor, connectorCount}
-use Rattle.card.specs.Valid.{validConnector, every}
+use Rattle.text.specs.Digits.{every}
+use Rattle.card.specs.Valid.{validConnector}
 use Rattle.card.specs.Connectors.{noConnector}
 use Rattle.card.proofs.Settings.{Tested, tested-next}
 use Rattle.card.proofs.valid.valid_connectors.Statement.{statement}

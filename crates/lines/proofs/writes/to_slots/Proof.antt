@@ -37,7 +37,7 @@ returns c =
     let p = c .before .before .before .before .before .before .before .args .p in
     let x = c .before .before .before .before .before .before .before .args .x in
     let k = refusal (cellsFor (x .size)) x 0 (SetSlots p) in
-    let first = orElse (when (anyTooLarge p) 4) (when (not (x .celled)) 6) in
+    let first = orElse (when (anyTooLarge p) 4) (when (not (x .«at_cell»)) 6) in
     let unused = when (unusedSlot (x .cell .kind) (p .given)) 10 in
     let fits : k ≡ 0 → Slots (cutWires p) ≡ Slots (wiresOf p) = λ z.
     ap Slots (wires-fit (cellsFor (x .size)) p (last-none unused (anyBadAddress (cellsFor (x .size)) p) 10 (none-of first _ z .1))) in

@@ -35,10 +35,10 @@ unfolding decision refusal changeFor responseTo
 returns c =
     let a = c .before .before .before .before .before .before .before .before .args in
     let v = a .v in
-    let first = judged v (not (a .x .celled)) 6 in
+    let first = judged v (not (a .x .«at_cell»)) 6 in
     let k = orElse first (when (badState (a .x .cell .kind) v) 12) in
     let fits : k ≡ 0 → State (v % 4294967296) ≡ State v = λ z.
-    ap State (mod-eq-of-lt (number-fits v (judged-none v (not (a .x .celled)) 5 (none-of first _ z .0) .0))) in
+    ap State (mod-eq-of-lt (number-fits v (judged-none v (not (a .x .«at_cell»)) 5 (none-of first _ z .0) .0))) in
     cc (same-decided k (State (v % 4294967296)) (State v) silent fits)
 
 pub to-state-spec : {M : Type 1} → statement M

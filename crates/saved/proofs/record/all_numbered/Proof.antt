@@ -6,6 +6,8 @@ use mathlib.Core.List.{List}
 use native.Mathlib.Nat.{mul-le-mul-right, suc-mul}
 use native.Mathlib.Omega.{arith}
 use lib.ListN.{length}
+use Rattle.words.specs.Listed.{listed}
+use Rattle.text.specs.Digits.{every}
 use Rattle.saved.specs.Headers.{everyBelow, numberedAt}
 use Rattle.saved.proofs.Headers.{every-next}
 use borrow.Author.Needs.{needs}
@@ -27,7 +29,7 @@ abbrev μ-loop : tie.MeasureT-loop
 μ-loop bytes start step count tag size first ok₀ i₀ ok i = count - i
 
 loop-holds : tie.Need-loop-holds Inv-loop μ-loop
-unfolding everyBelow
+unfolding every listed
 loop-holds c = (zero-le, refl)
 
 cast-at : tie.Need-cast-at Inv-loop μ-loop

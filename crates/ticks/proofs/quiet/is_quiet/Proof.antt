@@ -33,7 +33,7 @@ returns-2 c =
     let a = c .before .before .before .args in
     let o = a .w .outputs in (
       off (eqb (a .edited) 0) (steady (a .w)) (allRest (a .n) (view (a .n) 0 o o (a .w .levels)) (a .cells))
-      (sym (c .before .unchanged .ensures) ∙ not-true _ (c .if2 .taken)),
+          (sym (c .before .unchanged .ensures) ∙ not-true _ (c .if2 .taken)),
       λ h. absurd (false≢true h),
     )
 

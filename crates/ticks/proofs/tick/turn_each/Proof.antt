@@ -27,7 +27,7 @@ use Rattle.card.specs.Fresh.{noCell}
 use Rattle.card.specs.declared.card.Card.{Card}
 use Rattle.ticks.specs.declared.view.Wires.{Wires}
 use Rattle.ticks.specs.Rest.{turnedTo}
-use Rattle.ticks.specs.Tick.{Turn, namedBy, outputsBelow, turnAt, turnOf, turned, ranWith, seesNow, sawLast, sawEarlier, readNow, readLast}
+use Rattle.ticks.specs.Tick.{Turn, rulesName, outputsBelow, turnAt, turnOf, turned, ranWith, seesNow, sawLast, sawEarlier, readNow, readLast}
 use Rattle.ticks.specs.Words.{ReadsAs, MovesAs, shiftedAt, Fits, FitsMemory}
 use Rattle.ticks.proofs.Ticks.{outputs-built}
 use Rattle.ticks.proofs.Turns.{afterOf, outsOf, namesOf, wokesOf, seated, upTo, as-long}
@@ -169,7 +169,7 @@ taken s =
     let was = bitAt (a .card .edited) (l .i) in
     let turn = turn-here at (asked .before .loop-test .taken) in
     let is = subst
-    (λ (b : Bool). StepsTo r (a .full) (namedBy old b now last) (stateOf old) (workOut (old .kind) (old .config) (stateOf old) now) (lookedAt (old .kind) now))
+    (λ (b : Bool). StepsTo r (a .full) (rulesName old b now last) (stateOf old) (workOut (old .kind) (old .config) (stateOf old) now) (lookedAt (old .kind) now))
     (asked .bit .ensures) (s .stepped .ensures _ _ _ (l .inv .4) (l .inv .5)) in
     record {
       names = sym (ap (λ (t : Turn). t .named) turn ∙ step-named (a .full) old was out now last r is);

@@ -1,5 +1,5 @@
--- The card's memory is honest: over every list its edits are those that the calls made since the last tick that ran, and what it remembers is
--- what that tick read. So who wakes in a quick tick goes by the calls.
+-- The card's memory is the history of its calls: over every list its edits are those that the calls made since the
+-- last tick that ran, and what it remembers is what that tick read. So who wakes in a quick tick goes by the calls.
 use Prim.Native.Nat.{ℕ, _-_, _^_, _≤_, _<_}
 use mathlib.Core.Path.{_≡_, refl, ap, ap₂, _∙_}
 use mathlib.Core.Bool.{Bool, true, false, cond}
@@ -27,7 +27,7 @@ use Rattle.calls.specs.Calls.{Call, afterCall, end}
 use Rattle.calls.specs.Calls.Call.{line, load, tick}
 use Rattle.calls.specs.History.{editedNext, editedSince, Readings, lowReadings, readNext, readSince, WhoWakes, lastNext, lastSince}
 use Rattle.calls.proofs.Lists.{line-edit}
-use Rattle.calls.proofs.Runs.{honest}
+use Rattle.calls.proofs.Runs.{tracked}
 
 module _ (n : ℕ) where
   -- ---- edits
@@ -45,13 +45,13 @@ module _ (n : ℕ) where
       by-tick-on n full c code (on c) (λ t. bitAt (t .card .edited) i ≡ cond (t .answer .ran) false (bitAt (c .edited) i)) (λ _. bit-zero i) (λ _. refl)
 
   -- over every list
-  pub edited-honest : (c : Card) (calls : List Call) (i : ℕ) → i < n → bitAt (end n c calls .edited) i ≡ editedSince n c calls i (bitAt (c .edited) i)
-  edited-honest c calls i h =
-      honest (afterCall n) (λ d. bitAt (d .edited) i) (λ d call. editedNext n d call i) (λ d call. call-edited d call i h) c calls
+  pub edited-since : (c : Card) (calls : List Call) (i : ℕ) → i < n → bitAt (end n c calls .edited) i ≡ editedSince n c calls i (bitAt (c .edited) i)
+  edited-since c calls i h =
+      tracked (afterCall n) (λ d. bitAt (d .edited) i) (λ d call. editedNext n d call i) (λ d call. call-edited d call i h) c calls
 
   -- from a fresh card, where none is edited
   pub edited-from-fresh : (calls : List Call) (i : ℕ) → i < n → bitAt (end n (freshOf n) calls .edited) i ≡ editedSince n (freshOf n) calls i false
-  edited-from-fresh calls i h = edited-honest (freshOf n) calls i h ∙ ap (editedSince n (freshOf n) calls i) (bit-zero i)
+  edited-from-fresh calls i h = edited-since (freshOf n) calls i h ∙ ap (editedSince n (freshOf n) calls i) (bit-zero i)
 
   -- ---- words
 
@@ -73,8 +73,8 @@ module _ (n : ℕ) where
       (λ _. refl) (λ _. refl)
 
   -- over every list
-  pub last-honest : (c : Card) (calls : List Call) → end n c calls .memory ≡ lastSince n c calls (c .memory)
-  last-honest = honest (afterCall n) (λ d. d .memory) (lastNext n) call-last
+  pub memory-since : (c : Card) (calls : List Call) → end n c calls .memory ≡ lastSince n c calls (c .memory)
+  memory-since = tracked (afterCall n) (λ d. d .memory) (lastNext n) call-last
 
   -- ---- readings
 
@@ -100,14 +100,14 @@ module _ (n : ℕ) where
       (λ _ k s. remembers-on n full c (on c) i s h k) (λ _. refl)
 
   -- over every list
-  pub read-honest : (c : Card) (calls : List Call) (i : ℕ) → i ≤ n
+  pub read-since : (c : Card) (calls : List Call) (i : ℕ) → i ≤ n
       → remembered n i (end n c calls .memory) ≡ readSince n c calls i (remembered n i (c .memory))
-  read-honest c calls i h =
-      honest (afterCall n) (λ d. remembered n i (d .memory)) (λ d call. readNext n d call i) (λ d call. call-read d call i h) c calls
+  read-since c calls i h =
+      tracked (afterCall n) (λ d. remembered n i (d .memory)) (λ d call. readNext n d call i) (λ d call. call-read d call i h) c calls
 
   -- from a fresh card
   pub read-from-fresh : (calls : List Call) (i : ℕ) → i ≤ n → remembered n i (end n (freshOf n) calls .memory) ≡ readSince n (freshOf n) calls i lowReadings
-  read-from-fresh calls i h = read-honest (freshOf n) calls i h ∙ ap (readSince n (freshOf n) calls i) (low-fresh i)
+  read-from-fresh calls i h = read-since (freshOf n) calls i h ∙ ap (readSince n (freshOf n) calls i) (low-fresh i)
 
   -- ---- the woken set of a quick tick, said of the list
 

@@ -1,0 +1,104 @@
+"""Threads: calls on one card come one after the other, and cards of their own run side by side."""
+
+from __future__ import annotations
+
+import threading
+from typing import Callable, List
+
+from trigger_card import Card, Closed, Rack
+
+
+def together(calls: List[Callable[[], None]]) -> List[BaseException]:
+    """Runs the calls in threads of their own that start at once, and gives what they raised."""
+    gate, raised = threading.Barrier(len(calls)), []
+
+    def body(call: Callable[[], None]) -> None:
+        gate.wait()
+        try:
+            call()
+        except BaseException as error:
+            raised.append(error)
+
+    threads = [threading.Thread(target=body, args=(call,)) for call in calls]
+    for thread in threads:
+        thread.start()
+    for thread in threads:
+        thread.join()
+    return raised
+
+
+def toggling() -> Card:
+    """Cell 1 toggles in every tick, and BNC1 follows it."""
+    card = Card()
+    card.wire("M E=1\n36CCA Y=1\n36CCB X=65 Y=192\nM E=33\n36CCA Z=1")
+    return card
+
+
+def test_one_card() -> None:
+    """No tick is lost, and each answer belongs to its tick: cell 1 is high in every other one."""
+    card, seen = toggling(), []
+
+    def ticks() -> None:
+        seen.extend([card.tick(0).cells for _ in range(3000)])
+
+    def runs() -> None:
+        for _ in range(100):
+            seen.extend(card.run([0] * 30).cells)
+
+    assert not together([ticks, ticks, runs, runs])
+    assert card.tallies().ticks == len(seen) == 12000 and sum(seen) == 6000
+
+
+def test_wirings_are_whole() -> None:
+    """A wiring that one thread sets is never seen in part by another."""
+    card = Card()
+    low = "".join(f"M E={n}\n36CCA Y=0\n36CCA Z=0\n" for n in range(1, 17))
+    high = low.replace("Z=0", "Z=1")
+
+    def wires() -> None:
+        for _ in range(50):
+            card.wire(high)
+            card.wire(low)
+
+    def looks() -> None:
+        for _ in range(2000):
+            assert card.tick(0, full=True).cells in (0, 0xFFFF)
+
+    assert not together([wires, wires, looks])
+
+
+def test_cards_side_by_side() -> None:
+    """Threads with cards of their own get what they would get alone."""
+    alone = list(toggling().run([0] * 20000).driven)
+    found = []
+    assert not together([lambda: found.append(list(toggling().run([0] * 20000).driven)) for _ in range(4)])
+    assert found == 4 * [alone]
+
+
+def test_rack() -> None:
+    """No tick of a rack is lost."""
+    rack = Rack(2)
+
+    def ticks() -> None:
+        for _ in range(1000):
+            rack.tick([0, 0])
+
+    assert not together([ticks, ticks, ticks])
+    assert [rack.card(n).tallies().ticks for n in (1, 2)] == [3000, 3000]
+
+
+def test_closed_under_way() -> None:
+    """A card that one thread closes raises `Closed` in the others, and nothing else."""
+    for _ in range(20):
+        card = toggling()
+
+        def ticks() -> None:
+            while True:
+                card.tick(0)
+
+        def runs() -> None:
+            while True:
+                card.run([0] * 1000)
+
+        raised = together([ticks, runs, card.close])
+        assert [type(error) for error in raised] == [Closed, Closed]
