@@ -1,4 +1,5 @@
--- Laws of the counters over the readings of their slots: worked out or asleep, a counter makes of its count and its bit what specs/Counting says.
+-- Laws of the counters over the readings of their slots: worked out or asleep, a counter makes of
+-- its count and its bit what specs/Counting says.
 use Prim.Native.Nat.{ℕ, _+_, _<_, _≤_}
 use mathlib.Core.Path.{_≡_, refl, sym, ap, _∙_}
 use mathlib.Core.Bool.{Bool, true, false, not, _&&_, _||_, cond, true≢false}

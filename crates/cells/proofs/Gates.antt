@@ -1,12 +1,17 @@
--- The gates of four slots: looked at one by one from the last, they answer the AND and the OR of the four, as before.
-use Prim.Native.Nat.{ℕ}
-use mathlib.Core.Path.{_≡_, refl}
+-- The gates of four slots: looked at one by one from the last, they answer the AND and the OR of
+-- the four, as before. A lookup's answers make its code.
+use Prim.Native.Nat.{ℕ, _^_, _<_}
+use mathlib.Core.Path.{_≡_, refl, ap, _∙_}
 use mathlib.Core.Bool.{Bool, true, false, not, _&&_, _||_, Bool·beq, cond}
+use Rattle.words.specs.Bits.{bitAt, wordOf}
+use Rattle.words.proofs.Laws.{built-same, built-of-bits}
 use Rattle.cells.specs.declared.table.Slots.{Slots}
+use Rattle.cells.specs.declared.cell.State.{State}
 use Rattle.cells.specs.declared.work.Looked.{Looked}
 use Rattle.cells.specs.declared.table.GateKind.the-variants.{And4, Or4}
-use Rattle.cells.specs.Table.{slots}
-use Rattle.cells.specs.Work.{gateOut, decidesAnd, decidesOr, looked}
+use Rattle.cells.specs.Table.{slots, rowOf}
+use Rattle.cells.specs.Work.{slotsOf, gateOut, decidesAnd, decidesOr, looked, workAs, workOut}
+use Rattle.cells.proofs.Packed.{place-back}
 
 abbrev pub seen : Bool → ℕ → Looked
 seen out slots = record { out = out; slots = slots }
@@ -80,3 +85,9 @@ looked-and code r = and-four (r .x) (r .y) (r .z) (r .f)
 
 pub looked-or : (code : ℕ) (r : Slots) → looked decidesOr r .out ≡ gateOut Or4 code r
 looked-or code r = or-four (r .x) (r .y) (r .z) (r .f)
+
+-- a lookup of four slots: its sixteen answers, place by place, are the bits of its code
+pub lookup-code : (code : ℕ) (s : State) → code < 2 ^ 16 → wordOf (λ p. workOut 4 code s (slotsOf p) .out) 16 ≡ code
+unfolding workOut workAs rowOf
+lookup-code code s h =
+    built-same (λ p. workOut 4 code s (slotsOf p) .out) (bitAt code) 16 (λ p k. ap (bitAt code) (place-back p k)) ∙ built-of-bits code 16 h

@@ -1,4 +1,5 @@
--- Laws of a cell that the card uses: a cell that is not stirred and whose level slots agree may sleep; only edges stir it; when a cell wakes.
+-- Laws of a cell that the card uses: a cell that is not stirred and whose level slots agree may
+-- sleep; only edges stir it; when a cell wakes.
 use Prim.Native.Nat.{ℕ, _≤_}
 use mathlib.Core.Path.{_≡_, refl, sym, ap, _∙_}
 use mathlib.Core.Bool.{Bool, true, false, not, _&&_, _||_, Bool·beq, cond, true≢false}
@@ -46,8 +47,9 @@ none-in s e = rw (e .x, e .y, e .z, e .f)
 
 -- ---- why a cell may sleep
 
--- the slots that a class reads whether or not it is stirred: no edge slot of a type may be among them. The sets are written out, and not by the
--- table's names for them, so that they bind the table
+-- the slots that a class reads whether or not it is stirred: no edge slot of a type may be among
+-- them. The sets are written out, and not by the table's names for them, so that they bind the
+-- table
 flopAlways : FlopKind → Slots
 flopAlways DFlop = slots false false true true
 flopAlways SyncDFlop = slots false false false false
@@ -137,7 +139,8 @@ pulse-again true y n p v e h k = sym e
 pulse-again false false n p v e h k = refl
 pulse-again false true n p v e h k = rw k (sym h)
 
--- what a timer that is not stirred tells: no trigger, no clock while there is something to count or to end
+-- what a timer that is not stirred tells: no trigger, no clock while there is something to count or
+-- to end
 quiet-trigger : (count : ℕ) (pulse : Bool) (r : Slots) → timerStirred count pulse r ≡ false → trigger r ≡ false
 quiet-trigger count pulse r h = or-left (trigger r) _ h
 
@@ -182,7 +185,8 @@ started-again m n obeyed now active edges z =
     let stop = or-right (n .x) (n .f) edges in
     rw (start, stop, z) (stop-again (m .z) (m .f) _)
 
--- a counter that is not stirred: the same slots, or neither start nor stop, say whether it is active
+-- a counter that is not stirred: the same slots, or neither start nor stop, say whether it is
+-- active
 module _ (s : State) (e m n : Slots) (same : Same e m n) where
   active-again : (k : CounterKind) → Empty (masked (counterAlways k) e) → counterStirred k (counter k s m .state .bit) n ≡ false
       → activeAfter k n (counter k s m .state .count .0) (counter k s m .state .bit) ≡ activeAfter k m (s .count .0) (s .bit)
@@ -256,7 +260,8 @@ again-as (Delay t) config s e m n fit same h =
     λ i. counting s (c i) (p i) (p i)
 again-as (Counter k) config s e m n fit same h = counter-again k s e m n fit same h
 
--- after a cell has been worked out, working it out again with readings that agree on the level slots and stir nothing changes nothing
+-- after a cell has been worked out, working it out again with readings that agree on the level
+-- slots and stir nothing changes nothing
 pub again : (kind config : ℕ) (s : State) (last now : Slots) → disagree kind last now ≡ false
     → stirred kind (workOut kind config s last .state) now ≡ false
     → workOut kind config (workOut kind config s last .state) now ≡ workOut kind config s last
@@ -366,7 +371,8 @@ pub wakes-splits : (kind : ℕ) (s : State) (edited : Bool) (now last : Slots)
 unfolding wakes
 wakes-splits kind s edited now last = refl
 
--- a reading agrees with itself; agreement on the level slots goes both ways, and from one reading to the next
+-- a reading agrees with itself; agreement on the level slots goes both ways, and from one reading
+-- to the next
 
 differ-self : (s a : Bool) → differ s a a ≡ false
 differ-self false a = refl

@@ -3,7 +3,8 @@ use Prim.Native.Nat.{ℕ, _≤_, _<_}
 use mathlib.Core.Path.{_≡_, refl, ap, _∙_}
 use mathlib.Core.Bool.{Bool, true, false}
 use native.Mathlib.Omega.{arith}
-use Rattle.words.specs.Bits.{bitAt, bitNumber}
+use Rattle.words.specs.Bits.{bitAt, bitNumber, wordOf}
+use Rattle.words.proofs.Laws.{built-of-bits}
 use Rattle.cells.specs.declared.table.Slots.{Slots}
 use Rattle.cells.specs.Table.{slots}
 use Rattle.cells.specs.Work.{placeOf, slotsOf}
@@ -50,3 +51,8 @@ column s p e = (e, rw e (place-lt s))
 
 pub set-of : (s : Slots) (p : ℕ) → p ≡ placeOf s → slotsOf p ≡ s
 set-of s p e = ap slotsOf e ∙ slots-place s
+
+-- a place below 16 is that of the slots that it stands for
+pub place-back : (p : ℕ) → p < 16 → placeOf (slotsOf p) ≡ p
+unfolding slotsOf wordOf
+place-back p h = omega (arith, built-of-bits p 4 h)

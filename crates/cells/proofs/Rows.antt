@@ -1,4 +1,5 @@
--- Laws of the table by cell type: a test that holds of every row, columns that follow from others, and the row of a number past the table.
+-- Laws of the table by cell type: a test that holds of every row, columns that follow from others,
+-- and the row of a number past the table.
 use Prim.Native.Nat.{ℕ, zero, suc, _≤_, _<_}
 use mathlib.Core.Path.{_≡_, refl, _∙_}
 use mathlib.Core.Bool.{Bool, true, false, _&&_, Bool·beq, cond, false≢true}

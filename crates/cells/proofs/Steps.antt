@@ -1,16 +1,19 @@
--- Laws of a step, for the functions that ask a cell and work it out: what is asked of its level slots, and the two ways that a step ends.
-use mathlib.Core.Path.{_≡_, refl, sym, ap, _∙_}
+-- Laws of a step, for the functions that ask a cell and work it out: what is asked of its level
+-- slots, and the two ways that a step ends.
+use Prim.Native.Nat.{ℕ}
+use mathlib.Core.Path.{_≡_, refl, sym, ap, subst, _∙_}
 use mathlib.Core.Bool.{Bool, true, false, _||_, cond}
 use Rattle.cells.specs.declared.table.Slots.{Slots}
 use Rattle.cells.specs.declared.cell.State.{State}
 use Rattle.cells.specs.declared.cell.Worked.{Worked}
 use Rattle.cells.specs.declared.work.Effect.{Effect}
-use Rattle.cells.specs.declared.work.Effect.the-variants.{Slept}
+use Rattle.cells.specs.declared.step.Stepped.{Stepped}
 use Rattle.cells.specs.Table.{anySlot, slots}
 use Rattle.cells.specs.Work.{keeping}
-use Rattle.cells.specs.Effect.{workedBy, StepsTo}
+use Rattle.cells.specs.Effect.{workedBy, asleep, StepsTo}
 
--- the level slots that the code looks at, as the definition has them: a slot that is none of them is low
+-- the level slots that the code looks at, as the definition has them: a slot that is none of them
+-- is low
 pub two-on : (x y : Bool) → (x || y) ≡ anySlot (slots x y false false)
 two-on true y = refl
 two-on false true = refl
@@ -35,14 +38,23 @@ reset-on q true = refl
 reset-on q false = refl
 
 -- a cell that is worked out, and one that is not; `asked` is what the definition asks
-module _ (full named asked : Bool) (s : State) (worked : Worked) (is : named ≡ asked) where
-  pub step-worked : (e : Effect) → (full || named) ≡ true → ((out : Bool) → workedBy s out e ≡ worked)
-      → StepsTo (record { named = named; effect = e }) full asked s worked
-  step-worked e on done =
+module _ (full named asked : Bool) (s : State) (worked : Worked) (looks : ℕ) (is : named ≡ asked) where
+  pub step-worked : (e : Effect) (k : ℕ) → (full || named) ≡ true → ((out : Bool) → workedBy s out e ≡ worked) → k ≡ looks
+      → StepsTo (record { named = named; effect = e; looked = k }) full asked s worked looks
+  step-worked e k on done many =
       let due = ap (λ (b : Bool). full || b) (sym is) ∙ on in
-      record { says = is; gives = λ out. done out ∙ sym (ap (λ (b : Bool). cond b worked (keeping s out)) due) }
+      record {
+        says = is;
+        gives = λ out. done out ∙ sym (ap (λ (b : Bool). cond b worked (keeping s out)) due);
+        looks-at = many ∙ sym (ap (λ (b : Bool). cond b looks 0) due);
+      }
 
-  pub step-slept : (full || named) ≡ false → StepsTo (record { named = named; effect = Slept }) full asked s worked
-  step-slept off =
+  pub step-slept : (t : Stepped) → t ≡ asleep named → (full || named) ≡ false → StepsTo t full asked s worked looks
+  step-slept t e off =
       let due = ap (λ (b : Bool). full || b) (sym is) ∙ off in
-      record { says = is; gives = λ out. sym (ap (λ (b : Bool). cond b worked (keeping s out)) due) }
+      subst (λ (u : Stepped). StepsTo u full asked s worked looks) (sym e)
+      (record {
+        says = is;
+        gives = λ out. sym (ap (λ (b : Bool). cond b worked (keeping s out)) due);
+        looks-at = sym (ap (λ (b : Bool). cond b looks 0) due);
+      })

@@ -1,4 +1,5 @@
--- Laws of the timers over the pulses since a trigger: worked out or asleep, a timer has the count and the output that specs/Timing says.
+-- Laws of the timers over the pulses since a trigger: worked out or asleep, a timer has the count
+-- and the output that specs/Timing says.
 use Prim.Native.Nat.{ℕ, _+_, _-_, _<_, _≤_}
 use mathlib.Core.Path.{_≡_, refl, sym, ap, subst, _∙_}
 use mathlib.Core.Bool.{Bool, true, false, not, _&&_, _||_, cond, true≢false}

@@ -1,4 +1,5 @@
--- Working out and waking go by the used slots alone: readings that agree on them give the same, whatever the other slots read.
+-- Working out and waking go by the used slots alone: readings that agree on them give the same,
+-- whatever the other slots read.
 use Prim.Native.Nat.{ℕ}
 use mathlib.Core.Path.{_≡_, refl, ap, ap₂}
 use mathlib.Core.Bool.{Bool, true, false, not, _&&_, _||_}
@@ -16,7 +17,8 @@ pub work-used : (kind config : ℕ) (s : State) (a b : Slots) → SameUsed kind 
 unfolding workOut
 work-used kind config s a b same = ap (workAs (rowOf kind .class) config s) same
 
--- one slot: u whether it is used, e whether it is an edge slot; now and last of the one pair of readings, and of the other
+-- one slot: u whether it is used, e whether it is an edge slot; now and last of the one pair of
+-- readings, and of the other
 differ-used : (u e now last now′ last′ : Bool) → (u && now) ≡ (u && now′) → (u && last) ≡ (u && last′)
     → differ (u && not e) now last ≡ differ (u && not e) now′ last′
 differ-used false e now last now′ last′ p q = refl

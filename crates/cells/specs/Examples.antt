@@ -1,5 +1,7 @@
--- Document 01, "Cells", and document 02, "Counter cells": what a timer and a counter do in a tick, as one table by computation on the definitions; and
--- how far a gate of four slots looks. The numbers are read from the papers. Every clause of specs/Work has a row that another reading would change.
+-- Document 01, "Cells", and document 02, "Counter cells": what a timer and a counter do in a tick,
+-- as one table by computation on the definitions; and how far a gate of four slots looks. The
+-- numbers are read from the papers. Every clause of specs/Work has a row that another reading would
+-- change.
 use Prim.Native.Nat.{ℕ}
 use mathlib.Core.Path.{_≡_, refl}
 use mathlib.Core.Bool.{Bool, true, false}
@@ -9,7 +11,8 @@ use Rattle.cells.specs.declared.cell.Worked.{Worked}
 use Rattle.cells.specs.Table.{slots, rowOf}
 use Rattle.cells.specs.Work.{pulses, taken, raised, decidesAnd, decidesOr, looked, workAs, workOut}
 
--- a timer's count, its pulse and its output; of a counter the count, "active" as it is kept, and the output
+-- a timer's count, its pulse and its output; of a counter the count, "active" as it is kept, and
+-- the output
 abbrev Shown : Type 0
 Shown = ℕ × Bool × Bool
 
@@ -32,7 +35,8 @@ counted kind count active r =
     let w = workOut kind 0 (record { count = pulses count; bit = active; pulse = false }) r in
     (w .state .count .0, w .state .bit, w .out)
 
--- what is high in the tick: X is the trigger, Y the clock, Z the reset, F the other trigger of types 16 and 17
+-- what is high in the tick: X is the trigger, Y the clock, Z the reset, F the other trigger of
+-- types 16 and 17
 abbrev nothing : Slots
 nothing = slots false false false false
 
@@ -96,7 +100,8 @@ table =
     ∷ (shot 14 3 0 trigger-clock, (3, false, true))
     ∷ (shot 16 3 0 other-trigger-clock, (3, false, true))
     ∷ (shot 16 3 0 trigger-clock, (3, false, true))
-    -- without a clock it is taken as well; of duration 0 it leaves nothing to count, also where there was something
+    -- without a clock it is taken as well; of duration 0 it leaves nothing to count, also where
+    -- there was something
     ∷ (shot 8 3 0 trigger, (3, false, true))
     ∷ (shot 8 0 0 trigger, (0, false, false))
     ∷ (shot 8 0 2 trigger, (0, false, false))
@@ -116,17 +121,20 @@ table =
     ∷ (shot 14 3 2 clock-reset, (0, false, false))
     ∷ (shot 16 3 0 trigger-clock-reset, (0, false, false))
     ∷ (shot 8 3 2 trigger-clock-reset, (0, false, false))
-    -- "Types 14 and 16 ignore triggers while the count is above 0", and the clock is not ignored then; type 8 takes them
+    -- "Types 14 and 16 ignore triggers while the count is above 0", and the clock is not ignored
+    -- then; type 8 takes them
     ∷ (shot 14 3 2 trigger-clock, (1, false, true))
     ∷ (shot 16 3 2 other-trigger-clock, (1, false, true))
     ∷ (shot 16 3 2 trigger-clock, (1, false, true))
     ∷ (shot 14 3 1 trigger, (1, false, true))
     ∷ (shot 8 3 2 trigger-clock, (3, false, true))
-    -- a one-shot that is handed in with a pulse: it stays, and neither makes the output high nor keeps a trigger out
+    -- a one-shot that is handed in with a pulse: it stays, and neither makes the output high nor
+    -- keeps a trigger out
     ∷ (pulsed 8 3 1 true clock, (0, true, false))
     ∷ (pulsed 8 3 1 true reset, (0, true, false))
     ∷ (pulsed 14 3 0 true trigger, (3, true, true))
-    -- a delay of 1: the trigger's tick, the first clock edge, "reaching 0 starts the pulse", and the next, which "finds the count at 0"
+    -- a delay of 1: the trigger's tick, the first clock edge, "reaching 0 starts the pulse", and
+    -- the next, which "finds the count at 0"
     ∷ (pulsed 9 1 0 false trigger-clock, (1, false, false))
     ∷ (pulsed 9 1 1 false clock, (0, true, true))
     ∷ (pulsed 9 1 0 true nothing, (0, true, true))
@@ -134,7 +142,8 @@ table =
     ∷ (pulsed 9 1 0 false clock, (0, false, false))
     ∷ (pulsed 9 3 3 false clock, (2, false, false))
     ∷ (pulsed 9 3 3 false nothing, (3, false, false))
-    -- a delay that is handed in with a count and a pulse keeps the pulse until an edge finds the count at 0
+    -- a delay that is handed in with a count and a pulse keeps the pulse until an edge finds the
+    -- count at 0
     ∷ (pulsed 9 5 2 true clock, (1, true, true))
     ∷ (pulsed 9 5 1 true clock, (0, true, true))
     ∷ (pulsed 9 5 2 true nothing, (2, true, true))
@@ -150,7 +159,8 @@ table =
     ∷ (pulsed 15 0 0 false trigger, (0, true, true))
     ∷ (pulsed 17 2 0 false trigger, (2, false, false))
     ∷ (pulsed 17 2 0 false other-trigger-clock, (2, false, false))
-    -- document 02: 15 and 17 "ignore triggers during the pulse as well, also with duration 0"; the clock keeps its effect. Type 9 takes them
+    -- document 02: 15 and 17 "ignore triggers during the pulse as well, also with duration 0"; the
+    -- clock keeps its effect. Type 9 takes them
     ∷ (pulsed 15 2 0 true trigger, (0, true, true))
     ∷ (pulsed 15 2 0 true trigger-clock, (0, false, false))
     ∷ (pulsed 17 0 0 true other-trigger, (0, true, true))
@@ -162,13 +172,15 @@ table =
     ∷ (pulsed 17 2 2 false other-trigger-clock, (1, false, false))
     ∷ (pulsed 15 2 2 false trigger, (2, false, false))
     ∷ (pulsed 9 2 1 false trigger-clock, (2, false, false))
-    -- document 02: "Durations and counts of the timer types 8, 9 and 14 to 17 go to 4,294,967,295": the longest is counted down from there and nothing wraps
+    -- document 02: "Durations and counts of the timer types 8, 9 and 14 to 17 go to 4,294,967,295":
+    -- the longest is counted down from there and nothing wraps
     ∷ (shot 16 4294967295 0 other-trigger-clock, (4294967295, false, true))
     ∷ (shot 14 4294967295 4294967295 trigger-clock, (4294967294, false, true))
     ∷ (pulsed 9 4294967295 0 true trigger, (4294967295, false, false))
     ∷ (pulsed 17 4294967295 4294967295 false clock, (4294967294, false, false))
     ∷ (pulsed 15 4294967295 65536 false clock, (65535, false, false))
-    -- "19 is active while A and B are high, 20 while either is"; "While active, a clock edge adds 1"; neither keeps "active": the bit stays
+    -- "19 is active while A and B are high, 20 while either is"; "While active, a clock edge adds
+    -- 1"; neither keeps "active": the bit stays
     ∷ (counted 19 4 false a-b-clock, (5, false, true))
     ∷ (counted 19 4 true a-b-clock, (5, true, true))
     ∷ (counted 19 4 false a-b, (4, false, true))
@@ -185,7 +197,8 @@ table =
     ∷ (counted 19 4 false clock-reset, (0, false, false))
     ∷ (counted 20 4 false a-reset, (0, false, true))
     ∷ (counted 20 4 false reset, (0, false, false))
-    -- 21: "in the starting tick too and not in the stopping one"; "stop wins over start"; without start it goes on, and a start keeps the count
+    -- 21: "in the starting tick too and not in the stopping one"; "stop wins over start"; without
+    -- start it goes on, and a start keeps the count
     ∷ (counted 21 0 false start-clock, (1, true, true))
     ∷ (counted 21 4 false start-clock, (5, true, true))
     ∷ (counted 21 4 false start, (4, true, true))
@@ -196,7 +209,8 @@ table =
     ∷ (counted 21 4 true stop, (4, false, false))
     ∷ (counted 21 4 true a-b-clock, (4, false, false))
     ∷ (counted 21 4 false a-b-clock, (4, false, false))
-    -- "22 obeys start only while its count is 0"; once active it counts on, and a start that is not obeyed takes nothing from it
+    -- "22 obeys start only while its count is 0"; once active it counts on, and a start that is not
+    -- obeyed takes nothing from it
     ∷ (counted 22 0 false start-clock, (1, true, true))
     ∷ (counted 22 0 false start, (0, true, true))
     ∷ (counted 22 1 false start-clock, (1, false, false))
@@ -205,7 +219,8 @@ table =
     ∷ (counted 22 0 false clock, (0, false, false))
     ∷ (counted 22 3 true stop-clock, (3, false, false))
     ∷ (counted 22 0 false a-b-clock, (0, false, false))
-    -- "Reset comes before all else": "21 and 22 become inactive, and neither start nor clock is obeyed"
+    -- "Reset comes before all else": "21 and 22 become inactive, and neither start nor clock is
+    -- obeyed"
     ∷ (counted 21 4 true a-b-clock-reset, (0, false, false))
     ∷ (counted 21 4 true clock-reset, (0, false, false))
     ∷ (counted 21 4 false start-clock-reset, (0, false, false))

@@ -1,5 +1,6 @@
--- Document 01, "Cells": constants, lookups, gates and flip-flops, as tables by computation, and what working out leaves of a state. The values are read
--- from the paper. Every clause of specs/Work has a row that another reading would change.
+-- Document 01, "Cells": constants, lookups, gates and flip-flops, as tables by computation, and
+-- what working out leaves of a state. The values are read from the paper. Every clause of
+-- specs/Work has a row that another reading would change.
 use Prim.Native.Nat.{ℕ}
 use mathlib.Core.Path.{_≡_, refl}
 use mathlib.Core.Bool.{Bool, true, false}
@@ -48,7 +49,8 @@ outputs =
     -- a number past the table does nothing
     ∷ (out 23 1 XYZF, false)
     ∷ (out 255 1 XYZF, false)
-    -- "p = X + 2Y + 4Z + 8F over the slots used, the answer is bit number p of the code": each slot alone, none, all
+    -- "p = X + 2Y + 4Z + 8F over the slots used, the answer is bit number p of the code": each slot
+    -- alone, none, all
     ∷ (out 4 0x0001 no-slot, true)
     ∷ (out 4 0x0002 only-X, true)
     ∷ (out 4 0x0004 only-Y, true)
@@ -111,7 +113,8 @@ Low = (false, false)
 abbrev High : Bool × Bool
 High = (true, true)
 
--- X is D, or J; Y the clock, or K; Z the reset, or a JK's clock; F the preset, or the reset at a clock
+-- X is D, or J; Y the clock, or K; Z the reset, or a JK's clock; F the preset, or the reset at a
+-- clock
 abbrev bits : List ((Bool × Bool) × (Bool × Bool))
 bits =
     -- type 1: "reset gives 0; else preset gives 1; else a clock edge takes D; else hold"
@@ -143,7 +146,8 @@ bits =
     ∷ (flop 18 true only-F, High)
     ∷ (flop 18 false only-X, Low)
     ∷ (flop 18 true no-slot, High)
-    -- type 13: "at an edge J K = 10 sets, 01 clears, 11 toggles, 00 holds"; without an edge it holds, and F is not its slot
+    -- type 13: "at an edge J K = 10 sets, 01 clears, 11 toggles, 00 holds"; without an edge it
+    -- holds, and F is not its slot
     ∷ (flop 13 false (slots true false true false), High)
     ∷ (flop 13 true (slots true false true false), High)
     ∷ (flop 13 true (slots false true true false), Low)

@@ -18,7 +18,8 @@ use Rattle.cells.specs.declared.table.CounterKind.the-variants.{WhileBot
 abbrev pub slots : Bool → Bool → Bool → Bool → Slots
 slots x y z f = record { x = x; y = y; z = z; f = f }
 
--- a line of the table: its types, each with what it does; the slots used; the edge slots; the largest configuration, none where there is none
+-- a line of the table: its types, each with what it does; the slots used; the edge slots; the
+-- largest configuration, none where there is none
 pub record ChartLine : Type 0 where
   pub types : List (ℕ × Class)
   pub used : Slots
@@ -51,7 +52,8 @@ only-Z = slots false false true false
 abbrev pub largestCode : ℕ
 largestCode = 65535
 
--- document 02, "Long exposures": "Durations and counts of the timer types 8, 9 and 14 to 17 go to 4,294,967,295". No configuration is larger
+-- document 02, "Long exposures": "Durations and counts of the timer types 8, 9 and 14 to 17 go to
+-- 4,294,967,295". No configuration is larger
 abbrev pub largestDuration : ℕ
 largestDuration = 4294967295
 
@@ -65,7 +67,8 @@ constantType = 0
 abbrev pub largestConstant : ℕ
 largestConstant = 1
 
--- a one-shot or a delay takes a trigger while its count is above 0 (retriggerable), or ignores it
+-- a one-shot or a delay takes a trigger while it is busy (retriggerable), or ignores it; specs/Work
+-- says when each is busy
 abbrev pub retriggerable : Bool
 retriggerable = true
 
@@ -75,8 +78,9 @@ not-retriggerable = false
 abbrev pub chartLine : List (ℕ × Class) → Slots → Slots → Option ℕ → ChartLine
 chartLine types used edge config = record { types = types; used = used; edge = edge; config = config }
 
--- the table of "Cells", in its order, and the counters: "19 and 20 take A, clock, reset, B with the clock edge-sensitive; 21 and 22 take start,
--- clock, reset, stop with all but reset edge-sensitive"; they have no configuration
+-- the table of "Cells", in its order, and the counters: "19 and 20 take A, clock, reset, B with the
+-- clock edge-sensitive; 21 and 22 take start, clock, reset, stop with all but reset
+-- edge-sensitive"; they have no configuration
 abbrev pub chart : List ChartLine
 chart =
     chartLine ((constantType, Constant) ∷ []) no-slot no-slot (some largestConstant)
@@ -107,7 +111,8 @@ abbrev pub configLimit : Option ℕ → ℕ
 configLimit none = 0
 configLimit (some n) = n
 
--- what a class keeps between ticks: "a flip-flop's bit, a timer's count and pulse", a counter's count and "active"
+-- what a class keeps between ticks: "a flip-flop's bit, a timer's count and pulse", a counter's
+-- count and "active"
 abbrev pub keptBy : Class → Kept
 keptBy Nothing = Stateless
 keptBy Constant = Stateless

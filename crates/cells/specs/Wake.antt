@@ -1,4 +1,5 @@
--- Document 01, "Who wakes", and document 02, "Counter cells": whether a quick tick works out a cell.
+-- Document 01, "Who wakes", and document 02, "Counter cells": whether a quick tick works out a
+-- cell.
 use Prim.Native.Nat.{ℕ}
 use mathlib.Core.Path.{_≡_}
 use mathlib.Core.Bool.{Bool, true, false, not, _&&_, _||_, Bool·beq}
@@ -87,6 +88,7 @@ disagree kind now last = disagreeOn (levelSlots (rowOf kind)) now last
 unfoldable pub moved : ℕ → Slots → Bool
 moved kind m = anySlot (masked (levelSlots (rowOf kind)) m)
 
--- a cell wakes: "it was edited since the last tick that ran", or is stirred, or a level slot disagrees with that tick
+-- a cell wakes: "it was edited since the last tick that ran", or is stirred, or a level slot
+-- disagrees with that tick
 unfoldable pub wakes : ℕ → State → Bool → Slots → Slots → Bool
 wakes kind s edited now last = edited || (stirred kind s now || disagree kind now last)

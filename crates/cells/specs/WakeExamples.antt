@@ -1,5 +1,6 @@
--- Document 01, "Who wakes", and document 02, "Counter cells": who wakes and who does not, as tables by computation. The entries are read from the papers.
--- Every clause of specs/Wake has a row that another reading would change.
+-- Document 01, "Who wakes", and document 02, "Counter cells": who wakes and who does not, as tables
+-- by computation. The entries are read from the papers. Every clause of specs/Wake has a row that
+-- another reading would change.
 use Prim.Native.Nat.{ℕ}
 use mathlib.Core.Path.{_≡_, refl}
 use mathlib.Core.Bool.{Bool, true, false}
@@ -31,7 +32,8 @@ XZF = slots true false true true
 
 -- ---- one slot at a time
 
--- the slots that wake a cell that nobody edited, each alone high and the others low: as it goes high, as it goes low, and while it is held
+-- the slots that wake a cell that nobody edited, each alone high and the others low: as it goes
+-- high, as it goes low, and while it is held
 alone : (kind count : ℕ) (bit pulse : Bool) → Slots × Slots × Slots
 alone kind count bit pulse =
     let s = state count bit pulse in
@@ -53,7 +55,8 @@ singles =
     (alone 0 0 false false, (no-slot, no-slot, no-slot))
     ∷ (alone 0 3 true true, (no-slot, no-slot, no-slot))
     ∷ (alone 23 3 true true, (no-slot, no-slot, no-slot))
-    -- lookups and gates: "a used slot that isn't an edge slot has another value than in that tick", up or down
+    -- lookups and gates: "a used slot that isn't an edge slot has another value than in that tick",
+    -- up or down
     ∷ (alone 2 0 false false, (XY, XY, no-slot))
     ∷ (alone 3 0 false false, (XYZ, XYZ, no-slot))
     ∷ (alone 4 0 false false, (XYZF, XYZF, no-slot))
@@ -69,7 +72,8 @@ singles =
     ∷ (alone 18 0 false false, (XYZF, XZF, only-Y))
     ∷ (alone 13 0 false false, (XYZ, XY, only-Z))
     ∷ (alone 1 3 true true, (XYZF, XZF, only-Y))
-    -- "a timer's (8, 9, 14-17) trigger is high"; its reset wakes by value; a clock with nothing to count does not wake
+    -- "a timer's (8, 9, 14-17) trigger is high"; its reset wakes by value; a clock with nothing to
+    -- count does not wake
     ∷ (alone 8 0 false false, (XZ, only-Z, only-X))
     ∷ (alone 9 0 false false, (XZ, only-Z, only-X))
     ∷ (alone 14 0 false false, (XZ, only-Z, only-X))
@@ -90,12 +94,14 @@ singles =
     ∷ (alone 15 0 false true, (XYZ, only-Z, XY))
     ∷ (alone 16 0 false true, (XYZF, only-Z, XYF))
     ∷ (alone 17 0 false true, (XYZF, only-Z, XYF))
-    -- counters 19 and 20: A, reset and B wake by value, whatever bit the cell has; a clock alone finds A and B low
+    -- counters 19 and 20: A, reset and B wake by value, whatever bit the cell has; a clock alone
+    -- finds A and B low
     ∷ (alone 19 0 false false, (XZF, XZF, no-slot))
     ∷ (alone 20 0 false false, (XZF, XZF, no-slot))
     ∷ (alone 19 3 true true, (XZF, XZF, no-slot))
     ∷ (alone 20 3 true true, (XZF, XZF, no-slot))
-    -- counters 21 and 22: start and stop wake, obeyed or not, the reset by value, the clock while the kept "active" is on
+    -- counters 21 and 22: start and stop wake, obeyed or not, the reset by value, the clock while
+    -- the kept "active" is on
     ∷ (alone 21 0 false false, (XZF, only-Z, XF))
     ∷ (alone 22 0 false false, (XZF, only-Z, XF))
     ∷ (alone 21 3 false true, (XZF, only-Z, XF))
@@ -134,7 +140,8 @@ stop-clock = slots false true false true
 -- given, expected
 abbrev waking : List (Bool × Bool)
 waking =
-    -- "it was edited since the last tick that ran": a constant and a number past the table too; without an edit they do not wake
+    -- "it was edited since the last tick that ran": a constant and a number past the table too;
+    -- without an edit they do not wake
     (woken 0 0 false false true no-slot no-slot, true)
     ∷ (woken 0 0 false false false XYZF no-slot, false)
     ∷ (woken 23 0 false false true no-slot no-slot, true)
@@ -149,7 +156,8 @@ waking =
     ∷ (woken 10 0 false false false XYZF XYZF, false)
     ∷ (woken 1 0 false false false XZF XZF, false)
     ∷ (woken 13 0 false false false XY XY, false)
-    -- a clock that is no flip-flop's edge slot: K of a JK held beside its clock, a D-flop's D and reset beside its clock
+    -- a clock that is no flip-flop's edge slot: K of a JK held beside its clock, a D-flop's D and
+    -- reset beside its clock
     ∷ (woken 13 0 false false false XYZ XYZ, true)
     ∷ (woken 18 0 false false false XYZF XYZF, true)
     -- "on a clock while active (19 and 20 by A and B as read in that tick ..."
@@ -174,7 +182,8 @@ waking =
     ∷ (wakeful 21 3 true only-X, true)
     ∷ (wakeful 21 3 true only-Z, false)
     ∷ (wakeful 22 0 false only-Z, false)
-    -- a trigger that a timer ignores "still wakes", and one under reset; a held reset does not, not with a clock and nothing to count
+    -- a trigger that a timer ignores "still wakes", and one under reset; a held reset does not, not
+    -- with a clock and nothing to count
     ∷ (stirredTimer 17 0 true only-F, true)
     ∷ (stirredTimer 14 3 false only-X, true)
     ∷ (stirredTimer 8 0 false XZ, true)

@@ -1,5 +1,6 @@
--- Document 01, "Cells", and document 02, "Counter cells": what working out a cell gives, family by family.
--- In every definition `r` holds the readings of the used slots; a slot that is not used reads low.
+-- Document 01, "Cells", and document 02, "Counter cells": what working out a cell gives, family by
+-- family. In every definition `r` holds the readings of the used slots; a slot that is not used
+-- reads low.
 use Prim.Native.Nat.{ℕ, _+_, _-_, _*_}
 use mathlib.Core.Bool.{Bool, true, false, not, _&&_, _||_, Bool·beq, cond}
 use mathlib.Core.List.{List, [], _∷_}
@@ -49,8 +50,9 @@ gateOut Xor2 code r = not (Bool·beq (r .x) (r .y))
 gateOut And4 code r = (r .x && r .y) && (r .z && r .f)
 gateOut Or4 code r = (r .x || r .y) || (r .z || r .f)
 
--- document 02, "Four-input gates, last slot first": AND4 and OR4 "look at F first, then Z, Y, X, and stop as soon as one value decides", and say "how
--- many slots" they looked at: "the place in that order of the first that decides, 4 where none does". The answer is then the value that
+-- document 02, "Four-input gates, last slot first": AND4 and OR4 "look at F first, then Z, Y, X,
+-- and stop as soon as one value decides", and say "how many slots" they looked at: "the place in
+-- that order of the first that decides, 4 where none does". The answer is then the value that
 -- decides, and the other one where none does
 abbrev pub lookOn : (deciding : Bool) → ℕ → List Bool → Looked
 lookOn v place [] = record { out = not v; slots = place }
@@ -65,6 +67,11 @@ decidesAnd = false
 
 abbrev pub decidesOr : Bool
 decidesOr = true
+
+-- how many slots a cell of a type looks at so: AND4 and OR4 are types 10 and 11, and no other type
+-- does
+abbrev pub lookedAt : (kind : ℕ) → Slots → ℕ
+lookedAt kind r = cond (eqb kind 10) (looked decidesAnd r .slots) (cond (eqb kind 11) (looked decidesOr r .slots) 0)
 
 -- type 1: "reset gives 0; else preset gives 1; else a clock edge takes D; else hold"
 abbrev pub dFlop : Slots → Bool → Bool
@@ -101,22 +108,26 @@ taken retrigger r busy = trigger r && (retrigger || not busy)
 abbrev pub shotBusy : (count : ℕ) → Bool
 shotBusy count = ltb 0 count
 
--- types 15 and 17 "while the count is above 0", and by document 02 "during the pulse as well, also with duration 0": both before this tick's work
+-- types 15 and 17 "while the count is above 0", and by document 02 "during the pulse as well, also
+-- with duration 0": both before this tick's work
 abbrev pub delayBusy : (count : ℕ) (pulse : Bool) → Bool
 delayBusy count pulse = ltb 0 count || pulse
 
--- a timer's count, of duration d: "reset sets the count to 0. Else a taken trigger ... sets it to d and the clock is ignored. Else a clock edge
--- lowers a count above 0 by 1." A delay's goes in the "same order"
-abbrev pub nextCount : (reset taken clock : Bool) → ℕ → ℕ → ℕ
+-- a timer's count, of duration d: "reset sets the count to 0. Else a taken trigger ... sets it to d
+-- and the clock is ignored. Else a clock edge lowers a count above 0 by 1." A delay's goes in the
+-- "same order"
+abbrev pub nextCount : (reset taken clock : Bool) (d count : ℕ) → ℕ
 nextCount reset taken clock d count = cond reset 0 (cond taken d (cond clock (count - 1) count))
 
--- a delay's pulse: "A taken trigger ... ends a pulse; with d = 0 it starts the pulse"; at a clock edge "reaching 0 starts the pulse; an edge
--- that finds the count at 0 ends a pulse"; "Reset also ends the pulse"
-abbrev pub nextPulse : (reset taken clock : Bool) → ℕ → ℕ → Bool → Bool
+-- a delay's pulse: "A taken trigger ... ends a pulse; with d = 0 it starts the pulse"; at a clock
+-- edge "reaching 0 starts the pulse; an edge that finds the count at 0 ends a pulse"; "Reset also
+-- ends the pulse"
+abbrev pub nextPulse : (reset taken clock : Bool) (d count : ℕ) (pulse : Bool) → Bool
 nextPulse reset taken clock d count pulse =
     cond reset false (cond taken (eqb d 0) (cond clock (cond (ltb 0 count) (eqb count 1 || pulse) false) pulse))
 
--- worked out with the state as it was; with a new bit, which is the output; with a new count and pulse
+-- worked out with the state as it was; with a new bit, which is the output; with a new count and
+-- pulse
 abbrev pub keeping : State → Bool → Worked
 keeping s out = record { state = s; out = out }
 
@@ -146,12 +157,14 @@ delay retrigger d s r =
     let pulse = pulseAfter t d (s .count .0) (s .pulse) r in
     counting s (countAfter t d (s .count .0) r) pulse pulse
 
--- counters. 21 and 22: "Reset comes before all else: ... 21 and 22 become inactive, and neither start nor clock is obeyed"; "21 becomes active at
--- start and inactive at stop; stop wins over start"
+-- counters. 21 and 22: "Reset comes before all else: ... 21 and 22 become inactive, and neither
+-- start nor clock is obeyed"; "21 becomes active at start and inactive at stop; stop wins over
+-- start"
 abbrev pub startedBy : (obeyed : Bool) → Slots → Bool → Bool
 startedBy obeyed r active = cond (r .z || r .f) false ((r .x && obeyed) || active)
 
--- "19 is active while A and B are high, 20 while either is"; "22 obeys start only while its count is 0"
+-- "19 is active while A and B are high, 20 while either is"; "22 obeys start only while its count
+-- is 0"
 abbrev pub activeAfter : CounterKind → Slots → ℕ → Bool → Bool
 activeAfter WhileBoth r count active = r .x && r .f
 activeAfter WhileEither r count active = r .x || r .f
@@ -172,8 +185,8 @@ largestCount = 65535
 unfoldable pub raised : ℕ → ℕ
 raised count = cond (ltb count largestCount) (count + 1) count
 
--- "in a tick where it [reset] is high the count becomes 0"; "While active, a clock edge adds 1 ..., in the starting tick too and not in the
--- stopping one": active is that of this tick
+-- "in a tick where it [reset] is high the count becomes 0"; "While active, a clock edge adds 1 ...,
+-- in the starting tick too and not in the stopping one": active is that of this tick
 abbrev pub countedUp : (reset active clock : Bool) → ℕ → ℕ
 countedUp reset active clock count = cond reset 0 (cond (active && clock) (raised count) count)
 
@@ -198,5 +211,5 @@ workAs (Delay retrigger) config s r = delay retrigger config s r
 workAs (Counter k) config s r = counter k s r
 
 -- a cell of a type, worked out with the readings of its four slots
-unfoldable pub workOut : ℕ → ℕ → State → Slots → Worked
+unfoldable pub workOut : (kind config : ℕ) → State → Slots → Worked
 workOut kind config s r = workAs (rowOf kind .class) config s (masked (rowOf kind .used) r)

@@ -2,12 +2,14 @@
 ghost use mathlib.Core.Path.{_≡_};
 ghost use Rattle.cells.specs.State.{stateOf, withState};
 
-// A configuration: a constant, a lookup's code, a duration. A count is as wide, since a duration sets it.
+// A configuration: a constant, a lookup's code, a duration. A count is as wide, since a duration
+// sets it.
 pub type Config = u32;
 
 pub type Count = Config;
 
-// A number of pulses, which are clock edges and never ticks: a duration, a count of pulses left, or a counter's count.
+// A number of pulses, which are clock edges and never ticks: a duration, a count of pulses left, or
+// a counter's count.
 #[repr(C)]
 pub struct Pulses(pub Count);
 
@@ -15,8 +17,8 @@ pub struct Pulses(pub Count);
 #[repr(C)]
 pub struct Ticks(pub u32);
 
-// What a cell keeps between ticks, the same for every type: a flip-flop's bit, a timer's count and pulse, a counter's count. In a counter that is
-// started and stopped the bit says "active".
+// What a cell keeps between ticks, the same for every type: a flip-flop's bit, a timer's count and
+// pulse, a counter's count. In a counter that is started and stopped the bit says "active".
 #[repr(C)]
 pub struct State {
     pub count: Pulses,
@@ -24,8 +26,9 @@ pub struct State {
     pub pulse: bool,
 }
 
-// One of the card's cells: its settings (type, configuration, the addresses in its slots X Y Z F) and its state, part by part, in 16 bytes. A tick
-// hands the parts over as they are: a State made there would be packed and unpacked once for each cell.
+// One of the card's cells: its settings (type, configuration, the addresses in its slots X Y Z F)
+// and its state, part by part, in 16 bytes. A tick hands the parts over as they are: a State made
+// there would be packed and unpacked once for each cell.
 #[repr(C)]
 pub struct Cell {
     pub config: Config,

@@ -1,4 +1,5 @@
 pub mod cell;
+mod named;
 pub mod reading;
 pub mod step;
 pub mod table;

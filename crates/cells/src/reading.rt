@@ -1,4 +1,5 @@
-// What a cell's slots read: an address is a bit of one of four words, a word for each quarter of the addresses.
+// What a cell's slots read: an address is a bit of one of four words, a word for each quarter of
+// the addresses.
 ghost use mathlib.Core.Path.{_≡_};
 ghost use Prim.Native.Nat.{_<_, _/_, _%_};
 ghost use Rattle.cells.specs.Reading.{readFrom, twoFrom, threeFrom, slotsFrom};

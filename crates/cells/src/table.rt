@@ -33,7 +33,8 @@ pub enum FlopKind {
     Jk,
 }
 
-// The counters, types 19 to 22: active while A and B are high, or while either is; from start to stop, or so if started at a count of 0.
+// The counters, types 19 to 22: active while A and B are high, or while either is; from start to
+// stop, or so if started at a count of 0.
 pub enum CounterKind {
     WhileBoth,
     WhileEither,
@@ -41,7 +42,8 @@ pub enum CounterKind {
     FromStartAtZero,
 }
 
-// What a type does: a family, with what tells its members apart. One-shots and delays say whether they take a trigger while the count is above 0.
+// What a type does: a family, with what tells its members apart. One-shots and delays say whether
+// they take a trigger while they are busy.
 pub enum Class {
     Nothing,
     Constant,
@@ -52,7 +54,8 @@ pub enum Class {
     Counter(CounterKind),
 }
 
-// What a type keeps between ticks: nothing, a flip-flop's bit, a timer's count and pulse, or a counter's count and whether it is active.
+// What a type keeps between ticks: nothing, a flip-flop's bit, a timer's count and pulse, or a
+// counter's count and whether it is active.
 pub enum Kept {
     Stateless,
     Bit,
@@ -60,7 +63,8 @@ pub enum Kept {
     Counted,
 }
 
-// What the table holds of a type. Without a configuration the largest is 0, and with one it is above 0.
+// What the table holds of a type. Without a configuration the largest is 0, and with one it is
+// above 0.
 pub struct Row {
     pub used: Slots,
     pub edge: Slots,
@@ -73,7 +77,8 @@ pub struct Row {
 // The number of cell types. A type is a number below it.
 pub const TYPES: usize = 23;
 
-// Sets of slots, packed: X 1, Y 2, Z 4, F 8. The readings of the four slots are packed in the same way.
+// Sets of slots, packed: X 1, Y 2, Z 4, F 8. The readings of the four slots are packed in the same
+// way.
 const NONE: u8 = 0;
 
 const XY: u8 = 3;
@@ -88,7 +93,8 @@ const ONLY_Z: u8 = 4;
 
 const XYF: u8 = 11;
 
-// The table is kept by columns, each by type number. A constant is made anew wherever it is read, and a tick reads some columns for every cell.
+// The table is kept by columns, each by type number. A constant is made anew wherever it is read,
+// and a tick reads some columns for every cell.
 
 // The slots used.
 const USED: [u8; TYPES] = [
@@ -285,7 +291,8 @@ fn largest_of(kind: u8) -> Config
     if n < TYPES { LARGEST[n] } else { 0 }
 }
 
-// The whole row of a type. A number past the table has no slots and no configuration, keeps nothing and does nothing.
+// The whole row of a type. A number past the table has no slots and no configuration, keeps nothing
+// and does nothing.
 pub fn row_of(kind: u8) -> Row
     ensures { λ r. ⌜ r ≡ rowOf kind ⌝ }
 {

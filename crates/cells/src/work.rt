@@ -46,7 +46,8 @@ pub struct Looked {
     pub slots: u8,
 }
 
-// A gate of four slots looks at F first, then at Z, Y and X, and stops at the first slot whose reading decides: a low one decides AND4, a high one OR4.
+// A gate of four slots looks at F first, then at Z, Y and X, and stops at the first slot whose
+// reading decides: a low one decides AND4, a high one OR4.
 pub fn look(deciding: bool, x: u8, y: u8, z: u8, f: u8, q: &[u64; QUARTERS]) -> Looked
     ensures { λ l. ⌜ l ≡ looked deciding (slotsFrom (now (q .entry)) x y z f) ⌝ }
 {
@@ -79,7 +80,8 @@ pub const DECIDES_AND: bool = false;
 
 pub const DECIDES_OR: bool = true;
 
-// A flip-flop's next bit. It reads a slot only where those before it have not decided: what is held in four bools would be packed into a word and taken apart.
+// A flip-flop's next bit. It reads a slot only where those before it have not decided: what is held
+// in four bools would be packed into a word and taken apart.
 
 fn d_flop(bit: bool, x: u8, y: u8, z: u8, f: u8, q: &[u64; QUARTERS]) -> bool
     ensures { λ b. ⌜ b ≡ dFlop (slotsFrom (now (q .entry)) x y z f) bit ⌝ }
@@ -206,7 +208,8 @@ fn next_pulse(reset: bool, taken: bool, clock: bool, d: Pulses, count: Pulses, p
     }
 }
 
-// A timer's count after this tick, in which the trigger is taken or not, and a delay's pulse; `d` is the duration.
+// A timer's count after this tick, in which the trigger is taken or not, and a delay's pulse; `d`
+// is the duration.
 fn count_after(taken: bool, d: Pulses, count: Pulses, r: Slots) -> Pulses
     ensures { λ n. ⌜ n ≡ pulses (countAfter taken (d .0) (count .0) r) ⌝ }
 {
@@ -224,7 +227,8 @@ fn pulse_after(taken: bool, d: Pulses, count: Pulses, pulse: bool, r: Slots) -> 
 // The largest count of a counter.
 pub const LARGEST_COUNT: Count = 65535;
 
-// Whether a counter that is started and stopped is active after this tick. `obeyed` says whether a start counts.
+// Whether a counter that is started and stopped is active after this tick. `obeyed` says whether a
+// start counts.
 fn started_by(obeyed: bool, r: Slots, active: bool) -> bool
     ensures { λ q. ⌜ q ≡ startedBy obeyed r active ⌝ }
 {
@@ -283,7 +287,8 @@ fn counted_up(reset: bool, active: bool, clock: bool, count: Pulses) -> Pulses
     }
 }
 
-// What becomes of a cell: nothing, its output alone, or with that what is new in its state. A caller writes back only what is new.
+// What becomes of a cell: nothing, its output alone, or with that what is new in its state. A
+// caller writes back only what is new.
 pub enum Effect {
     // it was not worked out, and keeps its output
     Slept,
@@ -299,7 +304,8 @@ pub enum Effect {
     Counted(Pulses, bool, bool),
 }
 
-// Each of the families asks only for the parts of the state that matter to it, and says what becomes of any state that has them.
+// Each of the families asks only for the parts of the state that matter to it, and says what
+// becomes of any state that has them.
 
 pub fn one_shot(retrigger: bool, config: Config, count: Pulses, r: Slots) -> Effect
     ensures { λ e. ⌜ ((bit pulse out : Bool) → let s = state count bit pulse in workedBy s out e ≡ workAs (OneShot retrigger) config s r) ⌝ }

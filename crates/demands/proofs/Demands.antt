@@ -9,23 +9,17 @@ use borrow.Author.Tests.{eqb-true, le-ltb, lt-ltb, ltb-true, ltb-false}
 use lib.Dec.{eqb, ltb, lit≤, lit<}
 use lib.ListN.{length, take, drop, length-append, length-drop}
 use lib.Seq.{sets, sets-eq, take-append-seam, drop-at}
-use Rattle.words.specs.Bits.{bitAt, wordOf}
-use Rattle.words.proofs.Laws.{built-same, built-of-bits}
-use Rattle.cells.specs.declared.cell.State.{State}
-use Rattle.cells.specs.Table.{rowOf}
-use Rattle.cells.specs.Work.{placeOf, slotsOf, workAs, workOut}
-use Rattle.cells.proofs.Gates.{looked-and, looked-or}
+use Rattle.cells.proofs.Gates.{looked-and, looked-or, lookup-code}
 use Rattle.card.specs.declared.card.Card.{Card}
-use Rattle.card.specs.Address.{cellCount, cellRoom, connectorCount, firstCell, firstConnector}
+use Rattle.card.specs.Address.{cellCount, cellRoom}
 use Rattle.card.specs.Valid.{validCard}
 use Rattle.card.proofs.ValidLaws.{home-clears}
 use Rattle.ticks.proofs.Counting.{counts-on}
 use Rattle.ticks.proofs.Effective.{effective-bit}
 use Rattle.ticks.proofs.Exact.{works-exactly}
 use Rattle.ticks.proofs.Quarters.{reads-entry}
-use Rattle.ticks.specs.Reading.{mixed, view}
 use Rattle.ticks.proofs.Timing.{timer-promise, ignores-all}
-use Rattle.ticks.proofs.Views.{level-cell, level-connector}
+use Rattle.ticks.proofs.Views.{sees-cell, sees-line}
 use Rattle.survey.proofs.Ticks.{unreached}
 use Rattle.saved.specs.Record.{configWidth, recordLength, recordOf, savedTo, loadNumber, loaded}
 use Rattle.saved.proofs.Headers.{load-fourteen}
@@ -145,25 +139,6 @@ convert-leaves n some few bytes buffer = go (eqb (convertNumber n (length buffer
     go false e =
         let is = refused-as n (convertNumber n (length buffer) bytes) bytes buffer refl e in
         record { len = rw e (sym (is .1)); written = rw (e, ← is .2) (untouched buffer) }
-
--- ---- demand 2
-
-place-back : (p : ℕ) → p < 16 → placeOf (slotsOf p) ≡ p
-unfolding slotsOf wordOf
-place-back p h = omega (arith, built-of-bits p 4 h)
-
-lookup-code : (code : ℕ) (s : State) → code < 2 ^ 16 → wordOf (λ p. workOut 4 code s (slotsOf p) .out) 16 ≡ code
-unfolding workOut workAs rowOf
-lookup-code code s h =
-    built-same (λ p. workOut 4 code s (slotsOf p) .out) (bitAt code) 16 (λ p k. ap (bitAt code) (place-back p k)) ∙ built-of-bits code 16 h
-
-sees-cell : (n i below others levels j : ℕ) → j < n → view n i below others levels (firstCell + j) ≡ cond (ltb j i) (bitAt below j) (bitAt others j)
-unfolding view mixed
-sees-cell n i below others levels j h = level-cell n (mixed i below others) (bitAt levels) j h
-
-sees-line : (n : ℕ) → n ≤ cellRoom → (i below others levels k : ℕ) → k < connectorCount → view n i below others levels (firstConnector + k) ≡ bitAt levels k
-unfolding view
-sees-line n few i below others levels k h = level-connector n (mixed i below others) (bitAt levels) k few h
 
 -- ---- the theorem
 

@@ -9,6 +9,7 @@ ghost use Rattle.cells.specs.Effect.{workedBy};
 ghost use Rattle.cells.specs.Reading.{slotsFrom};
 ghost use Rattle.cells.specs.Work.{looked, slotsOf, workOut};
 ghost use Rattle.gate_cellchart.specs.Chart.{digitOf, clear, duration, keptAfter};
+use cells::cell::Cell;
 use cells::cell::Config;
 use cells::cell::Pulses;
 use cells::cell::State;
@@ -230,21 +231,17 @@ fn step(kind: u8, s: State, r: Slots) -> State
     ensures { λ t. ⌜ t ≡ workOut kind duration s r .state ⌝ }
 {
     let q = levels(r);
-    let t = cells::step::step(
-        true,
-        false,
-        kind,
-        DURATION,
-        s.count,
-        s.bit,
-        s.pulse,
-        0,
-        1,
-        2,
-        3,
-        &q,
-        &q,
-    );
+    let count = s.count;
+    let slots = [0, 1, 2, 3];
+    let cell = Cell {
+        config: DURATION,
+        count: count,
+        slots: slots,
+        kind: kind,
+        bit: s.bit,
+        pulse: s.pulse,
+    };
+    let t = cells::step::step(true, false, cell, 0, 1, 2, 3, &q, &q);
     let effect = t.effect;
     let w = worked(s, effect);
     put_step(r, w);

@@ -1,6 +1,7 @@
--- The laws of rest and of the fast path. Where no cell is edited, no word has changed in the last two ticks and no cell is stirred under the view that all
--- readers then have, a quick tick leaves every cell and every output as it was. A card is at rest under an input on its own clock exactly where this is
--- so and the connectors stay too.
+-- The laws of rest and of the fast path. Where no cell is edited, no word has changed in the last
+-- two ticks and no cell is stirred under the view that all readers then have, a quick tick leaves
+-- every cell and every output as it was. A card is at rest under an input on its own clock exactly
+-- where this is so and the connectors stay too.
 use Prim.Native.Nat.{ℕ, zero, suc, _+_, _*_, _^_, _≤_, _<_, _%_}
 use mathlib.Core.Path.{_≡_, refl, sym, ap, ap₂, _∙_, subst}
 use mathlib.Core.Bool.{Bool, true, false, not, _&&_, cond}

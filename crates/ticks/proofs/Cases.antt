@@ -1,4 +1,5 @@
--- The two case distinctions of a tick, made once: a cell was worked out or slept, and a tick ran or was idle.
+-- The two case distinctions of a tick, made once: a cell was worked out or slept, and a tick ran or
+-- was idle.
 use Prim.Native.Nat.{ℕ}
 use mathlib.Core.Path.{_≡_, refl, sym, ap, subst, _∙_}
 use mathlib.Core.Bool.{Bool, true, false, _||_, cond}
@@ -21,7 +22,8 @@ module _ (full : Bool) (cell : Cell) (edited out : Bool) (now last : Slots) wher
   abbrev rule : Bool
   rule = rulesName cell edited now last
 
-  -- what holds of the cell worked out where it is due, and of the cell asleep where it is not, holds of its turn
+  -- what holds of the cell worked out where it is due, and of the cell asleep where it is not,
+  -- holds of its turn
   pub by-turn : (P : Turn → Type 0)
       → ((full || rulesName cell edited now last) ≡ true → P (workedTurn cell (rulesName cell edited now last) now))
       → ((full || rulesName cell edited now last) ≡ false → P (sleptTurn cell out))
@@ -55,7 +57,8 @@ module _ (full : Bool) (cell : Cell) (edited out : Bool) (now last : Slots) wher
 -- ---- a tick: it ran or was idle
 
 module _ (n : ℕ) (full : Bool) (c : Card) where
-  -- what holds of the tick that runs on the card's own clock, and of the idle one on another, holds of a tick
+  -- what holds of the tick that runs on the card's own clock, and of the idle one on another, holds
+  -- of a tick
   pub by-tick-on : (code : ℕ) (l : Lines) (P : Ticked → Type 0) → (eqb code (c .trigger) ≡ true → P (tickedOn n full c l))
       → (eqb code (c .trigger) ≡ false → P (idle c)) → P (tickOn n full c code l)
   by-tick-on code l P own other = go (eqb code (c .trigger)) refl

@@ -1,4 +1,5 @@
--- Laws of a loop that takes the connectors of a word one by one: the driven word has the bits of those that are taken.
+-- Laws of a loop that takes the connectors of a word one by one: the driven word has the bits of
+-- those that are taken.
 use Prim.Native.Nat.{ℕ, _^_, _<_}
 use mathlib.Core.Path.{_≡_, refl, sym, ap, _∙_}
 use mathlib.Core.Bool.{Bool, true, false, not, _&&_, cond, and-true, and-false}

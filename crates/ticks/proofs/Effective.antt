@@ -1,4 +1,5 @@
--- Laws of the effective sample: each of its bits, the masks that make it, and what it is where everything is attached.
+-- Laws of the effective sample: each of its bits, the masks that make it, and what it is where
+-- everything is attached.
 use Prim.Native.Nat.{ℕ, _^_, _<_}
 use mathlib.Core.Path.{_≡_, refl, sym, ap, _∙_}
 use mathlib.Core.Bool.{Bool, cond}

@@ -1,4 +1,5 @@
--- Laws of a word's lowest set bit, over any width: `trailing_zeros` gives its place, and `w & (w - 1)` is the word with it cleared.
+-- Laws of a word's lowest set bit, over any width: `trailing_zeros` gives its place, and `w & (w -
+-- 1)` is the word with it cleared.
 use Prim.Native.Nat.{ℕ, zero, suc, _+_, _-_, _*_, _/_, _%_, _^_, _≤_, _<_}
 use mathlib.Core.Path.{_≡_, refl, sym, ap, ap₂, _∙_}
 use mathlib.Core.Bool.{Bool, true, false}

@@ -1,5 +1,5 @@
--- Reading goes by the chart: what an address reads is what its entry says, and the arithmetic by which the code reads words, quarter and base, gives the
--- entry's own.
+-- Reading goes by the chart: what an address reads is what its entry says, and the arithmetic by
+-- which the code reads words, quarter and base, gives the entry's own.
 use Prim.Native.Nat.{ℕ, _+_, _*_, _/_, _≤_, _<_}
 use mathlib.Core.Path.{_≡_, refl, sym, ap, ap₂, _∙_}
 use mathlib.Core.Bool.{Bool, true, false, _||_, cond}

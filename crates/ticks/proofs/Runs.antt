@@ -1,5 +1,6 @@
--- What lasts over a list of ticks: a property of a cell and its output that a tick keeps where it is idle, where it lets the cell sleep and where it works the
--- cell out. Said of any card and of any way to give the lines.
+-- What lasts over a list of ticks: a property of a cell and its output that a tick keeps where it
+-- is idle, where it lets the cell sleep and where it works the cell out. Said of any card and of
+-- any way to give the lines.
 use Prim.Native.Nat.{ℕ, _<_}
 use mathlib.Core.Path.{_≡_, refl, subst}
 use mathlib.Core.Bool.{Bool, true, false, cond}
@@ -54,8 +55,8 @@ module _ (n : ℕ) (full : Bool) (cell : Cell) (i edited : ℕ) (w : Wires) (bel
       (λ e. slept (sleeps (cell .kind) (stateOf cell) (bitAt edited i) now last (or-right full _ e) .1))
 
 module _ (n : ℕ) (c : Card) (s : Step) (i : ℕ) (inside : i < n) (P : Cell → Bool → Type 0) where
-  -- it holds after a tick if it holds of the cell as it was where the tick is idle or lets the cell sleep, and of the cell worked out where the tick
-  -- may work it out
+  -- it holds after a tick if it holds of the cell as it was where the tick is idle or lets the cell
+  -- sleep, and of the cell worked out where the tick may work it out
   pub after-step : (stepRuns c s ≡ false → P (cellAt c i) (outputAt c i))
       → (stepRuns c s ≡ true → stirred (cellAt c i .kind) (stateOf (cellAt c i)) (stepReads n c s i) ≡ false → P (cellAt c i) (outputAt c i))
       → (stepRuns c s ≡ true → P (workedCell (cellAt c i) (stepReads n c s i)) (workedOut (cellAt c i) (stepReads n c s i)))
@@ -79,7 +80,8 @@ module _ (n : ℕ) (c : Card) (s : Step) (i : ℕ) (inside : i < n) (P : Cell �
 -- ---- lists of ticks
 
 module _ (P : List Slots → Cell → Bool → Type 0) (H : Cell → Slots → Type 0) where
-  -- with the readings that are still to come: of a cell, in a tick of which H holds, it lasts whether the cell sleeps or is worked out
+  -- with the readings that are still to come: of a cell, in a tick of which H holds, it lasts
+  -- whether the cell sleeps or is worked out
   pub record Lasts : Type 0 where
     pub asleep : (r : Slots) (rs : List Slots) (cell : Cell) (out : Bool) → P (r ∷ rs) cell out → H cell r → stirred (cell .kind) (stateOf cell) r ≡ false
         → P rs cell out

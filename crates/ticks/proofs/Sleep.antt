@@ -1,5 +1,6 @@
--- The theorems of ticks: the count is the number of woken cells, the memory holds what was read, and on a settled card a quick tick does what a
--- full one does. A fresh card is settled and every tick keeps it so.
+-- The theorems of ticks: the count is the number of woken cells, the memory holds what was read,
+-- and on a settled card a quick tick does what a full one does. A fresh card is settled and every
+-- tick keeps it so.
 use Prim.Native.Nat.{ℕ, zero, suc, _+_, _-_, _*_, _%_, _^_, _≤_, _<_}
 use mathlib.Core.Path.{_≡_, refl, sym, ap, ap₂, _∙_}
 use mathlib.Core.Bool.{Bool, true, false, _||_, cond}
@@ -78,7 +79,8 @@ module _ (n : ℕ) (full : Bool) (cells : List Cell) (edited : ℕ) (w : Wires) 
 
 -- ---- the woken set
 
--- the number of ones in a word of n tests is the number of tests that hold: the count in an answer is the number of woken cells
+-- the number of ones in a word of n tests is the number of tests that hold: the count in an answer
+-- is the number of woken cells
 pub count-is : (n : ℕ) (full : Bool) (cells : List Cell) (edited : ℕ) (w : Wires)
     → ones (turned n full cells edited w .woken) ≡ countOf (wokeAt n full cells edited w) n
 unfolding turned
@@ -112,7 +114,8 @@ quick-set n cells edited w i h = woken-set n false cells edited w i h ∙ named-
 
 -- ---- the memory
 
--- after a tick that ran, the memory says of each reader what it read in it: cells and connectors, levels and edges
+-- after a tick that ran, the memory says of each reader what it read in it: cells and connectors,
+-- levels and edges
 pub remembers-on : (n : ℕ) (full : Bool) (c : Card) (l : Lines) (i : ℕ) (s : List ℕ) → i ≤ n
     → remembered n i (tickedOn n full c l .card .memory) s ≡ readOn n full c (l .levels) i s
 unfolding remembered turned readNow
@@ -255,7 +258,8 @@ pub tick-settled : (n : ℕ) (full : Bool) (c : Card) (input : Input) → Settle
 unfolding tick
 tick-settled n full c input = tick-on-settled n full c (input .code) (lines n c input)
 
--- on a settled card a quick tick and a full one with the same lines give the same card, and answers that are alike but for the woken set and its count
+-- on a settled card a quick tick and a full one with the same lines give the same card, and answers
+-- that are alike but for the woken set and its count
 ticked-alike : (n : ℕ) (c : Card) (l : Lines) → Settled n c → AlikeTicks (tickedOn n false c l) (tickedOn n true c l)
 unfolding turned
 ticked-alike n c l settled =

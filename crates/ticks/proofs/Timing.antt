@@ -1,5 +1,6 @@
--- A timer keeps its word, on any card: the tick that takes the trigger works it out, and from then on its count and its output go by the number of pulses,
--- whether a tick works it out or lets it sleep.
+-- A timer keeps its word, on any card: the tick that takes the trigger works it out, and from then
+-- on its count and its output go by the number of pulses, whether a tick works it out or lets it
+-- sleep.
 use Prim.Native.Nat.{ℕ, _+_, _<_}
 use mathlib.Core.Path.{_≡_, refl, sym, ap, _∙_}
 use mathlib.Core.Bool.{Bool, true, false, cond, true≢false}

@@ -1,4 +1,5 @@
--- What stands above the n bits of a cell word is not seen: a tick of a memory and of the same memory cut to n bits are one.
+-- What stands above the n bits of a cell word is not seen: a tick of a memory and of the same
+-- memory cut to n bits are one.
 use Prim.Native.Nat.{ℕ, zero, suc, _+_, _-_, _*_, _%_, _^_, _≤_, _<_}
 use mathlib.Core.Path.{_≡_, refl, ap, ap₂, _∙_}
 use mathlib.Core.Bool.{Bool, true, false, cond}
@@ -121,7 +122,8 @@ module _ (n : ℕ) (m : Memory) where
 pub trim-fits : (n : ℕ) (m : Memory) → FitsMemory n (trimmed n m)
 trim-fits n m = (mod-lt (m .outputs) (pow-pos n), mod-lt (m .outputs2) (pow-pos n), mod-lt (m .outputs3) (pow-pos n))
 
--- what the code makes of the words cut to n bits is the tick of the card, with any lines and with the card's own
+-- what the code makes of the words cut to n bits is the tick of the card, with any lines and with
+-- the card's own
 pub whole-tick-on : (n : ℕ) (full : Bool) (c : Card) (m : Memory) (l : Lines) → m ≡ trimmed n (c .memory)
     → ranWith n m c l (turned n full (c .cells) (c .edited) (wiresOf m (l .levels))) ≡ tickedOn n full c l
 whole-tick-on n full c m l e =

@@ -1,4 +1,5 @@
--- Laws of one cell's turn, as the loop over the cells takes it: whether it is worked out, what it becomes, and the words of the next reader.
+-- Laws of one cell's turn, as the loop over the cells takes it: whether it is worked out, what it
+-- becomes, and the words of the next reader.
 use Prim.Native.Nat.{ℕ, _+_, _*_, _^_, _≤_, _<_}
 use mathlib.Core.Path.{_≡_, refl, sym, ap, _∙_}
 use mathlib.Core.Bool.{Bool, true, false, not, _||_, cond, Bool·beq, true≢false}
@@ -20,7 +21,7 @@ use Rattle.cells.specs.declared.table.Slots.{Slots}
 use Rattle.cells.specs.declared.step.Stepped.{Stepped}
 use Rattle.cells.specs.State.{stateOf, withState}
 use Rattle.cells.specs.Effect.{workedBy, StepsTo}
-use Rattle.cells.specs.Work.{keeping, workOut}
+use Rattle.cells.specs.Work.{keeping, lookedAt, workOut}
 use Rattle.card.specs.Edits.{withSettings}
 use Rattle.card.specs.declared.card.Card.{Card}
 use Rattle.ticks.specs.declared.view.Wires.{Wires}
@@ -54,15 +55,17 @@ seated c cells = withSettings c (c .trigger) cells (c .connectors) (c .edited)
 abbrev pub upTo : ℕ → Bool → Card → Wires → ℕ → List Cell
 upTo n full c w i = listed (afterOf n full c w) i ++ drop i (c .cells)
 
--- what is known of the length of an array in a struct is known of its entries as the machine has them
+-- what is known of the length of an array in a struct is known of its entries as the machine has
+-- them
 pub as-long : (X Y : Type 0) (g : X → Y) (l : List X) (n : ℕ) → length (map g l) ≡ n → length l ≡ n
 as-long X Y g l n e = sym (length-map l g) ∙ e
 
 -- ---- the turn
 
--- a step that the code takes is the turn of the definition: whether the rules name the cell, the cell and its output
+-- a step that the code takes is the turn of the definition: whether the rules name the cell, the
+-- cell and its output
 module _ (full : Bool) (cell : Cell) (edited out : Bool) (now last : Slots) (r : Stepped)
-    (is : StepsTo r full (rulesName cell edited now last) (stateOf cell) (workOut (cell .kind) (cell .config) (stateOf cell) now)) where
+    (is : StepsTo r full (rulesName cell edited now last) (stateOf cell) (workOut (cell .kind) (cell .config) (stateOf cell) now) (lookedAt (cell .kind) now)) where
   abbrev worked : Worked
   worked = workOut (cell .kind) (cell .config) (stateOf cell) now
 

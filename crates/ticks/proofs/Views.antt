@@ -1,4 +1,5 @@
--- Laws of addresses and views: the word that holds a view has the view's bits, and the formula that reads an address reads it.
+-- Laws of addresses and views: the word that holds a view has the view's bits, and the formula that
+-- reads an address reads it.
 use Prim.Native.Nat.{ℕ, zero, suc, _+_, _-_, _*_, _/_, _%_, _^_, _≤_, _<_}
 use mathlib.Core.Path.{_≡_, refl, sym, ap, ap₂, _∙_}
 use mathlib.Core.Bool.{Bool, true, false, not, _&&_, _||_, Bool·beq, cond}
@@ -15,7 +16,7 @@ use mathlib.Core.Logic.{inl, inr}
 use borrow.Author.Tests.{eq-eqb, ne-eqb, lt-ltb, le-ltb}
 use Rattle.words.specs.Bits.{bitAt, wordOf}
 use Rattle.words.proofs.Laws.{bit-zero, bit-above, bit-ones, bit-low, bit-high, bit-and, bit-or, bit-xor, bit-built, built-same, built-of-bits}
-use Rattle.card.specs.Address.{connectorCount, firstCell, firstConnector, among, baseOf, isInverted, isEdge}
+use Rattle.card.specs.Address.{cellRoom, connectorCount, firstCell, firstConnector, among, baseOf, isInverted, isEdge}
 use Rattle.card.proofs.Places.{among-in, among-below, among-above}
 use Rattle.ticks.specs.Reading.{levelAt, readsLevels, reads, slotsRead, mixed, view}
 use Rattle.ticks.proofs.Quarters.{Quarter, InQuarter, in-quarter}
@@ -118,6 +119,16 @@ module _ (n m l : ℕ) (hn : n ≤ 32) (hm : m < 2 ^ n) (hl : l < 2 ^ connectorC
           let k : ℕ = b - firstConnector in
           let e : b ≡ firstConnector + k = omega arith in
           rw e (bit-high l firstConnector (m * 2) k hw ∙ far k (decLt k connectorCount))
+
+-- "Cell i sees this tick's output of a cell j below i, otherwise last tick's"; "Connectors show
+-- this tick's levels"
+pub sees-cell : (n i below others levels j : ℕ) → j < n → view n i below others levels (firstCell + j) ≡ cond (ltb j i) (bitAt below j) (bitAt others j)
+unfolding view mixed
+sees-cell n i below others levels j h = level-cell n (mixed i below others) (bitAt levels) j h
+
+pub sees-line : (n : ℕ) → n ≤ cellRoom → (i below others levels k : ℕ) → k < connectorCount → view n i below others levels (firstConnector + k) ≡ bitAt levels k
+unfolding view
+sees-line n few i below others levels k h = level-connector n (mixed i below others) (bitAt levels) k few h
 
 -- so the word that the code makes is the word of the view
 pub view-word : (n i below others levels w : ℕ) → n ≤ 32 → below < 2 ^ n → others < 2 ^ n → levels < 2 ^ connectorCount

@@ -1,4 +1,5 @@
--- Laws of the words that addresses are read from: what they read by views, which addresses read otherwise, and when they serve the next reader too.
+-- Laws of the words that addresses are read from: what they read by views, which addresses read
+-- otherwise, and when they serve the next reader too.
 use Prim.Native.Nat.{ℕ, zero, suc, _+_, _/_, _%_, _≤_, _<_}
 use mathlib.Core.Path.{_≡_, sym, ap, ap₂, _∙_}
 use mathlib.Core.Bool.{Bool, not, Bool·beq, cond}
@@ -81,7 +82,8 @@ unfolding MovesAs
 moves-kept d f g h f′ g′ h′ ef eg eh m a k =
     m a k ∙ (λ i. not (Bool·beq (reads (ef i) (eg i) a) (reads (eg i) (eh i) a)))
 
--- readers in positions i and i + 1 see the same where the words below agree up to i, and cell i shows in both what it showed
+-- readers in positions i and i + 1 see the same where the words below agree up to i, and cell i
+-- shows in both what it showed
 mixed-step : (i below below′ others j : ℕ) → ((k : ℕ) → k < i → bitAt below k ≡ bitAt below′ k) → bitAt below′ i ≡ bitAt others i
     → mixed i below others j ≡ mixed (i + 1) below′ others j
 unfolding mixed

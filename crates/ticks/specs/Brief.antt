@@ -1,5 +1,6 @@
--- A quick tick for a card that is changed where it sits: where every cell sleeps it changes the memory and the tick total, and nothing else. No rule of
--- document 01 is defined here; the law is that such a tick is the tick of specs/Tick.
+-- A quick tick for a card that is changed where it sits: where every cell sleeps it changes the
+-- memory and the tick total, and nothing else. No rule of document 01 is defined here; the law is
+-- that such a tick is the tick of specs/Tick.
 use Prim.Native.Nat.{ℕ, _+_}
 use mathlib.Core.Path.{_≡_}
 use mathlib.Core.Bool.{Bool, true, false, cond}

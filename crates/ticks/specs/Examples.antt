@@ -1,5 +1,5 @@
--- Ticks that document 01 and document 02, 5 describe in words, as one table by computation: what the definitions give, beside what they should. And
--- a card whose quick and full ticks differ.
+-- Ticks that document 01 and document 02, 5 describe in words, as one table by computation: what
+-- the definitions give, beside what they should. And a card whose quick and full ticks differ.
 use Prim.Native.Nat.{ℕ}
 use mathlib.Core.Path.{_≡_, refl}
 use mathlib.Core.Bool.{Bool, true, false}
@@ -28,7 +28,7 @@ use Rattle.ticks.specs.Tick.{readNow, readLast, named, turnAt, outputsBe
 -- ---- the cards
 
 -- a fresh card with these cells, this cell word in every tick so far, and these edits
-abbrev pub card : List Cell → ℕ → ℕ → Card
+abbrev pub card : List Cell → (outputs edited : ℕ) → Card
 card cells outputs edited =
     record {
       pointer = 1;
@@ -44,7 +44,8 @@ card cells outputs edited =
 twoCells : Cell → Cell → List Cell
 twoCells a b = set (set (fresh .cells) 0 a) 1 b
 
--- cell 1 follows TTL0 (address 41), and cell 2 is an AND2 on the rise of cell 1 (129) and an input that is always high (64)
+-- cell 1 follows TTL0 (address 41), and cell 2 is an AND2 on the rise of cell 1 (129) and an input
+-- that is always high (64)
 edgeCard : Card
 edgeCard = card (twoCells (whole 6 0 (41 ∷ 0 ∷ 0 ∷ 0 ∷ [])) (whole 5 0 (129 ∷ 64 ∷ 0 ∷ 0 ∷ []))) 0 3
 
@@ -55,11 +56,13 @@ upward = card (twoCells (whole 6 0 (41 ∷ 0 ∷ 0 ∷ 0 ∷ [])) (whole 6 0 (1 
 downward : Card
 downward = card (twoCells (whole 6 0 (2 ∷ 0 ∷ 0 ∷ 0 ∷ [])) (whole 6 0 (41 ∷ 0 ∷ 0 ∷ 0 ∷ []))) 0 3
 
--- a card that is not settled: nobody edited cell 1, an AND2 of two low inputs, and its output is high
+-- a card that is not settled: nobody edited cell 1, an AND2 of two low inputs, and its output is
+-- high
 unfoldable pub unsettled : Card
 unsettled = card (set (fresh .cells) 0 (whole 5 0 (0 ∷ 0 ∷ 0 ∷ 0 ∷ []))) 1 0
 
--- another: nobody edited cell 1, a D-flop whose reset is on 64, always high, and its bit and its output are set
+-- another: nobody edited cell 1, a D-flop whose reset is on 64, always high, and its bit and its
+-- output are set
 unfoldable pub unsettledState : Card
 unsettledState = card (set (fresh .cells) 0 (cellOf 1 0 (0 ∷ 128 ∷ 64 ∷ 0 ∷ []) (record { count = pulses 0; bit = true; pulse = false }))) 1 0
 
@@ -77,7 +80,8 @@ wired cells kind source =
       tallies = fresh .tallies;
     }
 
--- inputs; cell 1 is high in the tick in which TTL0 rises (address 169), cell 2 in the one in which BNC1 falls (225)
+-- inputs; cell 1 is high in the tick in which TTL0 rises (address 169), cell 2 in the one in which
+-- BNC1 falls (225)
 torn : Card
 torn = wired (twoCells (whole 5 0 (169 ∷ 64 ∷ 0 ∷ 0 ∷ [])) (whole 5 0 (225 ∷ 64 ∷ 0 ∷ 0 ∷ []))) 0 0
 
@@ -105,7 +109,8 @@ quick c (s ∷ ss) = answered (tick cellCount false c (clock0 s) .answer) ++ qui
 shown : Ticked → List ℕ
 shown t = t .card .memory .levels ∷ t .answer .driven ∷ t .answer .cells ∷ []
 
--- quick ticks of clock 0 with these samples and attached lines: levels, driven word and cell word of each
+-- quick ticks of clock 0 with these samples and attached lines: levels, driven word and cell word
+-- of each
 ticks : Card → List (ℕ × ℕ) → List ℕ
 ticks c [] = []
 ticks c (w ∷ ws) =
@@ -128,14 +133,16 @@ table =
     ∷ (alone 0 0 0xa5a5 0xffff, 0xa5a5 ∷ 0x0000 ∷ 0 ∷ [])
     ∷ (alone 0 0 0xa5a5 0x0000, 0xff00 ∷ 0x0000 ∷ 0 ∷ [])
     ∷ (alone 0 0 0xa5a5 0x0f0f, 0xf505 ∷ 0x0000 ∷ 0 ∷ [])
-    -- open-drain, driven high (from 64) and low (from 0): with nothing attached the backplane shows the driven bit and the front is low
+    -- open-drain, driven high (from 64) and low (from 0): with nothing attached the backplane shows
+    -- the driven bit and the front is low
     ∷ (alone 1 64 0xffff 0x0000, 0xff00 ∷ 0xffff ∷ 0 ∷ [])
     ∷ (alone 1 0 0xffff 0x0000, 0x0000 ∷ 0x0000 ∷ 0 ∷ [])
     ∷ (alone 1 64 0x00f0 0x0ff0, 0xf0f0 ∷ 0xffff ∷ 0 ∷ [])
     -- push-pull shows what it drives
     ∷ (alone 2 64 0x0000 0x0000, 0xffff ∷ 0xffff ∷ 0 ∷ [])
     ∷ (alone 2 0 0xffff 0x0000, 0x0000 ∷ 0x0000 ∷ 0 ∷ [])
-    -- the cables of BNC1 and TTL0 are torn between two ticks and mended after two: TTL0 rises and BNC1 falls, though no sample changed
+    -- the cables of BNC1 and TTL0 are torn between two ticks and mended after two: TTL0 rises and
+    -- BNC1 falls, though no sample changed
     ∷ (
       ticks torn ((0x0001, 0xffff) ∷ (0x0001, 0xfefe) ∷ (0x0001, 0xfefe) ∷ (0x0001, 0xffff) ∷ []),
       0x0001 ∷ 0x0000 ∷ 0 ∷ 0x0100 ∷ 0x0000 ∷ 3 ∷ 0x0100 ∷ 0x0000 ∷ 0 ∷ 0x0001 ∷ 0x0000 ∷ 0 ∷ [],

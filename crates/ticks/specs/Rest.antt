@@ -1,5 +1,7 @@
--- When a card is at rest, so that its clock may stop, and what the code tests for it: over the number n of cells. The same tests are the fast path of a quick
--- tick, which looks at no cell closely; no rule of document 01 stands in them, and the law is that such a tick is the tick of specs/Tick.
+-- When a card is at rest, so that its clock may stop, and what the code tests for it: over the
+-- number n of cells. The same tests are the fast path of a quick tick, which looks at no cell
+-- closely; no rule of document 01 stands in them, and the law is that such a tick is the tick of
+-- specs/Tick.
 use Prim.Native.Nat.{ℕ, zero, suc, _+_}
 use mathlib.Core.Path.{_≡_}
 use mathlib.Core.Bool.{Bool, true, false, not, _&&_, cond}
@@ -17,7 +19,7 @@ use Rattle.ticks.specs.declared.view.Input.{Input}
 use Rattle.ticks.specs.declared.tick.Answer.{Answer}
 use Rattle.ticks.specs.declared.tick.Turned.{Turned}
 use Rattle.ticks.specs.declared.view.Wires.{Wires}
-use Rattle.ticks.specs.Reading.{slotsRead}
+use Rattle.ticks.specs.Reading.{slotsRead, view}
 use Rattle.ticks.specs.Tick.{idle, tick}
 
 -- a card with another tick total
@@ -37,12 +39,14 @@ withTotal c total =
 abbrev pub totalOf : Card → ℕ
 totalOf c = c .tallies .total .0
 
--- a card is at rest under an input: a quick tick with it would name no cell and leave all but the tick total as it is
+-- a card is at rest under an input: a quick tick with it would name no cell and leave all but the
+-- tick total as it is
 pub record AtRest (n : ℕ) (c : Card) (input : Input) : Type 0 where
   pub asleep : tick n false c input .answer .woken ≡ 0
   pub kept : withTotal (tick n false c input .card) (totalOf c) ≡ c
 
--- "how many ticks ran ... Once the tick total is 4,294,967,295 all of them stand still": the total after k ticks more
+-- "how many ticks ran ... Once the tick total is 4,294,967,295 all of them stand still": the total
+-- after k ticks more
 abbrev pub totalAfter : (total k : ℕ) → ℕ
 totalAfter total k = cond (ltb total standstill) (cond (ltb (total + k) standstill) (total + k) standstill) total
 
@@ -50,7 +54,8 @@ totalAfter total k = cond (ltb total standstill) (cond (ltb (total + k) standsti
 abbrev pub restTotal : Card → Input → (k : ℕ) → ℕ
 restTotal c input k = cond (eqb (input .code) (c .trigger)) (totalAfter (totalOf c) k) (totalOf c)
 
--- what a quick tick of a card at rest answers: the words of the last tick that ran, and no cell woken; another clock's is idle
+-- what a quick tick of a card at rest answers: the words of the last tick that ran, and no cell
+-- woken; another clock's is idle
 abbrev pub stillAnswer : Memory → Answer
 stillAnswer m = record { ran = true; driven = m .driven; cells = m .outputs; woken = 0; count = 0 }
 
@@ -79,8 +84,12 @@ allRest (suc n) view cells = allRest n view cells && cellRests view (getD cells 
 
 -- ---- the fast path
 
+-- a quick tick takes it: no cell is edited, no word has changed, and nothing stirs a cell
+unfoldable pub isQuiet : ℕ → List Cell → (edited : ℕ) → Wires → Bool
+isQuiet n cells edited w = (eqb edited 0 && steady w) && allRest n (view n 0 (w .outputs) (w .outputs) (w .levels)) cells
+
 -- the words of a tick in which every one is what it was in the last two
-abbrev pub steadyWires : ℕ → ℕ → Wires
+abbrev pub steadyWires : (outputs levels : ℕ) → Wires
 steadyWires outputs levels =
     record { levels = levels; levels2 = levels; levels3 = levels; outputs = outputs; outputs2 = outputs; outputs3 = outputs }
 

@@ -19,7 +19,8 @@ use Rattle.ticks.specs.Examples.{card, clock0, unsettled}
 use Rattle.ticks.specs.Rest.{AtRest}
 
 pub record Table : Type 0 where
-  -- a fresh card is at rest while every line is low, but not under a tick that finds TTL0 high: its level would be new
+  -- a fresh card is at rest while every line is low, but not under a tick that finds TTL0 high: its
+  -- level would be new
   low : AtRest cellCount fresh (clock0 0)
   high : AtRest cellCount fresh (clock0 256) → ⊥
   -- nor with cell 1 edited: the tick would name the cell

@@ -1,5 +1,6 @@
--- Lists of ticks on one card: which of them run, what a cell's slots read in those, and the card that they leave. The card's own ticks have the lines that its
--- connectors give. In a rack the lines come from elsewhere, so all is said of any way to give them.
+-- Lists of ticks on one card: which of them run, what a cell's slots read in those, and the card
+-- that they leave. The card's own ticks have the lines that its connectors give. In a rack the
+-- lines come from elsewhere, so all is said of any way to give them.
 use Prim.Native.Nat.{ℕ}
 use mathlib.Core.Path.{_≡_}
 use mathlib.Core.Bool.{Bool, true, false, cond}
@@ -17,7 +18,8 @@ use Rattle.ticks.specs.Tick.{readOn, lines, tickOn, tick}
 
 -- ---- one tick
 
--- a tick whose lines are given: whether it is full, its clock code, and what the connectors drive and show
+-- a tick whose lines are given: whether it is full, its clock code, and what the connectors drive
+-- and show
 pub record Step : Type 0 where
   pub full : Bool
   pub code : ℕ
@@ -31,7 +33,7 @@ cellAt c i = getD (c .cells) i noCell
 abbrev pub stepRuns : Card → Step → Bool
 stepRuns c s = eqb (s .code) (c .trigger)
 
-abbrev pub stepReads : ℕ → Card → Step → ℕ → Slots
+abbrev pub stepReads : (n : ℕ) → Card → Step → (i : ℕ) → Slots
 stepReads n c s i = readOn n (s .full) c (s .lines .levels) i (cellAt c i .slots)
 
 abbrev pub stepped : ℕ → Card → Step → Ticked
@@ -92,5 +94,5 @@ abbrev pub afterTicks : ℕ → Card → Ticks → Card
 afterTicks n c ts = afterAll n (Bool × Input) (own n) c ts
 
 -- what cell i's slots read in those of a list that ran, in order
-abbrev pub readings : ℕ → Card → Ticks → ℕ → List Slots
+abbrev pub readings : (n : ℕ) → Card → Ticks → (i : ℕ) → List Slots
 readings n c ts i = readingsIn n (Bool × Input) (own n) c ts i

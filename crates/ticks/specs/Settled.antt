@@ -1,4 +1,5 @@
--- Why a quick tick may leave a cell alone: what the card remembers that a cell read, and when its cells may sleep.
+-- Why a quick tick may leave a cell alone: what the card remembers that a cell read, and when its
+-- cells may sleep.
 use Prim.Native.Nat.{ℕ, _<_}
 use mathlib.Core.Path.{_≡_}
 use mathlib.Core.Bool.{Bool, false}
@@ -20,8 +21,8 @@ use Rattle.ticks.specs.Reading.{slotsRead, view}
 unfoldable pub remembered : (n i : ℕ) → Memory → List ℕ → Slots
 remembered n i m s = slotsRead (view n i (m .outputs) (m .outputs2) (m .levels)) (view n i (m .outputs2) (m .outputs3) (m .levels2)) s
 
--- a cell with an output keeps both its state and the output when it is worked out with any readings that agree with `last` on the used slots
--- that are no edge slots, and that stir nothing
+-- a cell with an output keeps both its state and the output when it is worked out with any readings
+-- that agree with `last` on the used slots that are no edge slots, and that stir nothing
 unfoldable pub Keeps : Cell → Bool → Slots → Type 0
 Keeps cell out last = (now : Slots) → disagree (cell .kind) now last ≡ false → stirred (cell .kind) (stateOf cell) now ≡ false
     → workOut (cell .kind) (cell .config) (stateOf cell) now ≡ keeping (stateOf cell) out
@@ -31,7 +32,8 @@ unfoldable pub Settled : ℕ → Card → Type 0
 Settled n c = (i : ℕ) → i < n → bitAt (c .edited) i ≡ false
     → Keeps (getD (c .cells) i noCell) (bitAt (c .memory .outputs) i) (remembered n i (c .memory) (getD (c .cells) i noCell .slots))
 
--- two ticks are alike: the same card, and answers that agree in whether the tick ran, its driven word and its cell word
+-- two ticks are alike: the same card, and answers that agree in whether the tick ran, its driven
+-- word and its cell word
 pub record AlikeTicks (a b : Ticked) : Type 0 where
   pub card : a .card ≡ b .card
   pub ran : a .answer .ran ≡ b .answer .ran

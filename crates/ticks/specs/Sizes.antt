@@ -1,5 +1,6 @@
--- Document 02, "Thirty-two cells", by computation: who sees whom across all thirty-two cells, and a card of sixteen cells that is handed in with bits above
--- them. (A whole tick of thirty-two cells is more than the prover computes: those run as stored sessions.)
+-- Document 02, "Thirty-two cells", by computation: who sees whom across all thirty-two cells, and a
+-- card of sixteen cells that is handed in with bits above them. (A whole tick of thirty-two cells
+-- is more than the prover computes: those run as stored sessions.)
 use Prim.Native.Nat.{ℕ}
 use mathlib.Core.Path.{_≡_, refl}
 use mathlib.Core.Bool.{Bool, true, false}
@@ -21,7 +22,8 @@ use Rattle.ticks.specs.Levels.{effectiveSample, drivenWord, levelsFrom, 
 use Rattle.ticks.specs.Tick.{readNow, readLast, named, turnAt, outputsBelow, turned, tick}
 use Rattle.ticks.specs.Examples.{card, clock0}
 
--- the level at a base as the reader in cell 17 sees it, where only cell 16 is high in this tick and only cell 18 was in the last one
+-- the level at a base as the reader in cell 17 sees it, where only cell 16 is high in this tick and
+-- only cell 18 was in the last one
 seventeenth : (n : ℕ) → ℕ → Bool
 seventeenth n base = view n 16 0x8000 0x20000 0 base
 
@@ -43,7 +45,8 @@ view-table : map (λ (e : Bool × Bool). e .0) views ≡ map (λ (e : Bool × Bo
 unfolding seventeenth levelAt mixed view bitAt
 view-table = refl
 
--- bits above the sixteen, in the cell words and in the edited set: nobody wakes by them, and the tick leaves words without them
+-- bits above the sixteen, in the cell words and in the edited set: nobody wakes by them, and the
+-- tick leaves words without them
 words : Ticked → List ℕ
 words t = t .answer .woken ∷ t .answer .cells ∷ t .card .memory .outputs ∷ t .card .memory .outputs2 ∷ t .card .memory .outputs3 ∷ t .card .edited ∷ []
 

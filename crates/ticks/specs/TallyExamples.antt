@@ -1,4 +1,5 @@
--- Document 02, "Wake tallies", by computation: one tick at and around the limit, and whom full ticks name.
+-- Document 02, "Wake tallies", by computation: one tick at and around the limit, and whom full
+-- ticks name.
 use Prim.Native.Nat.{ℕ, _-_, _^_}
 use mathlib.Core.Path.{_≡_, refl}
 use mathlib.Core.Bool.{Bool, true, false}
@@ -53,10 +54,12 @@ idle-after c = tick cellCount true c (record { code = 1; sample = 0; attached = 
 -- given, expected
 abbrev table : List (List ℕ × List ℕ)
 table =
-    -- cells 1 and 2 are edited, so the rules name them, in a full tick as in a quick one, and no other
+    -- cells 1 and 2 are edited, so the rules name them, in a full tick as in a quick one, and no
+    -- other
     (told 3 (after true (handed 3 7 5 6 7)), 8 ∷ 6 ∷ 7 ∷ 7 ∷ [])
     ∷ (told 3 (after false (handed 3 7 5 6 7)), 8 ∷ 6 ∷ 7 ∷ 7 ∷ [])
-    -- the tick that reaches the limit still counts; a tally at the limit with the total below stands
+    -- the tick that reaches the limit still counts; a tally at the limit with the total below
+    -- stands
     ∷ (told 3 (after true (handed 3 4294967294 5 4294967295 7)), 4294967295 ∷ 6 ∷ 4294967295 ∷ 7 ∷ [])
     -- the next does not count
     ∷ (told 3 (after true (handed 3 4294967295 6 4294967295 7)), 4294967295 ∷ 6 ∷ 4294967295 ∷ 7 ∷ [])

@@ -29,9 +29,9 @@ use Rattle.ticks.specs.Levels.{effectiveSample, linesOf}
 
 -- ---- what a cell reads
 
--- what a reader in position i sees in this tick, saw in the last tick that ran, and saw in the one before; `below` is the word of this tick's
--- outputs, of which only those of cells below i are seen
-abbrev pub seesNow : (n i : ℕ) → Wires → ℕ → ℕ → Bool
+-- what a reader in position i sees in this tick, saw in the last tick that ran, and saw in the one
+-- before; `below` is the word of this tick's outputs, of which only those of cells below i are seen
+abbrev pub seesNow : (n i : ℕ) → Wires → (below : ℕ) → ℕ → Bool
 seesNow n i w below = view n i below (w .outputs) (w .levels)
 
 abbrev pub sawLast : (n i : ℕ) → Wires → ℕ → Bool
@@ -49,14 +49,16 @@ readLast n i w s = slotsRead (sawLast n i w) (sawEarlier n i w) s
 
 -- ---- one cell
 
--- what a tick makes of one cell: the cell, its output, whether the rules name it, in a full tick too, and whether it was worked out
+-- what a tick makes of one cell: the cell, its output, whether the rules name it, in a full tick
+-- too, and whether it was worked out
 pub record Turn : Type 0 where
   pub cell : Cell
   pub out : Bool
   pub named : Bool
   pub woke : Bool
 
--- "a cell worked out gets the state and output that "Cells" gives for its state and its slots as read in this tick"
+-- "a cell worked out gets the state and output that "Cells" gives for its state and its slots as
+-- read in this tick"
 abbrev pub turnTo : Cell → (named : Bool) → Worked → Turn
 turnTo cell named r = record { cell = withState cell (r .state); out = r .out; named = named; woke = true }
 
@@ -67,11 +69,13 @@ workedTurn cell named now = turnTo cell named (workOut (cell .kind) (cell .confi
 abbrev pub sleptTurn : Cell → Bool → Turn
 sleptTurn cell out = record { cell = cell; out = out; named = false; woke = false }
 
--- the rules name a cell: by whether it was edited, and what its slots read now and read in the last tick that ran
+-- the rules name a cell: by whether it was edited, and what its slots read now and read in the last
+-- tick that ran
 abbrev pub rulesName : Cell → (edited : Bool) → (now last : Slots) → Bool
 rulesName cell edited now last = wakes (cell .kind) (stateOf cell) edited now last
 
--- a full tick works out every cell, a quick tick those that the rules name; `out` is the last output
+-- a full tick works out every cell, a quick tick those that the rules name; `out` is the last
+-- output
 abbrev pub turnBy : (full : Bool) → Cell → (edited out : Bool) → (now last : Slots) → Turn
 turnBy full cell edited out now last =
     let rule = rulesName cell edited now last in
@@ -87,7 +91,8 @@ turnAt n full cell i edited w below =
 
 -- ---- all cells
 
--- "cells 1 to 16 are worked out in order": the word of the outputs of the cells below i, and the turn of cell i, which sees them
+-- "cells 1 to 16 are worked out in order": the word of the outputs of the cells below i, and the
+-- turn of cell i, which sees them
 module _ (n : ℕ) (full : Bool) (cells : List Cell) (edited : ℕ) (w : Wires) where
   unfoldable pub outputsBelow : ℕ → ℕ
   outputsBelow zero = 0
@@ -106,7 +111,8 @@ module _ (n : ℕ) (full : Bool) (cells : List Cell) (edited : ℕ) (w : Wires) 
   abbrev pub wokeAt : ℕ → Bool
   wokeAt i = turnOf i .woke
 
-  -- the new cells (those past n stay), the cell word, the set of the cells that the rules name, in a full tick too, and the woken set, "bit 0 cell 1"
+  -- the new cells (those past n stay), the cell word, the set of the cells that the rules name, in
+  -- a full tick too, and the woken set, "bit 0 cell 1"
   unfoldable pub turned : Turned
   turned =
       record { cells = listed cellAfter n ++ drop n cells; outputs = outputsBelow n; named = wordOf turnNamed n; woken = wordOf wokeAt n }
@@ -117,7 +123,8 @@ abbrev pub wiresOf : Memory → ℕ → Wires
 wiresOf m levels =
     record { levels = levels; levels2 = m .levels; levels3 = m .levels2; outputs = m .outputs; outputs2 = m .outputs2; outputs3 = m .outputs3 }
 
--- connectors are "read from the last tick's cells and levels, with edges against the tick before that": no cell is below position 0
+-- connectors are "read from the last tick's cells and levels, with edges against the tick before
+-- that": no cell is below position 0
 abbrev pub linesIn : (n : ℕ) → Memory → Connectors → ℕ → Lines
 linesIn n m connectors sample =
     linesOf (view n 0 (m .outputs) (m .outputs) (m .levels)) (view n 0 (m .outputs2) (m .outputs2) (m .levels2)) connectors sample
@@ -125,7 +132,8 @@ linesIn n m connectors sample =
 abbrev pub lines : (n : ℕ) → Card → Input → Lines
 lines n c input = linesIn n (c .memory) (c .connectors) (effectiveSample (input .sample) (input .attached))
 
--- of the cell words a card of n cells has n bits: what a card is handed in with above them nobody sees, and a tick that runs leaves it behind
+-- of the cell words a card of n cells has n bits: what a card is handed in with above them nobody
+-- sees, and a tick that runs leaves it behind
 abbrev pub trimmed : (n : ℕ) → Memory → Memory
 trimmed n m =
     record {
@@ -151,7 +159,8 @@ moved m l outputs =
       levels2 = m .levels;
     }
 
--- the card after a tick that ran: it clears the edits, moves the memory m on, and counts the cells that the rules name
+-- the card after a tick that ran: it clears the edits, moves the memory m on, and counts the cells
+-- that the rules name
 abbrev pub cardAfter : (n : ℕ) → Memory → Card → Lines → Turned → Card
 cardAfter n m c l t =
     record {
@@ -165,7 +174,8 @@ cardAfter n m c l t =
       tallies = talliedBy n (bitAt (t .named)) (c .tallies);
     }
 
--- what a reader in position i reads in a tick that shows these levels, and in a tick that shows the card's own
+-- what a reader in position i reads in a tick that shows these levels, and in a tick that shows the
+-- card's own
 abbrev pub readOn : (n : ℕ) → Bool → Card → (levels : ℕ) → ℕ → List ℕ → Slots
 readOn n full c levels i s =
     let w = wiresOf (c .memory) levels in
@@ -184,7 +194,8 @@ turnedIn n full c levels = turned n full (c .cells) (c .edited) (wiresOf (c .mem
 abbrev pub ranWith : (n : ℕ) → Memory → Card → Lines → Turned → Ticked
 ranWith n m c l t = record { card = cardAfter n m c l t; answer = answerOf l t }
 
--- a tick that runs: the lines l, which are the driven word and the levels, and the turns of all cells under these levels; and with the card's own lines
+-- a tick that runs: the lines l, which are the driven word and the levels, and the turns of all
+-- cells under these levels; and with the card's own lines
 abbrev pub tickedOn : (n : ℕ) → Bool → Card → Lines → Ticked
 tickedOn n full c l = ranWith n (trimmed n (c .memory)) c l (turnedIn n full c (l .levels))
 

@@ -1,9 +1,9 @@
--- Timers after a trigger, tick by tick, as one table by computation: what they show and count, and that the promise of specs/Timing is not empty.
+-- Timers after a trigger, tick by tick, as one table by computation: what they show and count, and
+-- that the promise of specs/Timing is not empty.
 use Prim.Native.Nat.{ℕ, _≤_}
 use mathlib.Core.Path.{_≡_, refl}
 use mathlib.Core.Bool.{Bool, true, false}
 use mathlib.Core.List.{List, [], _∷_}
-use native.Mathlib.Omega.{arith}
 use lib.Count.{ones, onesIn}
 use lib.ListN.{set}
 use Rattle.words.specs.Bits.{bitAt, wordOf}
@@ -26,7 +26,8 @@ use Rattle.ticks.specs.Examples.{card}
 use Rattle.ticks.specs.Runs.{Ticks, cellAt, afterTick, own, readings, readingsIn, Throughout, ResetLow}
 use Rattle.ticks.specs.Timing.{classOf, TakesTrigger, TakesNone}
 
--- a timer in cell 1: triggered by the rise of TTL0 (169), its clock the rise of TTL1 (170), its reset 0; nobody edited it
+-- a timer in cell 1: triggered by the rise of TTL0 (169), its clock the rise of TTL1 (170), its
+-- reset 0; nobody edited it
 timed : (kind duration : ℕ) → Card
 timed kind duration = card (set (fresh .cells) 0 (whole kind duration (169 ∷ 170 ∷ 0 ∷ 0 ∷ []))) 0 0
 
@@ -47,7 +48,8 @@ run c (t ∷ ts) =
     let d = afterTick cellCount c t in
     (d .memory .outputs, tick cellCount (t .0) c (t .1) .answer .cells, cellAt d 0 .count .0) ∷ run d ts
 
--- the trigger comes with a clock edge, which is not counted; then pulse 1, a clock edge in an idle tick, which is none, nothing, pulse 2, nothing, pulse 3
+-- the trigger comes with a clock edge, which is not counted; then pulse 1, a clock edge in an idle
+-- tick, which is none, nothing, pulse 2, nothing, pulse 3
 trigger : Bool × Input
 trigger = quick 0x0300
 
@@ -74,8 +76,8 @@ unfolding timed quick full idling trigger after run ones onesIn bitAt wordOf lis
     readsLevels reads slotsRead mixed view effectiveSample kindAt sourceAt drivenWord pulledWord levelsFrom linesOf readNow readLast named turnAt outputsBelow turned counted talliedBy tick
 longest = (refl, refl)
 
--- of each tick the woken set, the answer's cell word, and the count. The second trigger comes alone, the third with pulse 2: types 14 and 15 wake by them
--- and ignore them, type 8 starts anew
+-- of each tick the woken set, the answer's cell word, and the count. The second trigger comes
+-- alone, the third with pulse 2: types 14 and 15 wake by them and ignore them, type 8 starts anew
 wakings : Card → Ticks → List (ℕ × ℕ × ℕ)
 wakings c [] = []
 wakings c (t ∷ ts) =
@@ -105,12 +107,11 @@ obeyed = refl
 next : ℕ → Bool × Input → Card
 next kind t = afterTick cellCount (timed kind 2) t
 
-takes-first : TakesTrigger cellCount (timed 9 2) (own cellCount (timed 9 2) trigger) 0
+-- of every duration from 1 on
+takes-first : (d : ℕ) → 1 ≤ d → TakesTrigger cellCount (timed 9 d) (own cellCount (timed 9 d) trigger) 0
 unfolding timed quick trigger takes takesAs bitAt wordOf listed rowOf taken workAs workOut stirredAs stirred disagree wakes fresh levelAt readsLevels reads
     slotsRead mixed view effectiveSample kindAt sourceAt drivenWord pulledWord levelsFrom linesOf readNow readLast named turnAt outputsBelow turned counted talliedBy tick
-takes-first =
-    let some : 1 ≤ 2 = omega arith in
-    record { timer = refl; duration = some; ran = refl; took = refl }
+takes-first d some = record { timer = refl; duration = some; ran = refl; took = refl }
 
 -- three pulses, at none of which the reset is high or a trigger is taken
 three-pulses : (pulsesIn (readings cellCount (next 9 trigger) after 0) ≡ 3) × ResetLow (readings cellCount (next 9 trigger) after 0)
@@ -123,7 +124,8 @@ unfolding timed quick full idling trigger after next takes takesAs Throughout on
     disagree wakes fresh levelAt readsLevels reads slotsRead mixed view effectiveSample kindAt sourceAt drivenWord pulledWord levelsFrom linesOf readNow readLast named turnAt outputsBelow turned counted talliedBy tick
 none-taken = (λ _. refl, (λ _. refl, (λ _. refl, (λ _. refl, (λ _. refl, (λ _. refl, (λ _. refl, (λ _. refl, tt))))))))
 
--- the tick that makes a one-shot of type 14 free is among those that ignore triggers; a tick more is not
+-- the tick that makes a one-shot of type 14 free is among those that ignore triggers; a tick more
+-- is not
 still-ignoring : List Bool
 still-ignoring =
     let rs = readings cellCount (next 14 (quick 0x0100)) again 0 in

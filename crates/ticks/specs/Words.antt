@@ -1,5 +1,5 @@
--- The words that addresses are read from, as what they read: the code keeps four words for what a reader reads, and four for what it reads otherwise
--- than in the last tick.
+-- The words that addresses are read from, as what they read: the code keeps four words for what a
+-- reader reads, and four for what it reads otherwise than in the last tick.
 use Prim.Native.Nat.{ℕ, _^_, _<_}
 use mathlib.Core.Path.{_≡_}
 use mathlib.Core.Bool.{Bool, not, _||_, Bool·beq}

@@ -19,14 +19,16 @@ pub struct Lines {
     pub levels: u16,
 }
 
-// What counts as sampled: the sample where something is attached; of the other lines those of the backplane are high.
+// What counts as sampled: the sample where something is attached; of the other lines those of the
+// backplane are high.
 pub fn effective(sample: u16, attached: u16) -> u16
     ensures { λ r. ⌜ r ≡ effectiveSample sample attached ⌝ }
 {
     BACKPLANE ^ ((sample ^ BACKPLANE) & attached)
 }
 
-// Whether an address is high. Address 0 never is, and is not read: an output that nothing feeds has it as its source.
+// Whether an address is high. Address 0 never is, and is not read: an output that nothing feeds has
+// it as its source.
 fn is_high(q: &[u64; QUARTERS], source: u8) -> bool
     ensures { λ r. ⌜ ((f g : ℕ → Bool) → ReadsAs (now (q .entry)) f g → f 0 ≡ false → r ≡ reads f g source) ⌝ }
 {
@@ -36,7 +38,8 @@ fn is_high(q: &[u64; QUARTERS], source: u8) -> bool
     read(q, source)
 }
 
-// The driven word, from the outputs alone, the lowest first: `left` has those that are still to come.
+// The driven word, from the outputs alone, the lowest first: `left` has those that are still to
+// come.
 fn driven_by(connectors: Connectors, now: u64, before: u64) -> u16
     requires { ⌜ bitAt now 0 ≡ false ⌝ }
     ensures { λ r. ⌜ r ≡ drivenWord (bitAt now) (bitAt before) connectors ⌝ }
@@ -55,7 +58,8 @@ fn driven_by(connectors: Connectors, now: u64, before: u64) -> u16
     driven as u16
 }
 
-// The levels, all at once: push-pull connectors show what they drive, open-drain ones what both they and the sample have, the others the sample.
+// The levels, all at once: push-pull connectors show what they drive, open-drain ones what both
+// they and the sample have, the others the sample.
 fn levels_from(push: u16, drain: u16, driven: u16, sample: u16) -> u16
     ensures { λ r. ⌜ r ≡ levelsFrom push drain driven sample ⌝ }
 {
@@ -69,7 +73,8 @@ fn pulled_by(connectors: Connectors, driven: u16) -> u16
     BACKPLANE & ((connectors.push_pull | connectors.open_drain) & (driven ^ 0xffff))
 }
 
-// All words: the connectors are driven, and then show their levels. `now` and `before` are views, in which base 0 is low.
+// All words: the connectors are driven, and then show their levels. `now` and `before` are views,
+// in which base 0 is low.
 pub fn drive(connectors: Connectors, now: u64, before: u64, sample: u16) -> Lines
     requires { ⌜ bitAt now 0 ≡ false ⌝ }
     ensures { λ l. ⌜ l ≡ linesOf (bitAt now) (bitAt before) connectors sample ⌝ }

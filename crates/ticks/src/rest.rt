@@ -45,8 +45,9 @@ fn rests_on(card: Card, input: Input, n: u8) -> bool
     all_rest(cells, sees(0, m.outputs, m.outputs, m.levels), n)
 }
 
-// Whether a quick tick with the input would name no cell and leave all but the tick total as it is. No tick is made: the last words are compared, the connectors
-// driven, and the cells with edge slots looked at.
+// Whether a quick tick with the input would name no cell and leave all but the tick total as it is.
+// No tick is made: the last words are compared, the connectors driven, and the cells with edge
+// slots looked at.
 pub fn at_rest(card: Card, input: Input) -> bool
     ensures { λ q. ⌜ Decides q (AtRest (cellsFor (card .size)) card input) ⌝ }
 {

@@ -6,7 +6,7 @@ ghost use lib.Dec.{eqb};
 ghost use Rattle.words.specs.Bits.{bitAt, withBit, bitNumber};
 ghost use Rattle.cells.specs.State.{stateOf};
 ghost use Rattle.cells.specs.Effect.{StepsTo};
-ghost use Rattle.cells.specs.Work.{workOut};
+ghost use Rattle.cells.specs.Work.{lookedAt, workOut};
 ghost use Rattle.card.specs.Address.{cellRoom, cellsFor};
 ghost use Rattle.ticks.specs.Reading.{slotsRead};
 ghost use Rattle.ticks.specs.Rest.{turnedTo};
@@ -38,6 +38,7 @@ use cells::cell::Cell;
 use cells::reading::QUARTERS;
 use cells::reading::address;
 use cells::step::Stepped;
+use cells::step::step;
 use cells::work::Effect;
 
 // What a tick makes of all cells.
@@ -64,7 +65,8 @@ pub struct Ticked {
     pub answer: Answer,
 }
 
-// A cell asked and, where it is due, worked out. q holds what the addresses read, d which of them read otherwise than in the last tick.
+// A cell asked and, where it is due, worked out. q holds what the addresses read, d which of them
+// read otherwise than in the last tick.
 fn stepped(
     full: bool,
     edited: bool,
@@ -72,28 +74,17 @@ fn stepped(
     q: &[u64; QUARTERS],
     d: &[u64; QUARTERS],
 ) -> Stepped
-    ensures { λ r. ⌜ ((f g h : ℕ → Bool) → ReadsAs (now (q .entry)) f g → MovesAs (now (d .entry)) f g h → let now = slotsRead f g (cell .slots) in StepsTo r full (rulesName cell edited now (slotsRead g h (cell .slots))) (stateOf cell) (workOut (cell .kind) (cell .config) (stateOf cell) now)) ⌝ }
+    ensures { λ r. ⌜ ((f g h : ℕ → Bool) → ReadsAs (now (q .entry)) f g → MovesAs (now (d .entry)) f g h →
+        let now = slotsRead f g (cell .slots) in
+        StepsTo r full (rulesName cell edited now (slotsRead g h (cell .slots))) (stateOf cell)
+        (workOut (cell .kind) (cell .config) (stateOf cell) now) (lookedAt (cell .kind) now)) ⌝ }
 {
     let s = cell.slots;
     let x = address(s[0]);
     let y = address(s[1]);
     let z = address(s[2]);
     let f = address(s[3]);
-    cells::step::step(
-        full,
-        edited,
-        cell.kind,
-        cell.config,
-        cell.count,
-        cell.bit,
-        cell.pulse,
-        x,
-        y,
-        z,
-        f,
-        q,
-        d,
-    )
+    step(full, edited, cell, x, y, z, f, q, d)
 }
 
 // The first n bits of a word.
@@ -140,7 +131,8 @@ fn flipped(w: CellWord, i: u32) -> CellWord
     w ^ (1 << i)
 }
 
-// A set of the cells below i with cell i, where the rules name it. The set is left alone where they do not, which is the way of most turns.
+// A set of the cells below i with cell i, where the rules name it. The set is left alone where they
+// do not, which is the way of most turns.
 fn noted(named: EditedSet, i: u32, is: bool) -> EditedSet
     requires { ⌜ i < 64 ⌝ }
     requires { ⌜ named < 2 ^ i ⌝ }
@@ -155,7 +147,8 @@ fn noted(named: EditedSet, i: u32, is: bool) -> EditedSet
 
 // ---- a tick
 //
-// The two kinds stand side by side: where two branches end in one card, the compiler copies that card once more.
+// The two kinds stand side by side: where two branches end in one card, the compiler copies that
+// card once more.
 
 // The connectors, driven from the last tick's words, and the levels of what comes in.
 pub fn lines_in(connectors: Connectors, m: Memory, input: Input) -> Lines
@@ -167,7 +160,8 @@ pub fn lines_in(connectors: Connectors, m: Memory, input: Input) -> Lines
     drive(connectors, now, before, sample)
 }
 
-// The card after a tick that ran, and its answer. The cells are turned already, and the memory m is moved on; `named` are the cells that the rules name.
+// The card after a tick that ran, and its answer. The cells are turned already, and the memory m is
+// moved on; `named` are the cells that the rules name.
 fn ran_with(
     card: Card,
     m: Memory,
@@ -205,8 +199,10 @@ fn ran_with(
     }
 }
 
-// A tick that runs: the turns of all cells, in order. The outputs start as those of the last tick, so a cell that sleeps changes none. The words for
-// the next reader are made anew only where readers above the cell see something else of it, in this tick or the last two, than readers up to it do.
+// A tick that runs: the turns of all cells, in order. The outputs start as those of the last tick,
+// so a cell that sleeps changes none. The words for the next reader are made anew only where
+// readers above the cell see something else of it, in this tick or the last two, than readers up to
+// it do.
 fn turn_each(full: bool, card: Card, m: Memory, l: Lines, n: u8) -> Ticked
     requires { ⌜ n ≤ cellRoom ⌝ }
     requires { ⌜ FitsMemory n m ⌝ }

@@ -1,5 +1,5 @@
-// What a tick is made of: what comes in with it, the words that its readers see, what a reader sees at each base, as a word with a bit for each base, and
-// the words that addresses are read from.
+// What a tick is made of: what comes in with it, the words that its readers see, what a reader sees
+// at each base, as a word with a bit for each base, and the words that addresses are read from.
 ghost use mathlib.Core.Path.{_≡_};
 ghost use Prim.Native.Nat.{ℕ, _^_, _≤_, _<_};
 ghost use Rattle.words.specs.Bits.{bitAt, wordOf};
@@ -11,7 +11,8 @@ use card::card::Memory;
 use card::limits::CellWord;
 use cells::reading::QUARTERS;
 
-// What comes in with a tick: the code of its clock, the word sampled at the connectors, and which of them have something attached.
+// What comes in with a tick: the code of its clock, the word sampled at the connectors, and which
+// of them have something attached.
 #[repr(C)]
 pub struct Input {
     pub code: u8,
@@ -19,8 +20,8 @@ pub struct Input {
     pub attached: u16,
 }
 
-// What the readers of a tick see besides its own outputs: the levels of this tick, of the last one that ran (2) and of the one before (3), and
-// the cell words of the last three ticks that ran.
+// What the readers of a tick see besides its own outputs: the levels of this tick, of the last one
+// that ran (2) and of the one before (3), and the cell words of the last three ticks that ran.
 pub struct Wires {
     pub levels: u16,
     pub levels2: u16,
@@ -44,7 +45,8 @@ pub fn wires_of(m: Memory, levels: u16) -> Wires
     }
 }
 
-// The view of a reader in position i: of the cells below i the bits of `below`, of the others those of `others`.
+// The view of a reader in position i: of the cells below i the bits of `below`, of the others those
+// of `others`.
 pub fn sees(i: u32, below: CellWord, others: CellWord, levels: u16) -> u64
     requires { ⌜ i < 64 ⌝ }
     ensures { λ w. ⌜ ((n : ℕ) → n ≤ cellRoom → below < 2 ^ n → others < 2 ^ n → w ≡ wordOf (view n i below others levels) 64) ⌝ }
@@ -58,7 +60,8 @@ pub fn sees(i: u32, below: CellWord, others: CellWord, levels: u16) -> u64
 // All bits.
 pub const ALL: u64 = 0xffff_ffff_ffff_ffff;
 
-// The words that addresses are read from, one for each quarter of them: level, inverse, rose, fell. In the last one base 0 is high, for 192.
+// The words that addresses are read from, one for each quarter of them: level, inverse, rose, fell.
+// In the last one base 0 is high, for 192.
 pub fn quarters(now: u64, before: u64) -> [u64; QUARTERS]
     ensures { λ q. ⌜ ReadsAs q (bitAt now) (bitAt before) ⌝ }
 {

@@ -1,4 +1,5 @@
--- Words as numbers: the bit at a place, a word built from its bits, a bit replaced, the number of ones. Every definition is over the number of bits.
+-- Words as numbers: the bit at a place, a word built from its bits, a bit replaced, the number of
+-- ones. Every definition is over the number of bits.
 use Prim.Native.Nat.{ℕ, zero, suc, _+_, _*_, _/_, _%_, _^_, _<_}
 use mathlib.Core.Path.{_≡_}
 use mathlib.Core.Bool.{Bool, true, false}
@@ -10,7 +11,7 @@ bitNumber false = 0
 bitNumber true = 1
 
 -- bit number i of the word w
-unfoldable pub bitAt : ℕ → ℕ → Bool
+unfoldable pub bitAt : (w i : ℕ) → Bool
 bitAt w i = eqb (w / 2 ^ i % 2) 1
 
 -- the word of n bits whose bit i is f i, built from 0 upward
@@ -19,7 +20,7 @@ wordOf f zero = 0
 wordOf f (suc n) = wordOf f n + bitNumber (f n) * 2 ^ n
 
 -- the word w with bit i made b: what stands above it, b, and what stands below it
-unfoldable pub withBit : ℕ → ℕ → Bool → ℕ
+unfoldable pub withBit : (w i : ℕ) (b : Bool) → ℕ
 withBit w i b = w / 2 ^ suc i * 2 ^ suc i + (bitNumber b * 2 ^ i + w % 2 ^ i)
 
 -- how many of the first n are true

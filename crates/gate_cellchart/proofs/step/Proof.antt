@@ -25,7 +25,7 @@ returns : tie.Need-returns
 returns c =
     let w = c .before .before in
     let k = w .before in
-    let l = k .before .before .before in
+    let l = k .before .before .before .before in
     let a = l .before .args in
     let out = w .worked .ensures ∙ k .step .ensures .gives false ∙ ap (λ (r : Slots). workOut (a .kind) duration (a .s) r) (l .levels .ensures) in
     ap (λ (v : Worked). v .state) out

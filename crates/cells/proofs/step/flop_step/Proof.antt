@@ -1,5 +1,6 @@
--- `cells::step::flop_step` meets its contract: what is asked is what the definition asks, and the work is its callee's.
-use mathlib.Core.Path.{ap, _∙_}
+-- `cells::step::flop_step` meets its contract: what is asked is what the definition asks, and the
+-- work is its callee's.
+use mathlib.Core.Path.{refl, ap, _∙_}
 use mathlib.Core.Bool.{Bool, _||_}
 use Rattle.cells.specs.Reading.{readFrom}
 use Rattle.cells.specs.State.{state}
@@ -8,12 +9,6 @@ use Rattle.cells.proofs.Steps.{gated-on, step-worked, step-slept}
 use borrow.Author.Needs.{needs}
 use Rattle.cells.proofs.step.flop_step.Statement.{statement}
 use Rattle.cells.proofs.step.flop_step.Tie as tie
-
-flop-wakes-requires : tie.Need-flop-wakes-requires
-flop-wakes-requires c κs = search needs
-
-flop-requires : tie.Need-flop-requires
-flop-requires c κs = search needs
 
 returns : tie.Need-returns
 unfolding workAs
@@ -24,17 +19,17 @@ returns c count pulse =
     let is = ap (λ (b : Bool). a .edited || b)
     (asked .flop-wakes .ensures
     ∙ gated-on (readFrom (a .q .now) (a .y)) (readFrom (a .d .now) (a .x)) (readFrom (a .d .now) (a .z)) (readFrom (a .d .now) (a .f))) in
-    step-worked _ _ _ s _ is _ (c .before .if1 .taken) (λ out. ap (holding s) (c .flop .ensures))
+    step-worked _ _ _ s _ _ is _ _ (c .before .if1 .taken) (λ out. ap (holding s) (c .flop .ensures)) refl
 
 returns-2 : tie.Need-returns-2
 returns-2 c count pulse =
-    let asked = c .before in
+    let asked = c .before .before in
     let a = asked .before .args in
     let is = ap (λ (b : Bool). a .edited || b)
     (asked .flop-wakes .ensures
     ∙ gated-on (readFrom (a .q .now) (a .y)) (readFrom (a .d .now) (a .x)) (readFrom (a .d .now) (a .z)) (readFrom (a .d .now) (a .f))) in
-    step-slept _ _ _ (state count (a .bit) pulse) _ is (c .if1 .left)
+    step-slept _ _ _ (state count (a .bit) pulse) _ _ is _ (c .slept .ensures) (c .before .if1 .left)
 
 pub flop-step-spec : {M : Type 1} → statement M
 flop-step-spec =
-    tie.close (tie.spec flop-wakes-requires flop-requires returns returns-2)
+    tie.close (tie.spec (λ c κs. search needs) (λ c κs. search needs) (λ c κs. search needs) returns returns-2)

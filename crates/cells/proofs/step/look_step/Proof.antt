@@ -7,14 +7,13 @@ use borrow.Author.Needs.{needs}
 use Rattle.cells.proofs.step.look_step.Statement.{statement}
 use Rattle.cells.proofs.step.look_step.Tie as tie
 
-look-requires : tie.Need-look-requires
-look-requires c κs = search needs
-
 returns : tie.Need-returns
-returns c s = step-worked _ _ _ s _ refl _ (c .before .if1 .taken) (λ out. ap (λ (l : Looked). keeping s (l .out)) (c .look .ensures))
+returns c s =
+    step-worked _ _ _ s _ _ refl _ _ (c .before .if1 .taken) (λ out. ap (λ (l : Looked). keeping s (l .out)) (c .look .ensures))
+    (ap (λ (l : Looked). l .slots) (c .look .ensures))
 
 returns-2 : tie.Need-returns-2
-returns-2 c s = step-slept _ _ _ s _ refl (c .if1 .left)
+returns-2 c s = step-slept _ _ _ s _ _ refl _ (c .slept .ensures) (c .before .if1 .left)
 
 pub look-step-spec : {M : Type 1} → statement M
-look-step-spec = tie.close (tie.spec look-requires returns returns-2)
+look-step-spec = tie.close (tie.spec (λ c κs. search needs) (λ c κs. search needs) returns returns-2)

@@ -1,5 +1,6 @@
--- `cells::step::lookup4_step` meets its contract: what is asked is what the definition asks, and the work is its callee's.
-use mathlib.Core.Path.{_≡_, ap, _∙_}
+-- `cells::step::lookup4_step` meets its contract: what is asked is what the definition asks, and
+-- the work is its callee's.
+use mathlib.Core.Path.{_≡_, refl, ap, _∙_}
 use mathlib.Core.Bool.{Bool, _||_}
 use Rattle.cells.specs.Work.{keeping, gateOut, lookupOut, workAs}
 use Rattle.cells.proofs.Steps.{step-worked, step-slept}
@@ -7,31 +8,22 @@ use borrow.Author.Needs.{needs}
 use Rattle.cells.proofs.step.lookup4_step.Statement.{statement}
 use Rattle.cells.proofs.step.lookup4_step.Tie as tie
 
-moved4-requires : tie.Need-moved4-requires
-moved4-requires c κs = search needs
-
-four-requires : tie.Need-four-requires
-four-requires c κs = search needs
-
-lookup-requires : tie.Need-lookup-requires
-lookup-requires c κs = search needs
-
 returns : tie.Need-returns
 unfolding workAs
 returns c s =
     let asked = c .before .before .before in
     let a = asked .before .args in
     let is = ap (λ (b : Bool). a .edited || b) (asked .moved4 .ensures) in
-    step-worked _ _ _ s _ is _ (c .before .before .if1 .taken)
-    (λ out. ap (keeping s) (c .lookup .ensures ∙ ap (lookupOut (a .config)) (c .before .four .ensures)))
+    step-worked _ _ _ s _ _ is _ _ (c .before .before .if1 .taken)
+    (λ out. ap (keeping s) (c .lookup .ensures ∙ ap (lookupOut (a .config)) (c .before .four .ensures))) refl
 
 returns-2 : tie.Need-returns-2
 returns-2 c s =
-    let asked = c .before in
+    let asked = c .before .before in
     let a = asked .before .args in
     let is = ap (λ (b : Bool). a .edited || b) (asked .moved4 .ensures) in
-    step-slept _ _ _ s _ is (c .if1 .left)
+    step-slept _ _ _ s _ _ is _ (c .slept .ensures) (c .before .if1 .left)
 
 pub lookup4-step-spec : {M : Type 1} → statement M
 lookup4-step-spec =
-    tie.close (tie.spec moved4-requires four-requires lookup-requires returns returns-2)
+    tie.close (tie.spec (λ c κs. search needs) (λ c κs. search needs) (λ c κs. search needs) (λ c κs. search needs) returns returns-2)

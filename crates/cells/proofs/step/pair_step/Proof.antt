@@ -1,5 +1,6 @@
--- `cells::step::pair_step` meets its contract: what is asked is what the definition asks, and the work is its callee's.
-use mathlib.Core.Path.{_≡_, ap, _∙_}
+-- `cells::step::pair_step` meets its contract: what is asked is what the definition asks, and the
+-- work is its callee's.
+use mathlib.Core.Path.{_≡_, refl, ap, _∙_}
 use mathlib.Core.Bool.{Bool, _||_}
 use Rattle.cells.specs.Reading.{readFrom}
 use Rattle.cells.specs.Work.{keeping, gateOut, lookupOut, workAs}
@@ -8,15 +9,6 @@ use borrow.Author.Needs.{needs}
 use Rattle.cells.proofs.step.pair_step.Statement.{statement}
 use Rattle.cells.proofs.step.pair_step.Tie as tie
 
-moved2-requires : tie.Need-moved2-requires
-moved2-requires c κs = search needs
-
-two-requires : tie.Need-two-requires
-two-requires c κs = search needs
-
-gate-out-requires : tie.Need-gate-out-requires
-gate-out-requires c κs = search needs
-
 returns : tie.Need-returns
 unfolding workAs
 returns c s =
@@ -24,17 +16,17 @@ returns c s =
     let a = asked .before .args in
     let is = ap (λ (b : Bool). a .edited || b)
     (asked .moved2 .ensures ∙ two-on (readFrom (a .d .now) (a .x)) (readFrom (a .d .now) (a .y))) in
-    step-worked _ _ _ s _ is _ (c .before .before .if1 .taken)
-    (λ out. ap (keeping s) (c .gate-out .ensures ∙ ap (gateOut (a .gate) (a .config)) (c .before .two .ensures)))
+    step-worked _ _ _ s _ _ is _ _ (c .before .before .if1 .taken)
+    (λ out. ap (keeping s) (c .gate-out .ensures ∙ ap (gateOut (a .gate) (a .config)) (c .before .two .ensures))) refl
 
 returns-2 : tie.Need-returns-2
 returns-2 c s =
-    let asked = c .before in
+    let asked = c .before .before in
     let a = asked .before .args in
     let is = ap (λ (b : Bool). a .edited || b)
     (asked .moved2 .ensures ∙ two-on (readFrom (a .d .now) (a .x)) (readFrom (a .d .now) (a .y))) in
-    step-slept _ _ _ s _ is (c .if1 .left)
+    step-slept _ _ _ s _ _ is _ (c .slept .ensures) (c .before .if1 .left)
 
 pub pair-step-spec : {M : Type 1} → statement M
 pair-step-spec =
-    tie.close (tie.spec moved2-requires two-requires gate-out-requires returns returns-2)
+    tie.close (tie.spec (λ c κs. search needs) (λ c κs. search needs) (λ c κs. search needs) (λ c κs. search needs) returns returns-2)

@@ -1,4 +1,5 @@
--- `cells::table::class_of` meets its contract: at each number of the table antt computes the class, and the rest are past it.
+-- `cells::table::class_of` meets its contract: at each number of the table antt computes the class,
+-- and the rest are past it.
 use Prim.Native.Nat.{ℕ}
 use mathlib.Core.Path.{_≡_, sym, ap}
 use Rattle.cells.specs.declared.table.Row.{Row}

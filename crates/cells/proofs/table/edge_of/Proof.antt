@@ -1,5 +1,5 @@
--- `cells::table::edge_of` meets its contract: the code's column is, entry by entry, what document 01's table gives, packed, which antt computes;
--- past it the number has no row.
+-- `cells::table::edge_of` meets its contract: the code's column is, entry by entry, what document
+-- 01's table gives, packed, which antt computes; past it the number has no row.
 use mathlib.Core.Path.{sym, ap, _∙_}
 use native.Mathlib.Omega.{arith}
 use borrow.Author.Needs.{needs}
@@ -13,12 +13,6 @@ use Rattle.cells.proofs.Packed.{column}
 use Rattle.cells.proofs.table.edge_of.Statement.{statement}
 use Rattle.cells.proofs.table.edge_of.Tie as tie
 
-array-read-wide : tie.Need-array-read-wide
-array-read-wide c = search needs
-
-wide-requires : tie.Need-wide-requires
-wide-requires c κs = search needs
-
 returns : tie.Need-returns
 unfolding listed rowOf
 returns c =
@@ -29,4 +23,4 @@ returns-2 : tie.Need-returns-2
 returns-2 c = (sym (ap (λ (r : Row). placeOf (r .edge)) (past-table (c .before .args .kind) (search needs))), omega arith)
 
 pub edge-of-spec : {M : Type 1} → statement M
-edge-of-spec = tie.close (tie.spec array-read-wide wide-requires returns returns-2)
+edge-of-spec = tie.close (tie.spec (λ c. search needs) (λ c κs. search needs) returns returns-2)

@@ -1,5 +1,5 @@
--- `cells::table::largest_of` meets its contract: the code's column is, entry by entry, what document 01's table gives, which antt computes; past it the
--- number has no row.
+-- `cells::table::largest_of` meets its contract: the code's column is, entry by entry, what
+-- document 01's table gives, which antt computes; past it the number has no row.
 use mathlib.Core.Path.{sym, ap}
 use Rattle.words.specs.Listed.{listed}
 use Rattle.words.proofs.Listed.{listed-at}
@@ -10,12 +10,6 @@ use borrow.Author.Needs.{needs}
 use Rattle.cells.proofs.table.largest_of.Statement.{statement}
 use Rattle.cells.proofs.table.largest_of.Tie as tie
 
-mul-result : tie.Need-mul-result
-mul-result c = search needs
-
-array-read-result : tie.Need-array-read-result
-array-read-result c = search needs
-
 returns : tie.Need-returns
 unfolding listed rowOf
 returns c = listed-at (λ k. rowOf k .largest) typeCount (c .before .args .kind) 0 (search needs)
@@ -24,4 +18,4 @@ returns-2 : tie.Need-returns-2
 returns-2 c = sym (ap (λ (r : Row). r .largest) (past-table (c .before .args .kind) (search needs)))
 
 pub largest-of-spec : {M : Type 1} → statement M
-largest-of-spec = tie.close (tie.spec mul-result array-read-result returns returns-2)
+largest-of-spec = tie.close (tie.spec (λ c. search needs) (λ c. search needs) returns returns-2)

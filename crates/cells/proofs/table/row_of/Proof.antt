@@ -1,4 +1,5 @@
--- `cells::table::row_of` meets its contract: each column is its callee's answer, or follows from another column as the laws of the table say.
+-- `cells::table::row_of` meets its contract: each column is its callee's answer, or follows from
+-- another column as the laws of the table say.
 use Prim.Native.Nat.{ℕ}
 use mathlib.Core.Path.{sym, ap, _∙_}
 use lib.Dec.{ltb}
@@ -8,27 +9,6 @@ use Rattle.cells.proofs.Packed.{set-of}
 use borrow.Author.Needs.{needs}
 use Rattle.cells.proofs.table.row_of.Statement.{statement}
 use Rattle.cells.proofs.table.row_of.Tie as tie
-
-class-of-requires : tie.Need-class-of-requires
-class-of-requires c κs = search needs
-
-used-of-requires : tie.Need-used-of-requires
-used-of-requires c κs = search needs
-
-unpacked-requires : tie.Need-unpacked-requires
-unpacked-requires c κs = search needs
-
-edge-of-requires : tie.Need-edge-of-requires
-edge-of-requires c κs = search needs
-
-unpacked-requires-2 : tie.Need-unpacked-requires-2
-unpacked-requires-2 c κs = search needs
-
-largest-of-requires : tie.Need-largest-of-requires
-largest-of-requires c κs = search needs
-
-kept-by-requires : tie.Need-kept-by-requires
-kept-by-requires c κs = search needs
 
 returns : tie.Need-returns
 returns c =
@@ -54,11 +34,11 @@ pub row-of-spec : {M : Type 1} → statement M
 row-of-spec =
     tie.close
     (tie.spec
-    class-of-requires
-    used-of-requires
-    unpacked-requires
-    edge-of-requires
-    unpacked-requires-2
-    largest-of-requires
-    kept-by-requires
+    (λ c κs. search needs)
+    (λ c κs. search needs)
+    (λ c κs. search needs)
+    (λ c κs. search needs)
+    (λ c κs. search needs)
+    (λ c κs. search needs)
+    (λ c κs. search needs)
     returns)

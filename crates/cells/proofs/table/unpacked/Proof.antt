@@ -5,22 +5,10 @@ use borrow.Author.Needs.{needs}
 use Rattle.cells.proofs.table.unpacked.Statement.{statement}
 use Rattle.cells.proofs.table.unpacked.Tie as tie
 
-bit-requires : tie.Need-bit-requires
-bit-requires c κs = search needs
-
-bit-requires-2 : tie.Need-bit-requires-2
-bit-requires-2 c κs = search needs
-
-bit-requires-3 : tie.Need-bit-requires-3
-bit-requires-3 c κs = search needs
-
-bit-requires-4 : tie.Need-bit-requires-4
-bit-requires-4 c κs = search needs
-
 returns : tie.Need-returns
 unfolding slotsOf
 returns c = λ i. slots (c .before .before .before .bit .ensures i) (c .before .before .bit2 .ensures i) (c .before .bit3 .ensures i) (c .bit4 .ensures i)
 
 pub unpacked-spec : {M : Type 1} → statement M
 unpacked-spec =
-    tie.close (tie.spec bit-requires bit-requires-2 bit-requires-3 bit-requires-4 returns)
+    tie.close (tie.spec (λ c κs. search needs) (λ c κs. search needs) (λ c κs. search needs) (λ c κs. search needs) returns)

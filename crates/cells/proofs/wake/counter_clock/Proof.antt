@@ -1,19 +1,11 @@
--- `cells::wake::counter_clock` meets its contract: in each arm the counter is known, and the code tests what the definition says of it.
+-- `cells::wake::counter_clock` meets its contract: in each arm the counter is known, and the code
+-- tests what the definition says of it.
 use borrow.Author.Needs.{needs}
 use Rattle.cells.proofs.wake.counter_clock.Statement.{statement}
 use Rattle.cells.proofs.wake.counter_clock.Tie as tie
 
 enum-told : tie.Need-enum-told
 enum-told c = search needs
-
-enum-told-2 : tie.Need-enum-told-2
-enum-told-2 c = search needs
-
-enum-told-3 : tie.Need-enum-told-3
-enum-told-3 c = search needs
-
-enum-told-4 : tie.Need-enum-told-4
-enum-told-4 c = search needs
 
 returns : tie.Need-returns
 returns c = rw (c .before .before .enum-told .given .1)
@@ -30,4 +22,4 @@ returns-4 c = rw (c .before .enum-told4 .given .1)
 pub counter-clock-spec : {M : Type 1} → statement M
 counter-clock-spec =
     tie.close
-    (tie.spec enum-told enum-told-2 enum-told-3 enum-told-4 returns returns-2 returns-3 returns-4)
+    (tie.spec enum-told (λ c. search needs) (λ c. search needs) (λ c. search needs) returns returns-2 returns-3 returns-4)

@@ -1,4 +1,5 @@
--- `cells::wake::has_edges` meets its contract: the word is, bit by bit, what the table gives, which antt computes; past it the number has no row.
+-- `cells::wake::has_edges` meets its contract: the word is, bit by bit, what the table gives, which
+-- antt computes; past it the number has no row.
 use mathlib.Core.Path.{_≡_, refl, sym, ap, _∙_}
 use Rattle.words.specs.Bits.{bitAt, wordOf}
 use Rattle.words.proofs.Laws.{bit-built}
@@ -14,12 +15,6 @@ edged : 0x7ff302 ≡ wordOf hasEdges typeCount
 unfolding wordOf rowOf
 edged = refl
 
-cast-if1 : tie.Need-cast-if1
-cast-if1 c = search needs
-
-bit-requires : tie.Need-bit-requires
-bit-requires c κs = search needs
-
 returns : tie.Need-returns
 returns c =
     let n = c .before .before .args .kind in
@@ -29,4 +24,4 @@ returns-2 : tie.Need-returns-2
 returns-2 c = sym (ap (λ (r : Row). anySlot (r .edge)) (past-table (c .before .args .kind) (search needs)))
 
 pub has-edges-spec : {M : Type 1} → statement M
-has-edges-spec = tie.close (tie.spec cast-if1 bit-requires returns returns-2)
+has-edges-spec = tie.close (tie.spec (λ c. search needs) (λ c κs. search needs) returns returns-2)

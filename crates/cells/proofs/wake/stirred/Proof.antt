@@ -1,4 +1,5 @@
--- `cells::wake::stirred` meets its contract: the class and the used slots are those of the type's row.
+-- `cells::wake::stirred` meets its contract: the class and the used slots are those of the type's
+-- row.
 use mathlib.Core.Path.{ap, ap₂, _∙_}
 use Rattle.cells.specs.declared.table.Slots.{Slots}
 use Rattle.cells.specs.declared.table.Class.{Class}
@@ -10,21 +11,6 @@ use Rattle.cells.proofs.Packed.{set-of}
 use borrow.Author.Needs.{needs}
 use Rattle.cells.proofs.wake.stirred.Statement.{statement}
 use Rattle.cells.proofs.wake.stirred.Tie as tie
-
-class-of-requires : tie.Need-class-of-requires
-class-of-requires c κs = search needs
-
-used-of-requires : tie.Need-used-of-requires
-used-of-requires c κs = search needs
-
-unpacked-requires : tie.Need-unpacked-requires
-unpacked-requires c κs = search needs
-
-within-requires : tie.Need-within-requires
-within-requires c κs = search needs
-
-stirred-as-requires : tie.Need-stirred-as-requires
-stirred-as-requires c κs = search needs
 
 returns : tie.Need-returns
 unfolding Wake.stirred
@@ -41,9 +27,9 @@ pub stirred-spec : {M : Type 1} → statement M
 stirred-spec =
     tie.close
     (tie.spec
-    class-of-requires
-    used-of-requires
-    unpacked-requires
-    within-requires
-    stirred-as-requires
+    (λ c κs. search needs)
+    (λ c κs. search needs)
+    (λ c κs. search needs)
+    (λ c κs. search needs)
+    (λ c κs. search needs)
     returns)

@@ -1,4 +1,5 @@
--- `cells::wake::stirred_as` meets its contract: in each arm the family is known, and the definition answers by it.
+-- `cells::wake::stirred_as` meets its contract: in each arm the family is known, and the definition
+-- answers by it.
 use Rattle.cells.specs.Wake.{stirredAs}
 use borrow.Author.Needs.{needs}
 use Rattle.cells.proofs.wake.stirred_as.Statement.{statement}
@@ -6,36 +7,6 @@ use Rattle.cells.proofs.wake.stirred_as.Tie as tie
 
 enum-told : tie.Need-enum-told
 enum-told c = search needs
-
-enum-told-2 : tie.Need-enum-told-2
-enum-told-2 c = search needs
-
-enum-told-3 : tie.Need-enum-told-3
-enum-told-3 c = search needs
-
-enum-known-class : tie.Need-enum-known-class
-enum-known-class c = search needs
-
-flop-clock-requires : tie.Need-flop-clock-requires
-flop-clock-requires c κs = search needs
-
-enum-told-4 : tie.Need-enum-told-4
-enum-told-4 c = search needs
-
-timer-stirred-requires : tie.Need-timer-stirred-requires
-timer-stirred-requires c κs = search needs
-
-enum-told-5 : tie.Need-enum-told-5
-enum-told-5 c = search needs
-
-timer-stirred-requires-2 : tie.Need-timer-stirred-requires-2
-timer-stirred-requires-2 c κs = search needs
-
-enum-known-class-2 : tie.Need-enum-known-class-2
-enum-known-class-2 c = search needs
-
-counter-stirred-requires : tie.Need-counter-stirred-requires
-counter-stirred-requires c κs = search needs
 
 returns : tie.Need-returns
 unfolding stirredAs
@@ -70,16 +41,16 @@ stirred-as-spec =
     tie.close
     (tie.spec
     enum-told
-    enum-told-2
-    enum-told-3
-    enum-known-class
-    flop-clock-requires
-    enum-told-4
-    timer-stirred-requires
-    enum-told-5
-    timer-stirred-requires-2
-    enum-known-class-2
-    counter-stirred-requires
+    (λ c. search needs)
+    (λ c. search needs)
+    (λ c. search needs)
+    (λ c κs. search needs)
+    (λ c. search needs)
+    (λ c κs. search needs)
+    (λ c. search needs)
+    (λ c κs. search needs)
+    (λ c. search needs)
+    (λ c κs. search needs)
     returns
     returns-2
     returns-3

@@ -5,13 +5,10 @@ use borrow.Author.Needs.{needs}
 use Rattle.cells.proofs.wake.timer_stirred.Statement.{statement}
 use Rattle.cells.proofs.wake.timer_stirred.Tie as tie
 
-timer-clock-requires : tie.Need-timer-clock-requires
-timer-clock-requires c κs = search needs
-
 returns : tie.Need-returns
 returns c =
     let r = c .before .before .args .r in
     ap (λ (k : Bool). (r .x || r .f) || k) (c .timer-clock .ensures)
 
 pub timer-stirred-spec : {M : Type 1} → statement M
-timer-stirred-spec = tie.close (tie.spec timer-clock-requires returns)
+timer-stirred-spec = tie.close (tie.spec (λ c κs. search needs) returns)

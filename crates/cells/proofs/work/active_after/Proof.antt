@@ -1,25 +1,11 @@
--- `cells::work::active_after` meets its contract: in each arm the counter is known, and the code computes what the definition says of it.
+-- `cells::work::active_after` meets its contract: in each arm the counter is known, and the code
+-- computes what the definition says of it.
 use borrow.Author.Needs.{needs}
 use Rattle.cells.proofs.work.active_after.Statement.{statement}
 use Rattle.cells.proofs.work.active_after.Tie as tie
 
 enum-told : tie.Need-enum-told
 enum-told c = search needs
-
-enum-told-2 : tie.Need-enum-told-2
-enum-told-2 c = search needs
-
-enum-told-3 : tie.Need-enum-told-3
-enum-told-3 c = search needs
-
-started-by-requires : tie.Need-started-by-requires
-started-by-requires c κs = search needs
-
-enum-told-4 : tie.Need-enum-told-4
-enum-told-4 c = search needs
-
-started-by-requires-2 : tie.Need-started-by-requires-2
-started-by-requires-2 c κs = search needs
 
 returns : tie.Need-returns
 returns c = rw (c .before .enum-told .given .1)
@@ -38,11 +24,11 @@ active-after-spec =
     tie.close
     (tie.spec
     enum-told
-    enum-told-2
-    enum-told-3
-    started-by-requires
-    enum-told-4
-    started-by-requires-2
+    (λ c. search needs)
+    (λ c. search needs)
+    (λ c κs. search needs)
+    (λ c. search needs)
+    (λ c κs. search needs)
     returns
     returns-2
     returns-3

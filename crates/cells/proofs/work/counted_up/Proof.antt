@@ -3,9 +3,6 @@ use borrow.Author.Needs.{needs}
 use Rattle.cells.proofs.work.counted_up.Statement.{statement}
 use Rattle.cells.proofs.work.counted_up.Tie as tie
 
-raised-requires : tie.Need-raised-requires
-raised-requires c κs = search needs
-
 returns : tie.Need-returns
 returns c = rw (c .if1 .taken)
 
@@ -16,4 +13,4 @@ returns-3 : tie.Need-returns-3
 returns-3 c = rw (c .before .if1 .left, c .if2 .left)
 
 pub counted-up-spec : {M : Type 1} → statement M
-counted-up-spec = tie.close (tie.spec raised-requires returns returns-2 returns-3)
+counted-up-spec = tie.close (tie.spec (λ c κs. search needs) returns returns-2 returns-3)

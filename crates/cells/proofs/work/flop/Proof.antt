@@ -1,17 +1,9 @@
--- `cells::work::flop` meets its contract: in each arm the type is known, and the others are neither 1 nor 12.
+-- `cells::work::flop` meets its contract: in each arm the type is known, and the others are neither
+-- 1 nor 12.
 use borrow.Author.Needs.{needs}
 use borrow.Author.Tests.{ne-eqb}
 use Rattle.cells.proofs.work.flop.Statement.{statement}
 use Rattle.cells.proofs.work.flop.Tie as tie
-
-d-flop-requires : tie.Need-d-flop-requires
-d-flop-requires c κs = search needs
-
-sync-d-flop-requires : tie.Need-sync-d-flop-requires
-sync-d-flop-requires c κs = search needs
-
-clear-d-flop-requires : tie.Need-clear-d-flop-requires
-clear-d-flop-requires c κs = search needs
 
 returns : tie.Need-returns
 returns c = rw (c .before .match .keys1) (c .d-flop .ensures)
@@ -25,4 +17,4 @@ returns-3 c =
     rw (ne-eqb kind 1 (c .before .match .rest .0 .1), ne-eqb kind 12 (c .before .match .rest .1)) (c .clear-d-flop .ensures)
 
 pub flop-spec : {M : Type 1} → statement M
-flop-spec = tie.close (tie.spec d-flop-requires sync-d-flop-requires clear-d-flop-requires returns returns-2 returns-3)
+flop-spec = tie.close (tie.spec (λ c κs. search needs) (λ c κs. search needs) (λ c κs. search needs) returns returns-2 returns-3)

@@ -1,28 +1,11 @@
--- `cells::work::gate_out` meets its contract: in each arm the gate is known, and the code answers what the definition says of it.
+-- `cells::work::gate_out` meets its contract: in each arm the gate is known, and the code answers
+-- what the definition says of it.
 use borrow.Author.Needs.{needs}
 use Rattle.cells.proofs.work.gate_out.Statement.{statement}
 use Rattle.cells.proofs.work.gate_out.Tie as tie
 
 enum-told : tie.Need-enum-told
 enum-told c = search needs
-
-lookup-requires : tie.Need-lookup-requires
-lookup-requires c κs = search needs
-
-enum-told-2 : tie.Need-enum-told-2
-enum-told-2 c = search needs
-
-enum-told-3 : tie.Need-enum-told-3
-enum-told-3 c = search needs
-
-enum-told-4 : tie.Need-enum-told-4
-enum-told-4 c = search needs
-
-enum-told-5 : tie.Need-enum-told-5
-enum-told-5 c = search needs
-
-enum-told-6 : tie.Need-enum-told-6
-enum-told-6 c = search needs
 
 returns : tie.Need-returns
 returns c = rw (c .before .enum-told .given .1, c .lookup .ensures)
@@ -47,12 +30,12 @@ gate-out-spec =
     tie.close
     (tie.spec
     enum-told
-    lookup-requires
-    enum-told-2
-    enum-told-3
-    enum-told-4
-    enum-told-5
-    enum-told-6
+    (λ c κs. search needs)
+    (λ c. search needs)
+    (λ c. search needs)
+    (λ c. search needs)
+    (λ c. search needs)
+    (λ c. search needs)
     returns
     returns-2
     returns-3

@@ -11,16 +11,10 @@ use Rattle.cells.proofs.work.look.Tie as tie
 tested : (v read slot t : Bool) → read ≡ slot → Bool·beq read v ≡ t → Bool·beq slot v ≡ t
 tested v read slot t e h = ap (λ (b : Bool). Bool·beq b v) (sym e) ∙ h
 
-read-requires : tie.Need-read-requires
-read-requires c κs = search needs
-
 returns : tie.Need-returns
 returns c =
     let a = c .before .before .args in
     stops-at-f (a .deciding) (slotsFrom (a .q .now) (a .x) (a .y) (a .z) (a .f)) (tested _ _ _ _ (c .before .read .ensures) (c .if1 .taken))
-
-read-requires-2 : tie.Need-read-requires-2
-read-requires-2 c κs = search needs
 
 returns-2 : tie.Need-returns-2
 returns-2 c =
@@ -28,9 +22,6 @@ returns-2 c =
     let a = p .before .before .args in
     stops-at-z (a .deciding) (slotsFrom (a .q .now) (a .x) (a .y) (a .z) (a .f))
     (tested _ _ _ _ (p .before .read .ensures) (p .if1 .left)) (tested _ _ _ _ (c .before .read2 .ensures) (c .if2 .taken))
-
-read-requires-3 : tie.Need-read-requires-3
-read-requires-3 c κs = search needs
 
 returns-3 : tie.Need-returns-3
 returns-3 c =
@@ -40,9 +31,6 @@ returns-3 c =
     stops-at-y (a .deciding) (slotsFrom (a .q .now) (a .x) (a .y) (a .z) (a .f))
     (tested _ _ _ _ (p .before .read .ensures) (p .if1 .left)) (tested _ _ _ _ (o .before .read2 .ensures) (o .if2 .left))
     (tested _ _ _ _ (c .before .read3 .ensures) (c .if3 .taken))
-
-read-requires-4 : tie.Need-read-requires-4
-read-requires-4 c κs = search needs
 
 returns-4 : tie.Need-returns-4
 returns-4 c =
@@ -59,11 +47,11 @@ pub look-spec : {M : Type 1} → statement M
 look-spec =
     tie.close
     (tie.spec
-    read-requires
+    (λ c κs. search needs)
     returns
-    read-requires-2
+    (λ c κs. search needs)
     returns-2
-    read-requires-3
+    (λ c κs. search needs)
     returns-3
-    read-requires-4
+    (λ c κs. search needs)
     returns-4)

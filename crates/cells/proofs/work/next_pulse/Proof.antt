@@ -4,9 +4,6 @@ use borrow.Author.Needs.{needs}
 use Rattle.cells.proofs.work.next_pulse.Statement.{statement}
 use Rattle.cells.proofs.work.next_pulse.Tie as tie
 
-returns : tie.Need-returns
-returns c = search needs
-
 returns-2 : tie.Need-returns-2
 returns-2 c = rw (c .before .before .if1 .left, c .before .if2 .taken)
 
@@ -24,4 +21,4 @@ returns-5 : tie.Need-returns-5
 returns-5 c = rw (c .before .before .if1 .left, c .before .if2 .left, c .if3 .left)
 
 pub next-pulse-spec : {M : Type 1} → statement M
-next-pulse-spec = tie.close (tie.spec returns returns-2 returns-3 returns-4 returns-5)
+next-pulse-spec = tie.close (tie.spec (λ c. search needs) returns-2 returns-3 returns-4 returns-5)

@@ -4,15 +4,6 @@ use borrow.Author.Needs.{needs}
 use Rattle.cells.proofs.work.one_shot.Statement.{statement}
 use Rattle.cells.proofs.work.one_shot.Tie as tie
 
-shot-busy-requires : tie.Need-shot-busy-requires
-shot-busy-requires c κs = search needs
-
-taken-requires : tie.Need-taken-requires
-taken-requires c κs = search needs
-
-count-after-requires : tie.Need-count-after-requires
-count-after-requires c κs = search needs
-
 returns : tie.Need-returns
 unfolding workAs
 returns c bit pulse out =
@@ -20,4 +11,4 @@ returns c bit pulse out =
     rw (c .count-after .ensures, took .taken .ensures, took .before .shot-busy .ensures)
 
 pub one-shot-spec : {M : Type 1} → statement M
-one-shot-spec = tie.close (tie.spec shot-busy-requires taken-requires count-after-requires returns)
+one-shot-spec = tie.close (tie.spec (λ c κs. search needs) (λ c κs. search needs) (λ c κs. search needs) returns)

@@ -5,9 +5,6 @@ use borrow.Author.Needs.{needs}
 use Rattle.cells.proofs.work.raised.Statement.{statement}
 use Rattle.cells.proofs.work.raised.Tie as tie
 
-add-t4 : tie.Need-add-t4
-add-t4 c = search needs
-
 returns : tie.Need-returns
 unfolding Work.raised
 returns c = rw (lt-ltb _ _ (c .before .if1 .taken))
@@ -17,4 +14,4 @@ unfolding Work.raised
 returns-2 c = rw (le-ltb _ _ (c .if1 .left))
 
 pub raised-spec : {M : Type 1} → statement M
-raised-spec = tie.close (tie.spec add-t4 returns returns-2)
+raised-spec = tie.close (tie.spec (λ c. search needs) returns returns-2)

@@ -1,4 +1,5 @@
--- `ticks::brief::in_brief` meets its contract: the lines are the card's own, and where the tests of the fast path hold its law says what the tick comes to.
+-- `ticks::brief::in_brief` meets its contract: the lines are the card's own, and where the tests of
+-- the fast path hold its law says what the tick comes to.
 use Prim.Native.Nat.{ℕ, _^_, _≤_, _<_}
 use mathlib.Core.Path.{_≡_, sym, ap, subst, _∙_}
 use mathlib.Core.Bool.{Bool, false, true, false≢true}
@@ -43,24 +44,6 @@ own-lines l =
 tallies-long : (c : tie.Start) → length (c .args .card .tallies .cells) ≡ cellRoom
 tallies-long c = search (as-long, c .good .0 .0 .1 .1 .1)
 
-cells-for-requires : tie.Need-cells-for-requires
-cells-for-requires c κs = search needs
-
-seen-memory-requires : tie.Need-seen-memory-requires
-seen-memory-requires c κs = search needs
-
-lines-in-requires : tie.Need-lines-in-requires
-lines-in-requires c κs = search needs
-
-wires-of-requires : tie.Need-wires-of-requires
-wires-of-requires c κs = search needs
-
-unchanged-requires : tie.Need-unchanged-requires
-unchanged-requires c κs = search needs
-
-slept-requires : tie.Need-slept-requires
-slept-requires c κs = search needs
-
 returns : tie.Need-returns
 returns c =
     let l = c .before .before .before .before .before .before in
@@ -77,9 +60,6 @@ is-quiet-requires c κs =
     let n = s .before .cells-for .result in
     (s .before .cells-for .ensures .1, subst (λ (v : Wires). v .outputs < 2 ^ n) (sym (w .wires-of .ensures)) (fits s .0))
 
-slept-requires-2 : tie.Need-slept-requires-2
-slept-requires-2 c κs = search needs
-
 returns-2 : tie.Need-returns-2
 returns-2 c =
     let q = c .before in
@@ -94,7 +74,7 @@ returns-2 c =
     let room : n ≤ length (a .card .tallies .cells) = omega (arith, z .cells-for .ensures .1, tallies-long (z .before)) in
     let slept : q .is-quiet .result ≡ true → _ = λ h.
     sym (ap (λ (v : Wires). turned n false (a .card .cells) (a .card .edited) v) (w .wires-of .ensures))
-    ∙ q .is-quiet .ensures h
+    ∙ q .is-quiet .ensures .1 h
     ∙ ap (λ (v : Wires). sleptAll (a .card .cells) (v .outputs)) (w .wires-of .ensures) in
     subst (λ (k : ℕ). BriefOf k (a .card) (a .input) (c .slept2 .result)) (z .cells-for .ensures .0)
     (subst (λ (b : Brief). BriefOf n (a .card) (a .input) b) (sym (c .slept2 .ensures))
@@ -107,13 +87,13 @@ pub in-brief-spec : {M : Type 1} → statement M
 in-brief-spec =
     tie.close
     (tie.spec
-    cells-for-requires
-    seen-memory-requires
-    lines-in-requires
-    wires-of-requires
-    unchanged-requires
-    slept-requires
+    (λ c κs. search needs)
+    (λ c κs. search needs)
+    (λ c κs. search needs)
+    (λ c κs. search needs)
+    (λ c κs. search needs)
+    (λ c κs. search needs)
     returns
     is-quiet-requires
-    slept-requires-2
+    (λ c κs. search needs)
     returns-2)

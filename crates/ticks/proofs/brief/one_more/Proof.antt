@@ -6,9 +6,6 @@ use Rattle.card.specs.Tally.{standstill}
 use Rattle.ticks.proofs.brief.one_more.Statement.{statement}
 use Rattle.ticks.proofs.brief.one_more.Tie as tie
 
-add-t4 : tie.Need-add-t4
-add-t4 c = search needs
-
 returns : tie.Need-returns
 returns c = rw (lt-ltb _ standstill (c .before .if1 .taken))
 
@@ -16,4 +13,4 @@ returns-2 : tie.Need-returns-2
 returns-2 c = rw (le-ltb (c .before .before .args .total .0) standstill (omega (arith, c .if1 .left)))
 
 pub one-more-spec : {M : Type 1} → statement M
-one-more-spec = tie.close (tie.spec add-t4 returns returns-2)
+one-more-spec = tie.close (tie.spec (λ c. search needs) returns returns-2)

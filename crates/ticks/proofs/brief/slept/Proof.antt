@@ -1,13 +1,11 @@
--- `ticks::brief::slept` meets its contract: the total is the definition's, and the rest is written out.
+-- `ticks::brief::slept` meets its contract: the total is the definition's, and the rest is written
+-- out.
 use borrow.Author.Needs.{needs}
 use Rattle.ticks.proofs.brief.slept.Statement.{statement}
 use Rattle.ticks.proofs.brief.slept.Tie as tie
-
-one-more-requires : tie.Need-one-more-requires
-one-more-requires c κs = search needs
 
 returns : tie.Need-returns
 returns c = rw (c .one-more .ensures)
 
 pub slept-spec : {M : Type 1} → statement M
-slept-spec = tie.close (tie.spec one-more-requires returns)
+slept-spec = tie.close (tie.spec (λ c κs. search needs) returns)

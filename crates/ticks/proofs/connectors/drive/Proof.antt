@@ -4,18 +4,9 @@ use Rattle.ticks.specs.Levels.{linesOf}
 use Rattle.ticks.proofs.connectors.drive.Statement.{statement}
 use Rattle.ticks.proofs.connectors.drive.Tie as tie
 
-driven-by-requires : tie.Need-driven-by-requires
-driven-by-requires c κs = search needs
-
-pulled-by-requires : tie.Need-pulled-by-requires
-pulled-by-requires c κs = search needs
-
-levels-from-requires : tie.Need-levels-from-requires
-levels-from-requires c κs = search needs
-
 returns : tie.Need-returns
 unfolding linesOf
 returns c = rw (c .levels-from .ensures, c .before .pulled-by .ensures, c .before .before .driven-by .ensures)
 
 pub drive-spec : {M : Type 1} → statement M
-drive-spec = tie.close (tie.spec driven-by-requires pulled-by-requires levels-from-requires returns)
+drive-spec = tie.close (tie.spec (λ c κs. search needs) (λ c κs. search needs) (λ c κs. search needs) returns)

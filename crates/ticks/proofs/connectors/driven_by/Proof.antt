@@ -1,4 +1,5 @@
--- `ticks::connectors::driven_by` meets its contract: of the outputs that are not left the driven word has the bits, and each turn takes the lowest.
+-- `ticks::connectors::driven_by` meets its contract: of the outputs that are not left the driven
+-- word has the bits, and each turn takes the lowest.
 use Prim.Native.Nat.{ℕ, _-_, _^_, _<_}
 use mathlib.Core.Path.{_≡_, refl, sym, ap, ap₂, _∙_}
 use mathlib.Core.Bool.{Bool, true, false, _&&_, _||_, cond}
@@ -37,9 +38,6 @@ Inv-loop now before q sources driven₀ left₀ driven left =
 abbrev μ-loop : tie.MeasureT-loop
 μ-loop now before q sources driven₀ left₀ driven left = left
 
-quarters-requires : tie.Need-quarters-requires Inv-loop μ-loop
-quarters-requires c κs = search needs
-
 -- what is no output drives nothing
 idle : (now before : ℕ) (sources : List ℕ) (outputs k : ℕ) → bitAt outputs k ≡ false → driving now before sources outputs k ≡ false
 idle now before sources outputs k e = ap (λ (b : Bool). b && reads (bitAt now) (bitAt before) (getD sources k 0)) e
@@ -55,9 +53,6 @@ loop-holds c =
       or-lt connectorCount (a .connectors .«push_pull») (a .connectors .«open_drain») (search needs) (search needs),
     )
 
-sub-left : tie.Need-sub-left Inv-loop μ-loop
-sub-left c = search needs
-
 -- the lowest of those that are left
 lowest-left : (c : tie.In-loop Inv-loop μ-loop) → let w = c .before .loop .left in Lowest connectorCount w (trailingZeros connectorCount w)
 lowest-left c = lowest connectorCount (c .before .loop .left) (omega (arith, c .loop-test .taken)) (c .before .loop .inv .3)
@@ -67,9 +62,6 @@ cast-is-high c = record { fits = omega (arith, lowest-left (c .before) .within) 
 
 array-read-is-high : tie.Need-array-read-is-high Inv-loop μ-loop
 array-read-is-high c = lowest-left (c .before) .within
-
-is-high-requires : tie.Need-is-high-requires Inv-loop μ-loop
-is-high-requires c κs = search needs
 
 with-set-requires : tie.Need-with-set-requires Inv-loop μ-loop
 with-set-requires c κs = omega (arith, lowest-left (c .before .before .before) .within)
@@ -160,12 +152,12 @@ driven-by-spec =
     (tie.spec
     Inv-loop
     μ-loop
-    quarters-requires
+    (λ c κs. search needs)
     loop-holds
-    sub-left
+    (λ c. search needs)
     cast-is-high
     array-read-is-high
-    is-high-requires
+    (λ c κs. search needs)
     with-set-requires
     loop-less
     loop-again

@@ -6,9 +6,6 @@ use borrow.Author.Needs.{needs}
 use Rattle.ticks.proofs.connectors.is_high.Statement.{statement}
 use Rattle.ticks.proofs.connectors.is_high.Tie as tie
 
-read-requires : tie.Need-read-requires
-read-requires c κs = search needs
-
 returns : tie.Need-returns
 unfolding reads readsLevels
 returns c f g r low = rw (c .if1 .taken) (sym low)
@@ -18,4 +15,4 @@ unfolding ReadsAs
 returns-2 c f g r low = c .read .ensures ∙ r _ (search needs)
 
 pub is-high-spec : {M : Type 1} → statement M
-is-high-spec = tie.close (tie.spec returns read-requires returns-2)
+is-high-spec = tie.close (tie.spec returns (λ c κs. search needs) returns-2)

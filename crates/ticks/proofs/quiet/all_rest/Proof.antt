@@ -21,15 +21,6 @@ loop-holds : tie.Need-loop-holds Inv-loop μ-loop
 unfolding allRest
 loop-holds c = (zero-le, refl)
 
-mul-rests : tie.Need-mul-rests Inv-loop μ-loop
-mul-rests c = search needs
-
-array-copy-out-rests : tie.Need-array-copy-out-rests Inv-loop μ-loop
-array-copy-out-rests c = search needs
-
-rests-requires : tie.Need-rests-requires Inv-loop μ-loop
-rests-requires c κs = search needs
-
 returns : tie.Need-returns Inv-loop μ-loop
 returns c =
     let r = c .before in
@@ -37,12 +28,6 @@ returns c =
     let a = r .before .before .before .before .args in
     let stirs = sym (r .rests .ensures) ∙ not-true _ (c .if1 .taken) in
     (sym (rest-fails (a .n) (bitAt (a .view)) (a .t1) (l .i) (omega arith) stirs), search needs)
-
-add-i : tie.Need-add-i Inv-loop μ-loop
-add-i c = search needs
-
-loop-less : tie.Need-loop-less Inv-loop μ-loop
-loop-less c = search needs
 
 loop-again : tie.Need-loop-again Inv-loop μ-loop
 loop-again c =
@@ -64,11 +49,11 @@ all-rest-spec =
     Inv-loop
     μ-loop
     loop-holds
-    mul-rests
-    array-copy-out-rests
-    rests-requires
+    (λ c. search needs)
+    (λ c. search needs)
+    (λ c κs. search needs)
     returns
-    add-i
-    loop-less
+    (λ c. search needs)
+    (λ c. search needs)
     loop-again
     returns-2)

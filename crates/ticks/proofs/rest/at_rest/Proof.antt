@@ -23,12 +23,6 @@ returns c =
     let a = c .before .before .before .args in
     (λ _. idle-rests (cellsFor (a .card .size)) (a .card) (a .input) (c .if1 .taken), λ _. refl)
 
-cells-for-requires : tie.Need-cells-for-requires
-cells-for-requires c κs = search needs
-
-holds-still-requires : tie.Need-holds-still-requires
-holds-still-requires c κs = search needs
-
 -- the test of the words, of a memory whose words are those of n cells
 whole : (n o : ℕ) → eqb o (o % 2 ^ n) ≡ true → o < 2 ^ n
 whole n o e = subst (λ (x : ℕ). x < 2 ^ n) (sym (eqb-true o (o % 2 ^ n) e)) (mod-lt o (pow-pos n))
@@ -75,4 +69,4 @@ returns-3 c =
     subst (λ (k : ℕ). Decides (c .rests-on .result) (AtRest k (a .card) (a .input))) (z .cells-for .ensures .0) (c .rests-on .ensures)
 
 pub at-rest-spec : {M : Type 1} → statement M
-at-rest-spec = tie.close (tie.spec returns cells-for-requires holds-still-requires returns-2 rests-on-requires returns-3)
+at-rest-spec = tie.close (tie.spec returns (λ c κs. search needs) (λ c κs. search needs) returns-2 rests-on-requires returns-3)

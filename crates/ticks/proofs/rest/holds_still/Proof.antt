@@ -9,18 +9,6 @@ use Rattle.ticks.specs.Rest.{steady}
 use Rattle.ticks.proofs.rest.holds_still.Statement.{statement}
 use Rattle.ticks.proofs.rest.holds_still.Tie as tie
 
-cast-low : tie.Need-cast-low
-cast-low c = search needs
-
-low-requires : tie.Need-low-requires
-low-requires c κs = search needs
-
-wires-of-requires : tie.Need-wires-of-requires
-wires-of-requires c κs = search needs
-
-unchanged-requires : tie.Need-unchanged-requires
-unchanged-requires c κs = search needs
-
 returns : tie.Need-returns
 returns c =
     let w = c .before in
@@ -30,4 +18,4 @@ returns c =
     (c .unchanged .ensures ∙ ap (λ (v : Wires). steady v) (w .wires-of .ensures))
 
 pub holds-still-spec : {M : Type 1} → statement M
-holds-still-spec = tie.close (tie.spec cast-low low-requires wires-of-requires unchanged-requires returns)
+holds-still-spec = tie.close (tie.spec (λ c. search needs) (λ c κs. search needs) (λ c κs. search needs) (λ c κs. search needs) returns)

@@ -1,4 +1,5 @@
--- `ticks::rest::rests_on` meets its contract: what it tests is what the laws of rest ask of connectors and cells, both ways.
+-- `ticks::rest::rests_on` meets its contract: what it tests is what the laws of rest ask of
+-- connectors and cells, both ways.
 use mathlib.Core.Path.{_≡_, refl, sym, ap, ap₂, _∙_}
 use mathlib.Core.Bool.{Bool, false≢true, not, _||_}
 use lib.Dec.{eqb}
@@ -15,9 +16,6 @@ use Rattle.ticks.proofs.Turns.{as-long}
 use Rattle.ticks.proofs.AtRest.{StillMemory, viewLast, steady-memory, still-fits, still-rests, rests-still}
 use Rattle.ticks.proofs.rest.rests_on.Statement.{statement}
 use Rattle.ticks.proofs.rest.rests_on.Tie as tie
-
-lines-in-requires : tie.Need-lines-in-requires
-lines-in-requires c κs = search needs
 
 -- there are as many tallies as there is room for cells
 tallies-long : (c : tie.Start) → length (c .args .card .tallies .cells) ≡ cellRoom
@@ -43,12 +41,6 @@ returns c =
           || not (eq-eqb _ _ (ap (λ (l : Lines). l .levels) lines ∙ s .levels) k))
           ∙ c .if1 .taken,
     )
-
-sees-requires : tie.Need-sees-requires
-sees-requires c κs = search needs
-
-all-rest-requires : tie.Need-all-rest-requires
-all-rest-requires c κs = search needs
 
 returns-2 : tie.Need-returns-2
 returns-2 c =
@@ -81,4 +73,4 @@ returns-2 c =
     )
 
 pub rests-on-spec : {M : Type 1} → statement M
-rests-on-spec = tie.close (tie.spec lines-in-requires returns sees-requires all-rest-requires returns-2)
+rests-on-spec = tie.close (tie.spec (λ c κs. search needs) returns (λ c κs. search needs) (λ c κs. search needs) returns-2)

@@ -8,13 +8,10 @@ use Rattle.ticks.proofs.Turns.{flip-bit}
 use Rattle.ticks.proofs.tick.flipped.Statement.{statement}
 use Rattle.ticks.proofs.tick.flipped.Tie as tie
 
-shl-result : tie.Need-shl-result
-shl-result c = search needs
-
 returns : tie.Need-returns
 returns c =
     ap (bitXor (c .args .w)) (shifted 32 (c .args .i) true (search needs))
     ∙ flip-bit (c .args .w) 32 (c .args .i) (search needs) (search needs)
 
 pub flipped-spec : {M : Type 1} → statement M
-flipped-spec = tie.close (tie.spec shl-result returns)
+flipped-spec = tie.close (tie.spec (λ c. search needs) returns)

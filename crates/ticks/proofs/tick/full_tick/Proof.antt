@@ -1,5 +1,5 @@
--- `ticks::tick::full_tick` meets its contract: idle where the clock is not the chosen trigger source; else the connectors and then the cells are those of
--- the definition.
+-- `ticks::tick::full_tick` meets its contract: idle where the clock is not the chosen trigger
+-- source; else the connectors and then the cells are those of the definition.
 use Prim.Native.Nat.{ℕ}
 use mathlib.Core.Path.{sym, ap, subst, _∙_}
 use mathlib.Core.Bool.{true}
@@ -13,26 +13,11 @@ use borrow.Author.Needs.{needs}
 use Rattle.ticks.proofs.tick.full_tick.Statement.{statement}
 use Rattle.ticks.proofs.tick.full_tick.Tie as tie
 
-is-own-requires : tie.Need-is-own-requires
-is-own-requires c κs = search needs
-
-idle-requires : tie.Need-idle-requires
-idle-requires c κs = search needs
-
 returns : tie.Need-returns
 unfolding tick
 returns c =
     let p = c .before in
     rw (sym (p .before .is-own .ensures) ∙ not-true _ (p .if1 .taken)) (c .idle .ensures)
-
-cells-for-requires : tie.Need-cells-for-requires
-cells-for-requires c κs = search needs
-
-seen-memory-requires : tie.Need-seen-memory-requires
-seen-memory-requires c κs = search needs
-
-lines-in-requires : tie.Need-lines-in-requires
-lines-in-requires c κs = search needs
 
 turn-each-requires : tie.Need-turn-each-requires
 turn-each-requires c κs =
@@ -62,4 +47,4 @@ returns-2 c =
 pub full-tick-spec : {M : Type 1} → statement M
 full-tick-spec =
     tie.close
-    (tie.spec is-own-requires idle-requires returns cells-for-requires seen-memory-requires lines-in-requires turn-each-requires returns-2)
+    (tie.spec (λ c κs. search needs) (λ c κs. search needs) returns (λ c κs. search needs) (λ c κs. search needs) (λ c κs. search needs) turn-each-requires returns-2)

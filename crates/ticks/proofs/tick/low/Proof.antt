@@ -15,9 +15,6 @@ masked w n m e = ap (bitAnd w) e ∙ and-mask w n
 cut-fits : (w n : ℕ) → n ≤ cellRoom → w % 2 ^ n < 2 ^ 32
 cut-fits w n h = lt-of-lt-of-le (mod-lt w (pow-pos n)) (pow-mono h)
 
-all-edited-requires : tie.Need-all-edited-requires
-all-edited-requires c κs = search needs
-
 cast-result : tie.Need-cast-result
 cast-result c =
     let a = c .before .args in
@@ -27,4 +24,4 @@ returns : tie.Need-returns
 returns c = masked (c .before .args .w) (c .before .args .n) _ (c .all-edited .ensures)
 
 pub low-spec : {M : Type 1} → statement M
-low-spec = tie.close (tie.spec all-edited-requires cast-result returns)
+low-spec = tie.close (tie.spec (λ c κs. search needs) cast-result returns)

@@ -1,5 +1,6 @@
--- `ticks::tick::quick_tick` meets its contract: idle where the clock is not the chosen trigger source; else the connectors are those of the definition,
--- and then the cells, by the law of the fast path where the tick is quiet.
+-- `ticks::tick::quick_tick` meets its contract: idle where the clock is not the chosen trigger
+-- source; else the connectors are those of the definition, and then the cells, by the law of the
+-- fast path where the tick is quiet.
 use Prim.Native.Nat.{ℕ, _^_, _<_}
 use mathlib.Core.Path.{sym, ap, subst, _∙_}
 use mathlib.Core.Bool.{false}
@@ -16,29 +17,11 @@ use borrow.Author.Needs.{needs}
 use Rattle.ticks.proofs.tick.quick_tick.Statement.{statement}
 use Rattle.ticks.proofs.tick.quick_tick.Tie as tie
 
-is-own-requires : tie.Need-is-own-requires
-is-own-requires c κs = search needs
-
-idle-requires : tie.Need-idle-requires
-idle-requires c κs = search needs
-
 returns : tie.Need-returns
 unfolding tick
 returns c =
     let p = c .before in
     rw (sym (p .before .is-own .ensures) ∙ not-true _ (p .if1 .taken)) (c .idle .ensures)
-
-cells-for-requires : tie.Need-cells-for-requires
-cells-for-requires c κs = search needs
-
-seen-memory-requires : tie.Need-seen-memory-requires
-seen-memory-requires c κs = search needs
-
-lines-in-requires : tie.Need-lines-in-requires
-lines-in-requires c κs = search needs
-
-wires-of-requires : tie.Need-wires-of-requires
-wires-of-requires c κs = search needs
 
 is-quiet-requires : tie.Need-is-quiet-requires
 is-quiet-requires c κs =
@@ -47,9 +30,6 @@ is-quiet-requires c κs =
     let a = s .before .before .before .before .args in
     let fits = subst (λ (v : Memory). FitsMemory n v) (sym (s .seen-memory .ensures)) (trim-fits n (a .card .memory)) in
     (s .before .cells-for .ensures .1, subst (λ (v : Wires). v .outputs < 2 ^ n) (sym (c .wires-of .ensures)) (fits .0))
-
-ran-with-requires : tie.Need-ran-with-requires
-ran-with-requires c κs = search needs
 
 returns-2 : tie.Need-returns-2
 unfolding tick
@@ -64,7 +44,7 @@ returns-2 c =
     let n = z .cells-for .result in
     let fits = subst (λ (v : Memory). FitsMemory n v) (sym (s .seen-memory .ensures)) (trim-fits n (a .card .memory)) in
     let slept = sym (ap (λ (v : Wires). turned n false (a .card .cells) (a .card .edited) v) (w .wires-of .ensures))
-    ∙ quiet .is-quiet .ensures (c .before .if2 .taken)
+    ∙ quiet .is-quiet .ensures .1 (c .before .if2 .taken)
     ∙ ap (λ (v : Wires). sleptAll (a .card .cells) (v .outputs)) (w .wires-of .ensures) in
     rw (sym (p .before .is-own .ensures) ∙ not-false _ (p .if1 .left))
     (c .ran-with .ensures n (z .cells-for .ensures .1) (pow-pos n) ∙ ap (ranWith n (s .seen-memory .result) (a .card) (l .lines-in .result)) (sym slept)
@@ -99,15 +79,15 @@ pub quick-tick-spec : {M : Type 1} → statement M
 quick-tick-spec =
     tie.close
     (tie.spec
-    is-own-requires
-    idle-requires
+    (λ c κs. search needs)
+    (λ c κs. search needs)
     returns
-    cells-for-requires
-    seen-memory-requires
-    lines-in-requires
-    wires-of-requires
+    (λ c κs. search needs)
+    (λ c κs. search needs)
+    (λ c κs. search needs)
+    (λ c κs. search needs)
     is-quiet-requires
-    ran-with-requires
+    (λ c κs. search needs)
     returns-2
     turn-each-requires
     returns-3)

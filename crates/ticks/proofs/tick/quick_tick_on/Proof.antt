@@ -1,4 +1,5 @@
--- `ticks::tick::quick_tick_on` meets its contract: the cells are turned under the lines, by the law of the fast path where the tick is quiet.
+-- `ticks::tick::quick_tick_on` meets its contract: the cells are turned under the lines, by the law
+-- of the fast path where the tick is quiet.
 use Prim.Native.Nat.{ℕ, _^_, _<_}
 use mathlib.Core.Path.{sym, ap, subst, _∙_}
 use mathlib.Core.Bool.{false}
@@ -13,15 +14,6 @@ use borrow.Author.Needs.{needs}
 use Rattle.ticks.proofs.tick.quick_tick_on.Statement.{statement}
 use Rattle.ticks.proofs.tick.quick_tick_on.Tie as tie
 
-cells-for-requires : tie.Need-cells-for-requires
-cells-for-requires c κs = search needs
-
-seen-memory-requires : tie.Need-seen-memory-requires
-seen-memory-requires c κs = search needs
-
-wires-of-requires : tie.Need-wires-of-requires
-wires-of-requires c κs = search needs
-
 is-quiet-requires : tie.Need-is-quiet-requires
 is-quiet-requires c κs =
     let s = c .before .before in
@@ -29,9 +21,6 @@ is-quiet-requires c κs =
     let n = z .cells-for .result in
     let fits = subst (λ (v : Memory). FitsMemory n v) (sym (s .seen-memory .ensures)) (trim-fits n (z .before .args .card .memory)) in
     (z .cells-for .ensures .1, subst (λ (v : Wires). v .outputs < 2 ^ n) (sym (c .wires-of .ensures)) (fits .0))
-
-ran-with-requires : tie.Need-ran-with-requires
-ran-with-requires c κs = search needs
 
 returns : tie.Need-returns
 returns c =
@@ -42,7 +31,7 @@ returns c =
     let a = z .before .args in
     let n = z .cells-for .result in
     let slept = sym (ap (λ (v : Wires). turned n false (a .card .cells) (a .card .edited) v) (w .wires-of .ensures))
-    ∙ quiet .is-quiet .ensures (c .before .if1 .taken)
+    ∙ quiet .is-quiet .ensures .1 (c .before .if1 .taken)
     ∙ ap (λ (v : Wires). sleptAll (a .card .cells) (v .outputs)) (w .wires-of .ensures) in
     c .ran-with .ensures n (z .cells-for .ensures .1) (pow-pos n) ∙ ap (ranWith n (s .seen-memory .result) (a .card) (a .l)) (sym slept)
     ∙ whole-tick-on n false (a .card) (s .seen-memory .result) (a .l) (s .seen-memory .ensures)
@@ -68,11 +57,11 @@ pub quick-tick-on-spec : {M : Type 1} → statement M
 quick-tick-on-spec =
     tie.close
     (tie.spec
-    cells-for-requires
-    seen-memory-requires
-    wires-of-requires
+    (λ c κs. search needs)
+    (λ c κs. search needs)
+    (λ c κs. search needs)
     is-quiet-requires
-    ran-with-requires
+    (λ c κs. search needs)
     returns
     turn-each-requires
     returns-2)

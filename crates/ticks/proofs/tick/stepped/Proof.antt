@@ -1,4 +1,5 @@
--- `ticks::tick::stepped` meets its contract: the slots read from the words what they read by the views, and move where the readings disagree.
+-- `ticks::tick::stepped` meets its contract: the slots read from the words what they read by the
+-- views, and move where the readings disagree.
 use Prim.Native.Nat.{ℕ}
 use mathlib.Core.Path.{_≡_, ap, subst, _∙_}
 use mathlib.Core.Bool.{Bool, _||_}
@@ -8,7 +9,7 @@ use Rattle.cells.specs.declared.step.Stepped.{Stepped}
 use Rattle.cells.specs.State.{stateOf}
 use Rattle.cells.specs.Effect.{StepsTo}
 use Rattle.cells.specs.Wake.{stirred, moved, wakes}
-use Rattle.cells.specs.Work.{workOut}
+use Rattle.cells.specs.Work.{lookedAt, workOut}
 use Rattle.cells.proofs.Laws.{moved-disagree}
 use Rattle.ticks.specs.Reading.{slotsRead}
 use Rattle.ticks.proofs.Words.{Holds, slots-as, slots-moved}
@@ -16,40 +17,13 @@ use borrow.Author.Needs.{needs}
 use Rattle.ticks.proofs.tick.stepped.Statement.{statement}
 use Rattle.ticks.proofs.tick.stepped.Tie as tie
 
-array-read-address : tie.Need-array-read-address
-array-read-address c = search needs
-
-address-requires : tie.Need-address-requires
-address-requires c κs = search needs
-
-array-read-address-2 : tie.Need-array-read-address-2
-array-read-address-2 c = search needs
-
-address-requires-2 : tie.Need-address-requires-2
-address-requires-2 c κs = search needs
-
-array-read-address-3 : tie.Need-array-read-address-3
-array-read-address-3 c = search needs
-
-address-requires-3 : tie.Need-address-requires-3
-address-requires-3 c κs = search needs
-
-array-read-address-4 : tie.Need-array-read-address-4
-array-read-address-4 c = search needs
-
-address-requires-4 : tie.Need-address-requires-4
-address-requires-4 c κs = search needs
-
-step-requires : tie.Need-step-requires
-step-requires c κs = search needs
-
 -- what is asked, by the readings of the definition
 as-asked : (t : Stepped) (full edited : Bool) (kind config : ℕ) (s : State) (r m now d : Slots) (b : Bool)
-    → StepsTo t full (edited || (stirred kind s r || moved kind m)) s (workOut kind config s r) → r ≡ now → m ≡ d → moved kind d ≡ b
-    → StepsTo t full (edited || (stirred kind s now || b)) s (workOut kind config s now)
+    → StepsTo t full (edited || (stirred kind s r || moved kind m)) s (workOut kind config s r) (lookedAt kind r) → r ≡ now → m ≡ d → moved kind d ≡ b
+    → StepsTo t full (edited || (stirred kind s now || b)) s (workOut kind config s now) (lookedAt kind now)
 as-asked t full edited kind config s r m now d b h er em eb =
-    subst (λ (x : Slots). StepsTo t full (edited || (stirred kind s x || b)) s (workOut kind config s x)) er
-    (subst (λ (x : Bool). StepsTo t full (edited || (stirred kind s r || x)) s (workOut kind config s r)) (ap (moved kind) em ∙ eb) h)
+    subst (λ (x : Slots). StepsTo t full (edited || (stirred kind s x || b)) s (workOut kind config s x) (lookedAt kind x)) er
+    (subst (λ (x : Bool). StepsTo t full (edited || (stirred kind s r || x)) s (workOut kind config s r) (lookedAt kind r)) (ap (moved kind) em ∙ eb) h)
 
 returns : tie.Need-returns
 unfolding wakes
@@ -72,13 +46,13 @@ pub stepped-spec : {M : Type 1} → statement M
 stepped-spec =
     tie.close
     (tie.spec
-    array-read-address
-    address-requires
-    array-read-address-2
-    address-requires-2
-    array-read-address-3
-    address-requires-3
-    array-read-address-4
-    address-requires-4
-    step-requires
+    (λ c. search needs)
+    (λ c κs. search needs)
+    (λ c. search needs)
+    (λ c κs. search needs)
+    (λ c. search needs)
+    (λ c κs. search needs)
+    (λ c. search needs)
+    (λ c κs. search needs)
+    (λ c κs. search needs)
     returns)

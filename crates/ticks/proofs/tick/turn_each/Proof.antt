@@ -1,5 +1,6 @@
--- `ticks::tick::turn_each` meets its contract: after i turns the first i cells are those of the definition, the words of outputs and of named cells hold their
--- bits up to there, and the words that addresses are read from are those of reader i.
+-- `ticks::tick::turn_each` meets its contract: after i turns the first i cells are those of the
+-- definition, the words of outputs and of named cells hold their bits up to there, and the words
+-- that addresses are read from are those of reader i.
 use Prim.Native.Nat.{ℕ, _+_, _-_, _^_, _≤_, _<_, zero-le}
 use mathlib.Core.Path.{_≡_, refl, sym, ap, subst, _∙_}
 use mathlib.Core.Bool.{Bool, false, not, _||_, Bool·beq, true≢false}
@@ -19,7 +20,7 @@ use Rattle.cells.specs.declared.cell.Cell.{Cell}
 use Rattle.cells.specs.declared.table.Slots.{Slots}
 use Rattle.cells.specs.declared.work.Effect.{Effect}
 use Rattle.cells.specs.State.{stateOf, withState}
-use Rattle.cells.specs.Work.{workOut}
+use Rattle.cells.specs.Work.{lookedAt, workOut}
 use Rattle.cells.specs.Effect.{workedBy, StepsTo}
 use Rattle.card.specs.Address.{cellRoom}
 use Rattle.card.specs.Fresh.{noCell}
@@ -47,18 +48,6 @@ Inv-loop full card m l n w shifted next₀ outputs₀ named₀ q₀ d₀ i₀ en
 
 abbrev μ-loop : tie.MeasureT-loop
 μ-loop full card m l n w shifted next₀ outputs₀ named₀ q₀ d₀ i₀ end next outputs named q d i = n - i
-
-wires-of-requires : tie.Need-wires-of-requires Inv-loop μ-loop
-wires-of-requires c κs = search needs
-
-shifted-requires : tie.Need-shifted-requires Inv-loop μ-loop
-shifted-requires c κs = search needs
-
-words-now-requires : tie.Need-words-now-requires Inv-loop μ-loop
-words-now-requires c κs = search needs
-
-words-moved-requires : tie.Need-words-moved-requires Inv-loop μ-loop
-words-moved-requires c κs = search needs
 
 -- the number of cells is at most the room, and every cell word has that many bits
 room : (c : tie.Start Inv-loop μ-loop) → c .args .n ≤ cellRoom
@@ -89,127 +78,16 @@ loop-holds c =
       c .words-moved .ensures (a .n) (room (set .before)) (fits .0) fits,
     )
 
-cast-at : tie.Need-cast-at Inv-loop μ-loop
-cast-at c = search needs
-
-bit-requires : tie.Need-bit-requires Inv-loop μ-loop
-bit-requires c κs = search needs
-
-mul-stepped : tie.Need-mul-stepped Inv-loop μ-loop
-mul-stepped c = search needs
-
-element-copy-out-stepped : tie.Need-element-copy-out-stepped Inv-loop μ-loop
-element-copy-out-stepped c = search needs
-
-stepped-requires : tie.Need-stepped-requires Inv-loop μ-loop
-stepped-requires c κs = search needs
-
 cast-bit : tie.Need-cast-bit Inv-loop μ-loop
 cast-bit c =
     let at = c .before .before .before .before .before .before in
     let start = at .before .before .before .before .before in
     record { fits = within-word (start .args .n) _ (room start) (at .loop .inv .2 .0) }
 
-bit-requires-2 : tie.Need-bit-requires-2 Inv-loop μ-loop
-bit-requires-2 c κs = search needs
-
-enum-told : tie.Need-enum-told Inv-loop μ-loop
-enum-told c = search needs
-
-enum-known-effect : tie.Need-enum-known-effect Inv-loop μ-loop
-enum-known-effect c = search needs
-
-enum-known-effect-2 : tie.Need-enum-known-effect-2 Inv-loop μ-loop
-enum-known-effect-2 c = search needs
-
-mul-cell : tie.Need-mul-cell Inv-loop μ-loop
-mul-cell c = search needs
-
-element-copy-out-cell : tie.Need-element-copy-out-cell Inv-loop μ-loop
-element-copy-out-cell c = search needs
-
-mul-cell-2 : tie.Need-mul-cell-2 Inv-loop μ-loop
-mul-cell-2 c = search needs
-
-element-set-from-cell : tie.Need-element-set-from-cell Inv-loop μ-loop
-element-set-from-cell c = search needs
-
-enum-known-effect-3 : tie.Need-enum-known-effect-3 Inv-loop μ-loop
-enum-known-effect-3 c = search needs
-
-mul-cell-3 : tie.Need-mul-cell-3 Inv-loop μ-loop
-mul-cell-3 c = search needs
-
-element-copy-out-cell-2 : tie.Need-element-copy-out-cell-2 Inv-loop μ-loop
-element-copy-out-cell-2 c = search needs
-
-mul-cell-4 : tie.Need-mul-cell-4 Inv-loop μ-loop
-mul-cell-4 c = search needs
-
-element-set-from-cell-2 : tie.Need-element-set-from-cell-2 Inv-loop μ-loop
-element-set-from-cell-2 c = search needs
-
-enum-known-effect-4 : tie.Need-enum-known-effect-4 Inv-loop μ-loop
-enum-known-effect-4 c = search needs
-
-mul-cell-5 : tie.Need-mul-cell-5 Inv-loop μ-loop
-mul-cell-5 c = search needs
-
-element-copy-out-cell-3 : tie.Need-element-copy-out-cell-3 Inv-loop μ-loop
-element-copy-out-cell-3 c = search needs
-
-mul-cell-6 : tie.Need-mul-cell-6 Inv-loop μ-loop
-mul-cell-6 c = search needs
-
-element-set-from-cell-3 : tie.Need-element-set-from-cell-3 Inv-loop μ-loop
-element-set-from-cell-3 c = search needs
-
-enum-known-effect-5 : tie.Need-enum-known-effect-5 Inv-loop μ-loop
-enum-known-effect-5 c = search needs
-
-mul-cell-7 : tie.Need-mul-cell-7 Inv-loop μ-loop
-mul-cell-7 c = search needs
-
-element-copy-out-cell-4 : tie.Need-element-copy-out-cell-4 Inv-loop μ-loop
-element-copy-out-cell-4 c = search needs
-
-mul-cell-8 : tie.Need-mul-cell-8 Inv-loop μ-loop
-mul-cell-8 c = search needs
-
-element-set-from-cell-4 : tie.Need-element-set-from-cell-4 Inv-loop μ-loop
-element-set-from-cell-4 c = search needs
-
 noted-requires : tie.Need-noted-requires Inv-loop μ-loop
 noted-requires c κs =
     let at = c .before .before .before .before .before .before .before .before in
     (search needs, built-fits _ (at .loop .i) _ (at .loop .inv .3))
-
-cast-bit-2 : tie.Need-cast-bit-2 Inv-loop μ-loop
-cast-bit-2 c = search needs
-
-bit-requires-3 : tie.Need-bit-requires-3 Inv-loop μ-loop
-bit-requires-3 c κs = search needs
-
-flipped-requires : tie.Need-flipped-requires Inv-loop μ-loop
-flipped-requires c κs = search needs
-
-add-words-now : tie.Need-add-words-now Inv-loop μ-loop
-add-words-now c = search needs
-
-words-now-requires-2 : tie.Need-words-now-requires-2 Inv-loop μ-loop
-words-now-requires-2 c κs = search needs
-
-add-words-moved : tie.Need-add-words-moved Inv-loop μ-loop
-add-words-moved c = search needs
-
-words-moved-requires-2 : tie.Need-words-moved-requires-2 Inv-loop μ-loop
-words-moved-requires-2 c κs = search needs
-
-add-i : tie.Need-add-i Inv-loop μ-loop
-add-i c = search needs
-
-loop-less : tie.Need-loop-less Inv-loop μ-loop
-loop-less c = search needs
 
 -- the number of cells
 abbrev count : tie.At-loop Inv-loop μ-loop → ℕ
@@ -250,7 +128,8 @@ turn-here at inside =
     ∙ turn-same (a .n) (a .full) (getD (l .next .cells) (l .i) noCell) (l .i) (a .card .edited) wires below (l .outputs)
     (λ k h. output-bit (a .n) (a .full) (a .card .cells) (a .card .edited) wires (l .i) k h ∙ sym (l .inv .2 .1 k h))
 
--- the step that the code took: whether the rules name cell i, and the cell and the output of its effect, are those of the definition
+-- the step that the code took: whether the rules name cell i, and the cell and the output of its
+-- effect, are those of the definition
 pub record Taken (s : tie.After-stepped Inv-loop μ-loop) : Type 0 where
   pub names : (let at = s .before .before .before .before .before .before in
       let set = at .before .before .before .before in
@@ -290,7 +169,7 @@ taken s =
     let was = bitAt (a .card .edited) (l .i) in
     let turn = turn-here at (asked .before .loop-test .taken) in
     let is = subst
-    (λ (b : Bool). StepsTo r (a .full) (rulesName old b now last) (stateOf old) (workOut (old .kind) (old .config) (stateOf old) now))
+    (λ (b : Bool). StepsTo r (a .full) (rulesName old b now last) (stateOf old) (workOut (old .kind) (old .config) (stateOf old) now) (lookedAt (old .kind) now))
     (asked .bit .ensures) (s .stepped .ensures _ _ _ (l .inv .4) (l .inv .5)) in
     record {
       names = sym (ap (λ (t : Turn). t .named) turn ∙ step-named (a .full) old was out now last r is);
@@ -359,7 +238,8 @@ met m =
     (λ w. (w .4 ∙ put _ (w .1 .given .1), w .5 ∙ took .out _ (w .1 .given .1)))))))
     (m .match .came)
 
--- what the turn of cell i made: the outputs are those of the definition, and readers above see of it what readers up to it do unless it moved
+-- what the turn of cell i made: the outputs are those of the definition, and readers above see of
+-- it what readers up to it do unless it moved
 Turned-on : tie.Joined1 Inv-loop μ-loop → Type 0
 Turned-on j =
     let at = j .before .before .before .before .before .before .before .before .before .before .before in
@@ -463,9 +343,6 @@ cast-ran-with c =
     let end : at .loop .i ≡ count at = omega arith in
     record { fits = lt-of-lt-of-le (names-fit at end) (pow-mono (room start)) }
 
-ran-with-requires : tie.Need-ran-with-requires Inv-loop μ-loop
-ran-with-requires c κs = search needs
-
 returns : tie.Need-returns Inv-loop μ-loop
 unfolding turned
 returns c =
@@ -498,52 +375,52 @@ turn-each-spec =
     (tie.spec
     Inv-loop
     μ-loop
-    wires-of-requires
-    shifted-requires
-    words-now-requires
-    words-moved-requires
+    (λ c κs. search needs)
+    (λ c κs. search needs)
+    (λ c κs. search needs)
+    (λ c κs. search needs)
     loop-holds
-    cast-at
-    bit-requires
-    mul-stepped
-    element-copy-out-stepped
-    stepped-requires
+    (λ c. search needs)
+    (λ c κs. search needs)
+    (λ c. search needs)
+    (λ c. search needs)
+    (λ c κs. search needs)
     cast-bit
-    bit-requires-2
-    enum-told
-    enum-known-effect
-    enum-known-effect-2
-    mul-cell
-    element-copy-out-cell
-    mul-cell-2
-    element-set-from-cell
-    enum-known-effect-3
-    mul-cell-3
-    element-copy-out-cell-2
-    mul-cell-4
-    element-set-from-cell-2
-    enum-known-effect-4
-    mul-cell-5
-    element-copy-out-cell-3
-    mul-cell-6
-    element-set-from-cell-3
-    enum-known-effect-5
-    mul-cell-7
-    element-copy-out-cell-4
-    mul-cell-8
-    element-set-from-cell-4
+    (λ c κs. search needs)
+    (λ c. search needs)
+    (λ c. search needs)
+    (λ c. search needs)
+    (λ c. search needs)
+    (λ c. search needs)
+    (λ c. search needs)
+    (λ c. search needs)
+    (λ c. search needs)
+    (λ c. search needs)
+    (λ c. search needs)
+    (λ c. search needs)
+    (λ c. search needs)
+    (λ c. search needs)
+    (λ c. search needs)
+    (λ c. search needs)
+    (λ c. search needs)
+    (λ c. search needs)
+    (λ c. search needs)
+    (λ c. search needs)
+    (λ c. search needs)
+    (λ c. search needs)
+    (λ c. search needs)
     noted-requires
-    cast-bit-2
-    bit-requires-3
-    flipped-requires
-    add-words-now
-    words-now-requires-2
-    add-words-moved
-    words-moved-requires-2
-    add-i
-    loop-less
+    (λ c. search needs)
+    (λ c κs. search needs)
+    (λ c κs. search needs)
+    (λ c. search needs)
+    (λ c κs. search needs)
+    (λ c. search needs)
+    (λ c κs. search needs)
+    (λ c. search needs)
+    (λ c. search needs)
     loop-again
     woken-by-requires
     cast-ran-with
-    ran-with-requires
+    (λ c κs. search needs)
     returns)

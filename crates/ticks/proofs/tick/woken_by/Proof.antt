@@ -1,4 +1,5 @@
--- `ticks::tick::woken_by` meets its contract: in a full tick every bit is set, and a remainder keeps the bits below.
+-- `ticks::tick::woken_by` meets its contract: in a full tick every bit is set, and a remainder
+-- keeps the bits below.
 use Prim.Native.Nat.{ℕ, _^_, _<_, _≤_}
 use mathlib.Core.Path.{_≡_, ap, _∙_}
 use native.Mathlib.Omega.{arith}
@@ -10,12 +11,6 @@ use borrow.Author.Needs.{needs}
 use Rattle.words.proofs.Laws.{bit-ones, bit-mod}
 use Rattle.ticks.proofs.tick.woken_by.Statement.{statement}
 use Rattle.ticks.proofs.tick.woken_by.Tie as tie
-
-low-requires : tie.Need-low-requires
-low-requires c κs = search needs
-
-low-requires-2 : tie.Need-low-requires-2
-low-requires-2 c κs = search needs
 
 returns : tie.Need-returns
 returns c =
@@ -32,4 +27,4 @@ returns-2 c =
     )
 
 pub woken-by-spec : {M : Type 1} → statement M
-woken-by-spec = tie.close (tie.spec low-requires low-requires-2 returns returns-2)
+woken-by-spec = tie.close (tie.spec (λ c κs. search needs) (λ c κs. search needs) returns returns-2)

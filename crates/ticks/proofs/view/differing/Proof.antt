@@ -4,30 +4,6 @@ use borrow.Author.Needs.{needs}
 use Rattle.ticks.proofs.view.differing.Statement.{statement}
 use Rattle.ticks.proofs.view.differing.Tie as tie
 
-array-read-t7 : tie.Need-array-read-t7
-array-read-t7 c = search needs
-
-array-read-t10 : tie.Need-array-read-t10
-array-read-t10 c = search needs
-
-array-read-t14 : tie.Need-array-read-t14
-array-read-t14 c = search needs
-
-array-read-t17 : tie.Need-array-read-t17
-array-read-t17 c = search needs
-
-array-read-t21 : tie.Need-array-read-t21
-array-read-t21 c = search needs
-
-array-read-t24 : tie.Need-array-read-t24
-array-read-t24 c = search needs
-
-array-read-t28 : tie.Need-array-read-t28
-array-read-t28 c = search needs
-
-array-read-t31 : tie.Need-array-read-t31
-array-read-t31 c = search needs
-
 returns : tie.Need-returns
 returns c = differ-words (c .args .t1) (c .args .t2)
 
@@ -35,12 +11,12 @@ pub differing-spec : {M : Type 1} → statement M
 differing-spec =
     tie.close
     (tie.spec
-    array-read-t7
-    array-read-t10
-    array-read-t14
-    array-read-t17
-    array-read-t21
-    array-read-t24
-    array-read-t28
-    array-read-t31
+    (λ c. search needs)
+    (λ c. search needs)
+    (λ c. search needs)
+    (λ c. search needs)
+    (λ c. search needs)
+    (λ c. search needs)
+    (λ c. search needs)
+    (λ c. search needs)
     returns)

@@ -1,4 +1,5 @@
--- `ticks::view::quarters` meets its contract: the four words read as their quarters of the addresses do.
+-- `ticks::view::quarters` meets its contract: the four words read as their quarters of the
+-- addresses do.
 use Rattle.cells.specs.Reading.{readFrom}
 use Rattle.ticks.specs.Words.{ReadsAs}
 use Rattle.ticks.proofs.Views.{quarter-reads}

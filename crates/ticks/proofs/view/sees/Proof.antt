@@ -27,9 +27,6 @@ placed i below others levels hi hb ho hl =
     rw (one-shifted i hi, up, cells) (or-shifted levels 33 (mix i below others * 2) (omega arith))
 
 -- src/view.rt:16:17
-shl-mask : tie.Need-shl-mask
-shl-mask c = search needs
-
 -- src/view.rt:16:16
 sub-mask : tie.Need-sub-mask
 sub-mask c = rw (one-shifted (c .args .i) (search needs)) (pow-pos (c .args .i))
@@ -41,4 +38,4 @@ returns c n room hb ho =
     (placed (a .i) (a .below) (a .others) (a .levels) (search needs) (search needs) (search needs) (search needs))
 
 pub sees-spec : {M : Type 1} → statement M
-sees-spec = tie.close (tie.spec shl-mask sub-mask returns)
+sees-spec = tie.close (tie.spec (λ c. search needs) sub-mask returns)

@@ -4,19 +4,10 @@ use borrow.Author.Needs.{needs}
 use Rattle.ticks.proofs.view.words_moved.Statement.{statement}
 use Rattle.ticks.proofs.view.words_moved.Tie as tie
 
-words-now-requires : tie.Need-words-now-requires
-words-now-requires c κs = search needs
-
-words-last-requires : tie.Need-words-last-requires
-words-last-requires c κs = search needs
-
-differing-requires : tie.Need-differing-requires
-differing-requires c κs = search needs
-
 returns : tie.Need-returns
 returns c n room below fits =
     differ-moves _ _ _ _ _ _ (c .differing .ensures) (c .before .before .words-now .ensures n room below fits) (c .before .words-last .ensures n room fits)
 
 pub words-moved-spec : {M : Type 1} → statement M
 words-moved-spec =
-    tie.close (tie.spec words-now-requires words-last-requires differing-requires returns)
+    tie.close (tie.spec (λ c κs. search needs) (λ c κs. search needs) (λ c κs. search needs) returns)
