@@ -4,7 +4,6 @@ ghost use lib.ListN.{length};
 use crate::Form;
 use crate::put;
 use card::card::Card;
-use console::LONGEST_PRINT;
 use input::BUFFER;
 use input::LINE;
 use input::Reader;
@@ -12,6 +11,8 @@ use input::least;
 use input::next_line;
 use input::start;
 use saved::record::record_length;
+use session::Event;
+use session::LONGEST_PRINT;
 use ticks::rest::at_rest;
 
 // The record of a card of thirty-two cells; that of a card of sixteen is shorter.
@@ -20,7 +21,7 @@ const STORE: usize = 516;
 // A line, and what it prints.
 pub fn answered(card: Card, line: &[u8], store: &mut [u8]) -> Card {
     let mut out = [0u8; LONGEST_PRINT];
-    let entered = console::enter(card, line, store, &mut out);
+    let entered = session::enter(card, line, store, &mut out);
     let len = entered.len;
     put(&out[0..len]);
     entered.card
@@ -45,11 +46,12 @@ fn put_tick(out: &[u8], len: usize, rests: bool)
 // would change nothing.
 fn rested(card: Card, line: &[u8], store: &mut [u8]) -> Card {
     let mut out = [0u8; LONGEST_PRINT];
-    let entered = console::enter(card, line, store, &mut out);
+    let entered = session::enter(card, line, store, &mut out);
     let next = entered.card;
-    let t = console::tick_line(line);
-    if t.ok {
-        put_tick(&out, entered.len, at_rest(next, t.input));
+    let event = entered.event;
+    match event {
+        Event::Tick(t) => put_tick(&out, entered.len, at_rest(next, t.input)),
+        _ => {}
     }
     next
 }
@@ -57,7 +59,7 @@ fn rested(card: Card, line: &[u8], store: &mut [u8]) -> Card {
 // A line that prints nothing.
 fn unanswered(card: Card, line: &[u8], store: &mut [u8]) -> Card {
     let mut out = [0u8; LONGEST_PRINT];
-    let entered = console::enter(card, line, store, &mut out);
+    let entered = session::enter(card, line, store, &mut out);
     entered.card
 }
 
