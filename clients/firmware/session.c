@@ -1,13 +1,9 @@
 /*
  * The card through calls by pointers, for the comparison with stored sessions. Lines come in at the standard input.
  *
- *     session             answers as plrun does
- *     session large       the same with a card of thirty-two cells, and at the end its wiring, as gate_large
- *     session print       prints the wiring at the end, as plprint
- *     session rests       answers ticks alone, and says whether the card is at rest, as gate_rests
- *     session survey      what depends on each place at the end, as gate_surveys; `survey-large` for a card of thirty-two cells
- *     session loads       takes records in hex, as gate_loads
- *     session tallies     answers as plrun does, and a line that starts with `#` as gate_tallies
+ *     session                 answers as plrun does
+ *     session SIZE FORM       runs a session as crates/gate_sessions does: SIZE is `small` or `large`, FORM is what is printed
+ *     session records         takes records in hex, as crates/gate_tables
  *
  * Before each tick it asks whether the card is at rest, which must leave the card as it was; a card at rest must wake nobody. It ends with 1 where that fails.
  */
@@ -51,6 +47,11 @@ static int digits_of_cells(void)
 }
 
 /* ---- text */
+
+static bool is(const char *word, const char *text)
+{
+    return same(word, length(word), text);
+}
 
 static int hex_digit(uint8_t byte)
 {
@@ -145,29 +146,29 @@ static void put_tallies(void)
     if (!unchanged())
         fault("the question changed the card");
     put_decimal(tallies.total, 0);
-    for (size_t i = 0; i < TRIGGER_SMALL; i++) {
+    for (size_t i = 0; i < card.size; i++) {
         put_text(" ");
         put_decimal(tallies.cells[i], 0);
     }
     put_text("\n");
 }
 
-/* The total and the tallies of the cells behind `# `, one blank between them: the card is handed in with these numbers. */
+/* The total and the tallies of the cells after `# `, one blank between them: the card is handed in with these numbers. */
 static void set_tallies(const uint8_t *line, size_t len)
 {
-    uint32_t numbers[1 + TRIGGER_SMALL] = {0};
+    uint32_t numbers[1 + TRIGGER_CELLS] = {0};
     size_t k = 0;
     for (size_t i = 2; i < len; i++) {
         if (line[i] == ' ')
             k++;
-        if (k > TRIGGER_SMALL)
+        if (k > card.size)
             fault("more numbers than cells");
         if (line[i] != ' ')
             numbers[k] = numbers[k] * 10 + (uint32_t)(line[i] - '0');
     }
     card.tallies.total = numbers[0];
     for (size_t i = 0; i < TRIGGER_CELLS; i++)
-        card.tallies.cells[i] = i < TRIGGER_SMALL ? numbers[1 + i] : 0;
+        card.tallies.cells[i] = numbers[1 + i];
     put_text("ok\n");
 }
 
@@ -325,23 +326,27 @@ static void take_rows(void)
 
 int main(int argc, char **argv)
 {
-    const char *mode = argc > 1 ? argv[1] : "";
-    size_t n = length(mode);
-    bool large = same(mode, n, "large") || same(mode, n, "survey-large");
+    const char *size = argc > 1 ? argv[1] : "small", *form = argc > 2 ? argv[2] : "plrun";
+    bool large = is(size, "large"), wiring = is(form, "wiring"), survey = is(form, "survey");
     if (!trigger_matches())
         fault("the library is not that of the header");
+    if (is(size, "records")) {
+        take_rows();
+        return 0;
+    }
+    if (!large && !is(size, "small"))
+        fault("the size is not known");
+    ticks_only = is(form, "rests");
+    tallies_too = is(form, "tallies");
+    silent = wiring || survey;
+    if (!silent && !ticks_only && !tallies_too && !is(form, "session") && !is(form, "plrun"))
+        fault("the form is not known");
     (large ? trigger_fresh_large_at : trigger_fresh_at)(&card);
     store_len = large ? TRIGGER_LARGE_RECORD : TRIGGER_RECORD;
-    ticks_only = same(mode, n, "rests");
-    tallies_too = same(mode, n, "tallies");
-    silent = same(mode, n, "print") || same(mode, n, "survey") || same(mode, n, "survey-large");
-    if (same(mode, n, "loads"))
-        take_rows();
-    else
-        run();
-    if (same(mode, n, "print") || same(mode, n, "large"))
+    run();
+    if (wiring || is(form, "session"))
         put_wiring();
-    if (same(mode, n, "survey") || same(mode, n, "survey-large"))
+    if (survey)
         put_surveys();
     return 0;
 }

@@ -40,6 +40,8 @@ export function compareModules(bytes) {
 
 // ---- stored sessions
 
+const SESSIONS = path.join(TOP, 'crates', 'gate_sessions');
+
 // Every input that a crate of the gate has: its stdin, and its data. Those of larger cards and rows of hex are lines too, mostly refused.
 function storedInputs() {
   const inputs = [];
@@ -50,6 +52,13 @@ function storedInputs() {
     if (fs.existsSync(data)) inputs.push(...fs.readdirSync(data).map((name) => path.join(data, name)).filter((file) => fs.statSync(file).isFile()));
   }
   return inputs;
+}
+
+// The files of crates/gate_sessions that a card of sixteen cells runs as plrun and plprint do.
+function smallSessions() {
+  const rows = fs.readFileSync(path.join(SESSIONS, 'stdin'), 'latin1').split('\n').map((row) => row.split(' '));
+  const small = rows.filter(([size, , form]) => size === 'small' && ['plrun', 'wiring'].includes(form));
+  return small.map(([, file]) => path.join(SESSIONS, 'data', file)).filter((file) => fs.existsSync(file));
 }
 
 // One input through both builds of every program, or of those that are named.
@@ -81,7 +90,7 @@ export function compareRecords(modules) {
   const { plsave, plload, plconvert } = modules;
   const made = storedInputs().map((file) => runBytes(plsave, fs.readFileSync(file)).output);
   const old = made.map((record) => runBytes(plconvert, record).output).filter((record) => record.length);
-  const rows = fs.readFileSync(path.join(TOP, 'crates', 'gate_loads', 'stdin'), 'latin1').split('\n').filter(Boolean).map((row) => Buffer.from(row, 'hex'));
+  const rows = fs.readFileSync(path.join(TOP, 'crates', 'gate_tables', 'stdin'), 'latin1').split('\n').filter(Boolean).map((row) => Buffer.from(row, 'hex'));
   const records = [...made, ...old, ...rows];
   records.forEach((record, i) => compareInput(modules, `record ${i + 1}`, record, ['plload', 'plconvert']));
   const changed = made.filter((record) => !sameBytes(runBytes(plsave, runBytes(plload, record).output).output, record));
@@ -97,7 +106,7 @@ function storedInput(folder) {
   return words.length === 1 ? path.join(folder, 'data', words[0]) : null;
 }
 
-// Outputs that the gate stores: of each program by itself, and of plrun in crates/gate_replay.
+// Outputs that the gate stores: of each program by itself, and of plrun in crates/gate_sessions.
 export function compareStored(modules) {
   let compared = 0;
   for (const name of NAMES) {
@@ -108,12 +117,14 @@ export function compareStored(modules) {
     expect(`${name} writes crates/${name}/stdout`, sameBytes(runBytes(modules[name], fs.readFileSync(input)).output, wanted), true);
     compared += 1;
   }
-  const replay = path.join(TOP, 'crates', 'gate_replay');
-  const parts = fs.readFileSync(path.join(replay, 'stdout'), 'latin1').split(/^([\w-]+\.(?:in|lines))\n/m).slice(1);
+  const parts = fs.readFileSync(path.join(SESSIONS, 'stdout'), 'latin1').split(/^((?:small|large) [\w.-]+ \w+)\n/m).slice(1);
   for (let i = 0; i < parts.length; i += 2) {
-    const { output } = runBytes(modules.plrun, fs.readFileSync(path.join(replay, 'data', parts[i])));
-    expect(`plrun answers ${parts[i]} as crates/gate_replay/stdout`, Buffer.from(output).toString('latin1') === parts[i + 1], true);
-    compared += 1;
+    const [size, file, form] = parts[i].split(' ');
+    if (size === 'small' && form === 'plrun') {
+      const { output } = runBytes(modules.plrun, fs.readFileSync(path.join(SESSIONS, 'data', file)));
+      expect(`plrun answers ${file} as crates/gate_sessions/stdout`, Buffer.from(output).toString('latin1') === parts[i + 1], true);
+      compared += 1;
+    }
   }
   for (const file of fs.readdirSync(path.join(TOP, 'examples')).filter((f) => f.endsWith('.lines'))) {
     const picture = fs.readFileSync(path.join(TOP, 'docs', 'pictures', file.replace('.lines', '.svg')));
@@ -127,7 +138,7 @@ export function compareStored(modules) {
 
 export function compareReading(modules) {
   const programs = programsOf(modules);
-  const files = storedInputs().filter((file) => /replay|reprint|examples/.test(file));
+  const files = [...new Set(smallSessions())];
   for (const file of files) {
     const { lines } = splitLines(fs.readFileSync(file, 'latin1'));
     const session = runSession(programs, lines);

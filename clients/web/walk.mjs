@@ -271,12 +271,12 @@ export async function opensCarriageReturns(page) {
 // Long runs are made in a worker: the page says so meanwhile, and ends with the answers of the stored session. The last line of this one has no LF.
 export async function runsLong(page, url) {
   await page.open(url);
-  const folder = path.join(TOP, 'crates', 'gate_replay');
+  const folder = path.join(TOP, 'crates', 'gate_sessions');
   await openFile(page, 'long.in', fs.readFileSync(path.join(folder, 'data', 'long.in'), 'latin1'));
   await page.until('document.documentElement.classList.contains("running")');
   expect('it says so', await page.text('#progress-words'), 'running 9518 lines …');
   await page.until('!document.documentElement.classList.contains("running")', 60000);
-  const stored = fs.readFileSync(path.join(folder, 'stdout'), 'latin1').split('\nlong.in\n')[1].split('\n');
+  const stored = fs.readFileSync(path.join(folder, 'stdout'), 'latin1').split('\nsmall long.in plrun\n')[1].split('\n');
   expect('the last answers', (await answers(page)).slice(-41, -1), stored.slice(9517 - 40, 9517));
   await page.evaluate('document.getElementById("editor").scrollTop = 0');
   await page.until('document.querySelector("#answers [data-line=\\"0\\"]")');

@@ -1,57 +1,34 @@
-//! The stored sessions that ask for the tallies, up to the first line that hands a card in with others: the card must answer what crates/gate_tallies prints.
+//! The stored sessions that ask for the tallies, up to the first line that hands a card in with others: the card must answer what crates/gate_sessions prints.
 use std::fmt::Write;
 
-use trigger::{Card, Input, RECORD};
+use trigger::{Card, LARGE_RECORD, RECORD};
 
-const CRATE: &str = concat!(env!("CARGO_MANIFEST_DIR"), "/../../crates/gate_tallies");
+mod stored;
 
-const SESSIONS: [&str; 5] = ["tallies-1a", "tallies-1b", "tallies-2a", "tallies-2b", "tallies-corners"];
-
-/// `T c w a F` or `T c w a Q`.
-fn tick(line: &[u8]) -> Option<(bool, Input)> {
-    let mut words = std::str::from_utf8(line).ok()?.strip_prefix("T ")?.split(' ');
-    let code = words.next()?.parse().ok()?;
-    let sample = u16::from_str_radix(words.next()?, 16).ok()?;
-    let attached = u16::from_str_radix(words.next()?, 16).ok()?;
-    let input = Input { code, sample, attached };
-    Some((words.next()? == "F", input))
-}
-
-/// What the card answers to a line of a session.
-fn answer(card: &mut Card, store: &mut [u8; RECORD], line: &[u8]) -> String {
-    if line == b"#" {
-        let tallies = card.tallies();
-        let mut row = tallies.total.to_string();
-        for tally in &tallies.cells[..16] {
-            write!(row, " {tally}").expect("a string takes all");
-        }
-        return row;
+/// What a card of so many cells answers to a line of a session.
+fn answer(card: &mut Card, cells: usize, store: &mut [u8], line: &[u8]) -> String {
+    if line != b"#" {
+        return stored::entered(card, line, store);
     }
-    if line == b"L" {
-        return card.load(store).map_or_else(|refusal| refusal.to_string(), |()| ":A".to_string());
+    let tallies = card.tallies();
+    let mut row = tallies.total.to_string();
+    for tally in &tallies.cells[..cells] {
+        write!(row, " {tally}").expect("a string takes all");
     }
-    match tick(line) {
-        Some((true, input)) => card.full_tick(input).to_string(),
-        Some((false, input)) => card.quick_tick(input).to_string(),
-        None => card.line(line, store).to_string(),
-    }
+    row
 }
 
 #[test]
 fn stored_tallies() {
-    let stored = std::fs::read_to_string(format!("{CRATE}/stdout")).expect("the stored output");
-    let mut rows = stored.lines();
-    for name in SESSIONS {
-        let input = std::fs::read(format!("{CRATE}/data/{name}.in")).expect("a session");
-        let (mut card, mut store, mut given) = (Card::fresh(), [0; RECORD], false);
-        for line in input.split_inclusive(|byte| *byte == b'\n') {
-            let line = &line[..line.len() - 1];
-            let row = rows.next().expect("a row for each line");
-            given |= line.starts_with(b"# ");
-            if !given {
-                assert_eq!(answer(&mut card, &mut store, line), row, "{name}: {}", line.escape_ascii());
+    for run in stored::runs("tallies") {
+        let (mut card, cells, room) = if run.large { (Card::fresh_large(), 32, LARGE_RECORD) } else { (Card::fresh(), 16, RECORD) };
+        let mut store = [0; LARGE_RECORD];
+        assert_eq!(run.lines.len(), run.printed.lines().count(), "{}: a row for each line", run.row);
+        for (line, row) in run.lines.iter().zip(run.printed.lines()) {
+            if line.starts_with(b"# ") {
+                break;
             }
+            assert_eq!(answer(&mut card, cells, &mut store[..room], line), row, "{}: {}", run.row, line.escape_ascii());
         }
     }
-    assert_eq!(rows.next(), None);
 }

@@ -10,19 +10,19 @@ use crate::places::Strip;
 use crate::places::column_width;
 use crate::places::number_of;
 use crate::places::x_of;
-use scope::sink::Room;
-use scope::sink::Sink;
-use scope::sink::put;
-use scope::sink::put_with;
+use program::writer::Room;
+use program::writer::Writer;
+use program::writer::put;
+use program::writer::put_with;
 
-fn put_if(out: &mut Room, w: Sink, wanted: bool, text: &[u8]) -> Sink {
+fn put_if(out: &mut Room, w: Writer, wanted: bool, text: &[u8]) -> Writer {
     if wanted {
         return put(out, w, text);
     }
     w
 }
 
-fn either(out: &mut Room, w: Sink, first: bool, a: &[u8], b: &[u8]) -> Sink {
+fn either(out: &mut Room, w: Writer, first: bool, a: &[u8], b: &[u8]) -> Writer {
     if first {
         return put(out, w, a);
     }
@@ -30,7 +30,7 @@ fn either(out: &mut Room, w: Sink, first: bool, a: &[u8], b: &[u8]) -> Sink {
 }
 
 // Cell i was edited, or a slot has another value.
-fn put_changes(out: &mut Room, w: Sink, why: Why, i: u32) -> Sink {
+fn put_changes(out: &mut Room, w: Writer, why: Why, i: u32) -> Writer {
     let a = put_if(out, w, flag(why.first, 0, i), b", edited");
     let b = put_if(out, a, flag(why.first, 1, i), b", X changed");
     let c = put_if(out, b, flag(why.first, 2, i), b", Y changed");
@@ -39,7 +39,7 @@ fn put_changes(out: &mut Room, w: Sink, why: Why, i: u32) -> Sink {
 }
 
 // X, as a trigger or a start, is high.
-fn put_trigger(out: &mut Room, w: Sink, why: Why, i: u32) -> Sink {
+fn put_trigger(out: &mut Room, w: Writer, why: Why, i: u32) -> Writer {
     if !flag(why.second, 2, i) {
         return w;
     }
@@ -48,7 +48,7 @@ fn put_trigger(out: &mut Room, w: Sink, why: Why, i: u32) -> Sink {
 }
 
 // F, as a second trigger or a stop.
-fn put_other(out: &mut Room, w: Sink, why: Why, i: u32) -> Sink {
+fn put_other(out: &mut Room, w: Writer, why: Why, i: u32) -> Writer {
     if !flag(why.second, 3, i) {
         return w;
     }
@@ -56,7 +56,7 @@ fn put_other(out: &mut Room, w: Sink, why: Why, i: u32) -> Sink {
     either(out, w, stops, b", stop high", b", second trigger high")
 }
 
-fn put_clock(out: &mut Room, w: Sink, why: Why, i: u32) -> Sink {
+fn put_clock(out: &mut Room, w: Writer, why: Why, i: u32) -> Writer {
     if !flag(why.second, 1, i) {
         return w;
     }
@@ -71,7 +71,7 @@ fn put_clock(out: &mut Room, w: Sink, why: Why, i: u32) -> Sink {
 }
 
 // "tick 5, X changed, clock high"
-fn put_title(out: &mut Room, w: Sink, number: u64, why: Why, i: u32) -> Sink {
+fn put_title(out: &mut Room, w: Writer, number: u64, why: Why, i: u32) -> Writer {
     let a = put_with(out, w, b"<title>tick ", number, b"");
     let b = put_changes(out, a, why, i);
     let c = put_trigger(out, b, why, i);
@@ -91,7 +91,7 @@ fn is_named(why: Why, i: u32) -> bool {
 }
 
 // The box of cell i in a tick, in a column that begins at x.
-fn put_box(out: &mut Room, w: Sink, x: u64, width: u64, number: u64, why: Why, i: u32) -> Sink {
+fn put_box(out: &mut Room, w: Writer, x: u64, width: u64, number: u64, why: Why, i: u32) -> Writer {
     let a = either(
         out,
         w,
@@ -107,12 +107,12 @@ fn put_box(out: &mut Room, w: Sink, x: u64, width: u64, number: u64, why: Why, i
 }
 
 // All boxes of cell i in a strip.
-pub fn put_boxes(out: &mut Room, sink: Sink, ticks: &Ticks, s: Strip, i: u32) -> Sink
+pub fn put_boxes(out: &mut Room, writer: Writer, ticks: &Ticks, s: Strip, i: u32) -> Writer
     requires { ⌜ Fits s ⌝ }
 {
     let start = s.start;
     let end = s.end;
-    let mut w = sink;
+    let mut w = writer;
     for t in start..end {
         if flag(word_of(ticks, t + 1), 3, i) {
             let x = x_of(t - start, s.wide);

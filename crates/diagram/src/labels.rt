@@ -7,19 +7,19 @@ use card::limits::CONNECTORS_END;
 use card::limits::FIRST_CONNECTOR;
 use card::limits::OPEN_DRAIN;
 use names::LONGEST_NAME;
-use scope::sink::Room;
-use scope::sink::Sink;
-use scope::sink::put;
-use scope::sink::put_with;
+use program::writer::Room;
+use program::writer::Writer;
+use program::writer::put;
+use program::writer::put_with;
 
 // The name of a cell type.
-fn put_kind(out: &mut Room, w: Sink, kind: u8) -> Sink {
+fn put_kind(out: &mut Room, w: Writer, kind: u8) -> Writer {
     let mut name = [0u8; LONGEST_NAME];
     let n = names::put_name(&mut name, 0, kind);
     put(out, w, &name[0..n])
 }
 
-fn put_cell_name(out: &mut Room, w: Sink, card: Card, i: u32) -> Sink
+fn put_cell_name(out: &mut Room, w: Writer, card: Card, i: u32) -> Writer
     requires { ⌜ i < 16 ⌝ }
 {
     let cells = card.cells;
@@ -29,7 +29,7 @@ fn put_cell_name(out: &mut Room, w: Sink, card: Card, i: u32) -> Sink
 }
 
 // Connector k, BNC1 first.
-fn put_connector(out: &mut Room, w: Sink, k: u32) -> Sink
+fn put_connector(out: &mut Room, w: Writer, k: u32) -> Writer
     requires { ⌜ k < 16 ⌝ }
 {
     if k < 8 {
@@ -39,7 +39,7 @@ fn put_connector(out: &mut Room, w: Sink, k: u32) -> Sink
 }
 
 // What stands at a base: a cell or a connector.
-fn put_base(out: &mut Room, w: Sink, base: u8) -> Sink {
+fn put_base(out: &mut Room, w: Writer, base: u8) -> Writer {
     if base < FIRST_CONNECTOR {
         return put_with(out, w, b"cell ", base as u64, b"");
     }
@@ -50,7 +50,7 @@ fn put_base(out: &mut Room, w: Sink, base: u8) -> Sink {
 }
 
 // How an address reads it.
-fn put_reading(out: &mut Room, w: Sink, quarter: u8) -> Sink {
+fn put_reading(out: &mut Room, w: Writer, quarter: u8) -> Writer {
     match quarter {
         0 => w,
         1 => put(out, w, b"inverse of "),
@@ -60,7 +60,7 @@ fn put_reading(out: &mut Room, w: Sink, quarter: u8) -> Sink {
 }
 
 // An address, by what it reads.
-fn put_address(out: &mut Room, w: Sink, address: u8) -> Sink {
+fn put_address(out: &mut Room, w: Writer, address: u8) -> Writer {
     let base = address % 64;
     let quarter = address / 64;
     if base != 0 {
@@ -74,7 +74,7 @@ fn put_address(out: &mut Room, w: Sink, address: u8) -> Sink {
 }
 
 // Connector k as an output, with its source.
-fn put_output(out: &mut Room, w: Sink, card: Card, k: u32) -> Sink
+fn put_output(out: &mut Room, w: Writer, card: Card, k: u32) -> Writer
     requires { ⌜ k < 16 ⌝ }
 {
     let row = card.connectors;
@@ -89,7 +89,7 @@ fn put_output(out: &mut Room, w: Sink, card: Card, k: u32) -> Sink
 }
 
 // The name of row r: inputs, cells, outputs.
-pub fn put_name(out: &mut Room, w: Sink, card: Card, r: u32) -> Sink
+pub fn put_name(out: &mut Room, w: Writer, card: Card, r: u32) -> Writer
     requires { ⌜ r < mostRows ⌝ }
 {
     if r < 16 {

@@ -1,9 +1,9 @@
 // Where things stand in a picture. Lengths are in pixels, of which a printed page has about 96 to the inch.
 ghost use Prim.Native.Nat.{_≤_, _<_, _+_};
 ghost use Rattle.diagram.specs.Page.{columns, mostRows};
-use scope::sink::Room;
-use scope::sink::Sink;
-use scope::sink::put_with;
+use program::writer::Room;
+use program::writer::Writer;
+use program::writer::put_with;
 use std::num::wrapping_add_u64;
 
 // `columns`: ticks side by side.
@@ -49,7 +49,7 @@ pub fn x_of(k: usize, wide: bool) -> u64
     }
 }
 
-pub fn put_x(out: &mut Room, w: Sink, command: &[u8], k: usize, wide: bool) -> Sink
+pub fn put_x(out: &mut Room, w: Writer, command: &[u8], k: usize, wide: bool) -> Writer
     requires { ⌜ k ≤ columns ⌝ }
 {
     put_with(out, w, command, x_of(k, wide), b"")

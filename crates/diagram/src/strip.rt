@@ -17,15 +17,15 @@ use crate::places::number_of;
 use crate::places::put_x;
 use crate::places::x_of;
 use card::card::Card;
-use scope::sink::Room;
-use scope::sink::Sink;
-use scope::sink::put;
-use scope::sink::put_with;
+use program::writer::Room;
+use program::writer::Writer;
+use program::writer::put;
+use program::writer::put_with;
 
 // ---- a wave
 
 // The height of a wave in its row.
-fn put_y(out: &mut Room, w: Sink, high: bool) -> Sink {
+fn put_y(out: &mut Room, w: Writer, high: bool) -> Writer {
     if high {
         return put(out, w, b"4");
     }
@@ -33,7 +33,7 @@ fn put_y(out: &mut Room, w: Sink, high: bool) -> Sink {
 }
 
 // A wave begins at the left, high or low.
-fn put_start(out: &mut Room, w: Sink, high: bool) -> Sink {
+fn put_start(out: &mut Room, w: Writer, high: bool) -> Writer {
     let a = put_with(out, w, b"<path class=\"w\" d=\"M", LEFT, b" ");
     put_y(out, a, high)
 }
@@ -44,13 +44,13 @@ fn shows(ticks: &Ticks, t: usize, i: u32) -> bool {
 }
 
 // The wave of a bit, with an edge where it differs from the tick before, in the first column too.
-fn put_wave(out: &mut Room, sink: Sink, ticks: &Ticks, s: Strip, i: u32) -> Sink
+fn put_wave(out: &mut Room, writer: Writer, ticks: &Ticks, s: Strip, i: u32) -> Writer
     requires { ⌜ Fits s ⌝ }
 {
     let start = s.start;
     let end = s.end;
     let mut last = shows(ticks, start, i);
-    let mut w = put_start(out, sink, last);
+    let mut w = put_start(out, writer, last);
     for t in start..end {
         let now = shows(ticks, t + 1, i);
         if now ^ last {
@@ -63,7 +63,7 @@ fn put_wave(out: &mut Room, sink: Sink, ticks: &Ticks, s: Strip, i: u32) -> Sink
 }
 
 // The wave goes on to column k, and there high or low.
-fn put_step(out: &mut Room, w: Sink, high: bool, k: usize, wide: bool) -> Sink
+fn put_step(out: &mut Room, w: Writer, high: bool, k: usize, wide: bool) -> Writer
     requires { ⌜ k ≤ columns ⌝ }
 {
     let a = put_x(out, w, b"H", k, wide);
@@ -74,7 +74,7 @@ fn put_step(out: &mut Room, w: Sink, high: bool, k: usize, wide: bool) -> Sink
 // ---- above and behind the rows
 
 // A text in the middle of column k.
-fn put_over(out: &mut Room, w: Sink, class: &[u8], k: usize, wide: bool) -> Sink
+fn put_over(out: &mut Room, w: Writer, class: &[u8], k: usize, wide: bool) -> Writer
     requires { ⌜ k ≤ columns ⌝ }
 {
     let a = put(out, w, b"<text class=\"");
@@ -89,7 +89,7 @@ fn put_over(out: &mut Room, w: Sink, class: &[u8], k: usize, wide: bool) -> Sink
 }
 
 // The number of a tick, over column k, if it is the first of the strip or ends in 0 or 5.
-fn put_number_over(out: &mut Room, w: Sink, number: u64, k: usize, wide: bool) -> Sink
+fn put_number_over(out: &mut Room, w: Writer, number: u64, k: usize, wide: bool) -> Writer
     requires { ⌜ k ≤ columns ⌝ }
 {
     if (k != 0) & (number % 5 != 0) {
@@ -100,7 +100,7 @@ fn put_number_over(out: &mut Room, w: Sink, number: u64, k: usize, wide: bool) -
 }
 
 // An F over a full tick.
-fn put_full_over(out: &mut Room, w: Sink, full: bool, k: usize, wide: bool) -> Sink
+fn put_full_over(out: &mut Room, w: Writer, full: bool, k: usize, wide: bool) -> Writer
     requires { ⌜ k ≤ columns ⌝ }
 {
     if !full {
@@ -110,7 +110,7 @@ fn put_full_over(out: &mut Room, w: Sink, full: bool, k: usize, wide: bool) -> S
     put(out, a, b"25\">F</text>\n")
 }
 
-fn put_column_head(out: &mut Room, w: Sink, number: u64, full: bool, k: usize, wide: bool) -> Sink
+fn put_column_head(out: &mut Room, w: Writer, number: u64, full: bool, k: usize, wide: bool) -> Writer
     requires { ⌜ k ≤ columns ⌝ }
 {
     let a = put_number_over(out, w, number, k, wide);
@@ -118,14 +118,14 @@ fn put_column_head(out: &mut Room, w: Sink, number: u64, full: bool, k: usize, w
 }
 
 // What stands over each column.
-fn put_numbers(out: &mut Room, sink: Sink, ticks: &Ticks, s: Strip) -> Sink
+fn put_numbers(out: &mut Room, writer: Writer, ticks: &Ticks, s: Strip) -> Writer
     requires { ⌜ Fits s ⌝ }
 {
     let start = s.start;
     let end = s.end;
     let mut w = put_with(
         out,
-        sink,
+        writer,
         b"<text class=\"n\" x=\"",
         LEFT - 40,
         b"\" y=\"12\">tick</text>\n",
@@ -139,7 +139,7 @@ fn put_numbers(out: &mut Room, sink: Sink, ticks: &Ticks, s: Strip) -> Sink
 }
 
 // A path of a colour.
-fn put_path(out: &mut Room, w: Sink, colour: &[u8]) -> Sink {
+fn put_path(out: &mut Room, w: Writer, colour: &[u8]) -> Writer {
     let a = put(out, w, b"<path stroke=\"#");
     let b = put(out, a, colour);
     put(out, b, b"\" d=\"M0 0")
@@ -148,20 +148,20 @@ fn put_path(out: &mut Room, w: Sink, colour: &[u8]) -> Sink {
 // Upright lines down to `low`, of n columns, at every `step` of them counted from `offset`.
 fn put_grid(
     out: &mut Room,
-    sink: Sink,
+    writer: Writer,
     colour: &[u8],
     n: usize,
     wide: bool,
     step: usize,
     offset: usize,
     low: u64,
-) -> Sink
+) -> Writer
     requires { ⌜ n ≤ columns ⌝ }
     requires { ⌜ 0 < step ⌝ }
     requires { ⌜ offset < 5 ⌝ }
 {
     let end = n + 1;
-    let mut w = put_path(out, sink, colour);
+    let mut w = put_path(out, writer, colour);
     for k in 0..end {
         if (offset + k) % step == 0 {
             w = put_upright(out, w, k, wide, low);
@@ -171,7 +171,7 @@ fn put_grid(
 }
 
 // One of them, at column k.
-fn put_upright(out: &mut Room, w: Sink, k: usize, wide: bool, low: u64) -> Sink
+fn put_upright(out: &mut Room, w: Writer, k: usize, wide: bool, low: u64) -> Writer
     requires { ⌜ k ≤ columns ⌝ }
 {
     let a = put_x(out, w, b"M", k, wide);
@@ -181,7 +181,7 @@ fn put_upright(out: &mut Room, w: Sink, k: usize, wide: bool, low: u64) -> Sink
 // ---- rows
 
 // The boxes of row r, if it is a cell's.
-fn put_row_boxes(out: &mut Room, w: Sink, ticks: &Ticks, s: Strip, r: u32, y: u64) -> Sink
+fn put_row_boxes(out: &mut Room, w: Writer, ticks: &Ticks, s: Strip, r: u32, y: u64) -> Writer
     requires { ⌜ Fits s ⌝ }
     requires { ⌜ r < mostRows ⌝ }
 {
@@ -194,10 +194,10 @@ fn put_row_boxes(out: &mut Room, w: Sink, ticks: &Ticks, s: Strip, r: u32, y: u6
 }
 
 // The boxes of all cells.
-fn put_all_boxes(out: &mut Room, sink: Sink, ticks: &Ticks, s: Strip, rows: u64) -> Sink
+fn put_all_boxes(out: &mut Room, writer: Writer, ticks: &Ticks, s: Strip, rows: u64) -> Writer
     requires { ⌜ Fits s ⌝ }
 {
-    let mut w = sink;
+    let mut w = writer;
     let mut y = NUMBERS;
     for r in 0..ROWS {
         if words::bit(rows, r) {
@@ -209,7 +209,7 @@ fn put_all_boxes(out: &mut Room, sink: Sink, ticks: &Ticks, s: Strip, rows: u64)
 }
 
 // A row with its label and its wave.
-fn put_row(out: &mut Room, w: Sink, card: Card, ticks: &Ticks, s: Strip, r: u32, y: u64) -> Sink
+fn put_row(out: &mut Room, w: Writer, card: Card, ticks: &Ticks, s: Strip, r: u32, y: u64) -> Writer
     requires { ⌜ Fits s ⌝ }
     requires { ⌜ r < mostRows ⌝ }
 {
@@ -233,10 +233,10 @@ fn put_row(out: &mut Room, w: Sink, card: Card, ticks: &Ticks, s: Strip, r: u32,
 }
 
 // All rows, one below the other.
-fn put_rows(out: &mut Room, sink: Sink, card: Card, ticks: &Ticks, s: Strip, rows: u64) -> Sink
+fn put_rows(out: &mut Room, writer: Writer, card: Card, ticks: &Ticks, s: Strip, rows: u64) -> Writer
     requires { ⌜ Fits s ⌝ }
 {
-    let mut w = sink;
+    let mut w = writer;
     let mut y = NUMBERS;
     for r in 0..ROWS {
         if words::bit(rows, r) {
@@ -248,7 +248,7 @@ fn put_rows(out: &mut Room, sink: Sink, card: Card, ticks: &Ticks, s: Strip, row
 }
 
 // The lines between ticks, and stronger ones behind every fifth.
-fn put_grids(out: &mut Room, w: Sink, s: Strip, low: u64) -> Sink
+fn put_grids(out: &mut Room, w: Writer, s: Strip, low: u64) -> Writer
     requires { ⌜ Fits s ⌝ }
 {
     let n = s.end - s.start;
@@ -268,13 +268,13 @@ fn put_grids(out: &mut Room, w: Sink, s: Strip, low: u64) -> Sink
 // The ticks side by side, with the rows of a set, which end at `low`.
 pub fn put_strip(
     out: &mut Room,
-    w: Sink,
+    w: Writer,
     card: Card,
     ticks: &Ticks,
     s: Strip,
     rows: u64,
     low: u64,
-) -> Sink
+) -> Writer
     requires { ⌜ Fits s ⌝ }
 {
     let a = put_numbers(out, w, ticks, s);

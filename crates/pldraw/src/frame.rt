@@ -9,13 +9,13 @@ use scope::notes::has_refused;
 use scope::notes::has_rest;
 use scope::notes::put_refused;
 use scope::notes::put_rest;
-use scope::sink::Room;
-use scope::sink::Sink;
-use scope::sink::put;
-use scope::sink::put_number;
-use scope::sink::put_with;
-use told::Text;
-use told::Told;
+use program::writer::Room;
+use program::writer::Writer;
+use program::writer::put;
+use program::writer::put_number;
+use program::writer::put_with;
+use program::report::Text;
+use program::report::Report;
 
 // What a picture shows: n ticks, those before them, all ticks that ran, and the rows as a set, in the order in which they are drawn.
 pub struct Shape {
@@ -42,10 +42,10 @@ fn note_height(has: bool) -> u64
 }
 
 // The height of all that is written above the strips.
-pub fn head_height(told: Told) -> u64
+pub fn head_height(report: Report) -> u64
     ensures { λ r. ⌜ r ≤ highestStrip ⌝ }
 {
-    HEAD + note_height(has_refused(told)) + note_height(has_rest(told))
+    HEAD + note_height(has_refused(report)) + note_height(has_rest(report))
 }
 
 // The height of a picture of n ticks, in strips of a height below its head.
@@ -77,13 +77,13 @@ fn note_width(has: bool, text: Text) -> u64 {
 }
 
 // The width of a picture with so wide a strip. The head has room in it, too.
-pub fn width_for(strip: u64, told: Told) -> u64 {
-    let refused = note_width(has_refused(told), told.line);
-    let rest = note_width(has_rest(told), told.rest);
+pub fn width_for(strip: u64, report: Report) -> u64 {
+    let refused = note_width(has_refused(report), report.line);
+    let rest = note_width(has_rest(report), report.rest);
     wider(wider(strip, NARROWEST), wider(refused, rest))
 }
 
-pub fn put_size(out: &mut Room, w: Sink, width: u64, height: u64) -> Sink {
+pub fn put_size(out: &mut Room, w: Writer, width: u64, height: u64) -> Writer {
     let a = put_with(
         out,
         w,
@@ -100,7 +100,7 @@ pub fn put_size(out: &mut Room, w: Sink, width: u64, height: u64) -> Sink {
 
 // The fonts, the colours and the white ground: w waves, n numbers, f the mark of a full tick, b the box of a cell that woke, a that of one that only the
 // full tick worked out, e what was refused.
-pub fn put_style(out: &mut Room, w: Sink) -> Sink {
+pub fn put_style(out: &mut Room, w: Writer) -> Writer {
     let a = put(
         out,
         w,
@@ -131,7 +131,7 @@ pub fn put_style(out: &mut Room, w: Sink) -> Sink {
 // ---- the head
 
 // How to see the ticks behind those that are shown, if there are any.
-fn put_more(out: &mut Room, w: Sink, next: u64, total: u64) -> Sink {
+fn put_more(out: &mut Room, w: Writer, next: u64, total: u64) -> Writer {
     if total < next {
         return w;
     }
@@ -139,7 +139,7 @@ fn put_more(out: &mut Room, w: Sink, next: u64, total: u64) -> Sink {
 }
 
 // Where no tick is shown.
-fn put_none(out: &mut Room, w: Sink, total: u64) -> Sink {
+fn put_none(out: &mut Room, w: Writer, total: u64) -> Writer {
     if total == 0 {
         return put(out, w, b"no tick ran");
     }
@@ -147,7 +147,7 @@ fn put_none(out: &mut Room, w: Sink, total: u64) -> Sink {
 }
 
 // "ticks 1 to 300 of 305; --from 301 shows the next"
-fn put_span(out: &mut Room, w: Sink, p: Shape) -> Sink {
+fn put_span(out: &mut Room, w: Writer, p: Shape) -> Writer {
     if p.n == 0 {
         return put_none(out, w, p.total);
     }
@@ -158,7 +158,7 @@ fn put_span(out: &mut Room, w: Sink, p: Shape) -> Sink {
 }
 
 // The title.
-fn put_title(out: &mut Room, w: Sink, p: Shape) -> Sink {
+fn put_title(out: &mut Room, w: Writer, p: Shape) -> Writer {
     let a = put(
         out,
         w,
@@ -169,7 +169,7 @@ fn put_title(out: &mut Room, w: Sink, p: Shape) -> Sink {
 }
 
 // What the tints and marks mean.
-fn put_legend(out: &mut Room, w: Sink) -> Sink {
+fn put_legend(out: &mut Room, w: Writer) -> Writer {
     let a = put(
         out,
         w,
@@ -188,33 +188,33 @@ fn put_legend(out: &mut Room, w: Sink) -> Sink {
 }
 
 // A line below the legend begins, at a height.
-fn put_note(out: &mut Room, w: Sink, y: u64) -> Sink {
+fn put_note(out: &mut Room, w: Writer, y: u64) -> Writer {
     put_with(out, w, b"<text class=\"e\" x=\"10\" y=\"", y, b"\">")
 }
 
 // The lines that were refused, if there are any.
-fn put_refusals(out: &mut Room, w: Sink, told: Told) -> Sink {
-    if !has_refused(told) {
+fn put_refusals(out: &mut Room, w: Writer, report: Report) -> Writer {
+    if !has_refused(report) {
         return w;
     }
     let a = put_note(out, w, HEAD + 7);
-    let b = put_refused(out, a, told, Form::Picture);
+    let b = put_refused(out, a, report, Form::Picture);
     put(out, b, b"</text>\n")
 }
 
 // A last line that was not entered.
-fn put_unended(out: &mut Room, w: Sink, told: Told) -> Sink {
-    if !has_rest(told) {
+fn put_unended(out: &mut Room, w: Writer, report: Report) -> Writer {
+    if !has_rest(report) {
         return w;
     }
-    let a = put_note(out, w, HEAD + 7 + note_height(has_refused(told)));
-    let b = put_rest(out, a, told, Form::Picture);
+    let a = put_note(out, w, HEAD + 7 + note_height(has_refused(report)));
+    let b = put_rest(out, a, report, Form::Picture);
     put(out, b, b"</text>\n")
 }
 
-pub fn put_head(out: &mut Room, w: Sink, p: Shape, told: Told) -> Sink {
+pub fn put_head(out: &mut Room, w: Writer, p: Shape, report: Report) -> Writer {
     let a = put_title(out, w, p);
     let b = put_legend(out, a);
-    let c = put_refusals(out, b, told);
-    put_unended(out, c, told)
+    let c = put_refusals(out, b, report);
+    put_unended(out, c, report)
 }

@@ -16,12 +16,13 @@ use diagram::kept::WORDS;
 use diagram::kept::keep;
 use diagram::kept::why_of;
 use frame::Shape;
+use program::arguments;
 use scope::BUFFER;
 use scope::Feed;
 use scope::LINE;
 use scope::STORE;
-use scope::sink::ROOM;
-use scope::sink::empty;
+use program::writer::ROOM;
+use program::writer::empty;
 use std::num::wrapping_add_u64;
 
 // Ticks that were passed over: how many, and what the last of them showed.
@@ -157,26 +158,27 @@ fn draw(input: i32, from: u64) {
         &mut store,
     );
     let last = rest.feed;
-    let told = last.told;
+    let report = last.report;
     let shape = shape_of(start.count, drawn, rest.count);
     let mut out = [0u8; ROOM];
-    page::put_page(&mut out, empty(), drawn.card, &ticks, shape, told);
-    told::say(told);
+    page::put_page(&mut out, empty(), drawn.card, &ticks, shape, report);
+    program::report::say(report);
 }
 
 fn main() {
-    let o = opening::open_from(
+    let o = arguments::read(
         b"pldraw reads lines of a card and ticks, and draws a timing diagram of the ticks that ran, as an SVG picture.
 
 usage: pldraw [--from N] [FILE]     with no FILE it reads standard input
 
 A picture has 300 ticks, from tick N on, counted from 1. A tinted box is a cell that woke; where one points at it, a browser says why. Lines that were
-refused are told in the picture and on the error output.
+refused are reported in the picture and on the error output.
 
     pldraw first.lines > first.svg
 ",
+        arguments::FROM,
     );
-    if o.input != opening::NOTHING {
+    if o.input != arguments::NOTHING {
         draw(o.input, o.from);
     }
 }

@@ -20,12 +20,12 @@ use diagram::places::Strip;
 use diagram::places::end_of;
 use diagram::places::x_of;
 use diagram::strip::put_strip;
-use scope::sink::Room;
-use scope::sink::Sink;
-use scope::sink::flush;
-use scope::sink::put;
-use scope::sink::put_with;
-use told::Told;
+use program::writer::Room;
+use program::writer::Writer;
+use program::writer::flush;
+use program::writer::put;
+use program::writer::put_with;
+use program::report::Report;
 
 // How many rows a set has.
 fn count_rows(rows: u64) -> u64
@@ -43,14 +43,14 @@ fn count_rows(rows: u64) -> u64
 // A strip that begins at height y.
 fn put_strip_at(
     out: &mut Room,
-    w: Sink,
+    w: Writer,
     card: Card,
     ticks: &Ticks,
     s: Strip,
     rows: u64,
     low: u64,
     y: u64,
-) -> Sink
+) -> Writer
     requires { ⌜ Fits s ⌝ }
 {
     let a = put_with(out, w, b"<g transform=\"translate(0 ", y, b")\">\n");
@@ -61,20 +61,20 @@ fn put_strip_at(
 // The strips of a picture below its head, each with rows down to `low`.
 fn put_strips(
     out: &mut Room,
-    sink: Sink,
+    writer: Writer,
     card: Card,
     ticks: &Ticks,
     p: Shape,
     low: u64,
     head: u64,
-) -> Sink
+) -> Writer
     requires { ⌜ p .n ≤ keptTicks ⌝ }
     requires { ⌜ low ≤ highestStrip ⌝ }
     requires { ⌜ head ≤ highestStrip ⌝ }
 {
     let n = p.n;
     let rows = p.rows;
-    let mut w = sink;
+    let mut w = writer;
     let mut start: usize = 0;
     let mut y = head;
     while start < n {
@@ -97,29 +97,29 @@ fn is_wide(n: usize) -> bool {
 }
 
 // The width of a picture of n ticks.
-fn width_of(n: usize, told: Told) -> u64 {
-    width_for(x_of(end_of(0, n), is_wide(n)) + RIGHT, told)
+fn width_of(n: usize, report: Report) -> u64 {
+    width_for(x_of(end_of(0, n), is_wide(n)) + RIGHT, report)
 }
 
 // What stands above the strips, which have a height each.
-fn put_frame(out: &mut Room, w: Sink, p: Shape, told: Told, head: u64, strip: u64) -> Sink
+fn put_frame(out: &mut Room, w: Writer, p: Shape, report: Report, head: u64, strip: u64) -> Writer
     requires { ⌜ p .n ≤ keptTicks ⌝ }
     requires { ⌜ head ≤ highestStrip ⌝ }
     requires { ⌜ strip ≤ highestStrip ⌝ }
 {
     let n = p.n;
-    let a = put_size(out, w, width_of(n, told), height_of(n, head, strip));
+    let a = put_size(out, w, width_of(n, report), height_of(n, head, strip));
     let b = put_style(out, a);
-    put_head(out, b, p, told)
+    put_head(out, b, p, report)
 }
 
 // The picture, with rows named by the card's wiring. A write that fails ends it.
-pub fn put_page(out: &mut Room, w: Sink, card: Card, ticks: &Ticks, p: Shape, told: Told) -> Sink
+pub fn put_page(out: &mut Room, w: Writer, card: Card, ticks: &Ticks, p: Shape, report: Report) -> Writer
     requires { ⌜ p .n ≤ keptTicks ⌝ }
 {
     let low = NUMBERS + ROW * count_rows(p.rows);
-    let head = head_height(told);
-    let a = put_frame(out, w, p, told, head, low + GAP);
+    let head = head_height(report);
+    let a = put_frame(out, w, p, report, head, low + GAP);
     let b = put_strips(out, a, card, ticks, p, low, head);
     let c = put(out, b, b"</svg>\n");
     flush(out, c)

@@ -12,7 +12,10 @@ use libc::STDOUT_FILENO;
 use saved::record::RECORD_LENGTH;
 use steady::steady_for;
 use ticks::view::Input;
-use told::Told;
+use program::arguments;
+use program::report;
+use program::report::Report;
+use session::Event;
 
 fn put(text: &[u8]) {
     io::write_all(STDOUT_FILENO, text);
@@ -24,10 +27,10 @@ fn put_number(n: u64) {
 
 // ---- one line
 
-// Between two lines: the card, what is told of the lines so far, and the counts.
+// Between two lines: the card, the report of the lines so far, and the counts.
 struct Run {
     card: Card,
-    told: Told,
+    report: Report,
     // the input of the last tick that ran, and for how many ticks more with it the card is steady, unless a line has come since
     input: Input,
     known: bool,
@@ -94,28 +97,29 @@ fn after_tick(run: Run, before: Card, input: Input) -> Run {
 
 fn take_line(run: Run, text: &[u8], store: &mut [u8]) -> Run {
     let before = run.card;
-    let past = run.told;
+    let past = run.report;
     let stepped = scope::step(before, past, text, store);
     let card = stepped.card;
-    let told = stepped.told;
+    let report = stepped.report;
     let shown = stepped.shown;
     let mut next = run;
     next.card = card;
-    next.told = told;
+    next.report = report;
     if shown.ran {
         let input = shown.input;
         return after_tick(next, before, input);
     }
-    let t = console::tick_line(text);
-    if t.ok {
-        return next;
+    let event = stepped.event;
+    match event {
+        Event::Tick(_) => next,
+        Event::Load(_) => after_line(next),
+        Event::Line(_) => after_line(next),
     }
-    after_line(next)
 }
 
 // ---- the input
 
-// The line that a reader has given; where it has given none, what stands behind the last LF is told.
+// The line that a reader has given; where it has given none, what is after the last LF is reported.
 fn take_given(run: Run, r: Reader, block: &[u8], store: &mut [u8]) -> Run
     requires { ⌜ r .start ≤ r .end ⌝ }
     requires { ⌜ r .end ≤ length (now block) ⌝ }
@@ -124,9 +128,9 @@ fn take_given(run: Run, r: Reader, block: &[u8], store: &mut [u8]) -> Run
     let end = r.end;
     let text = &block[start..end];
     if !r.going {
-        let told = told::at_end(run.told, text);
+        let report = report::at_end(run.report, text);
         let mut last = run;
-        last.told = told;
+        last.report = report;
         return last;
     }
     take_line(run, text, store)
@@ -134,7 +138,7 @@ fn take_given(run: Run, r: Reader, block: &[u8], store: &mut [u8]) -> Run
 
 fn fresh_run() -> Run {
     let card = card::card::fresh();
-    let told = told::none();
+    let report = report::none();
     let input = Input {
         code: 0,
         sample: 0,
@@ -148,7 +152,7 @@ fn fresh_run() -> Run {
     };
     Run {
         card: card,
-        told: told,
+        report: report,
         input: input,
         known: false,
         left: 0,
@@ -204,24 +208,25 @@ fn put_counts(c: Counts) {
 }
 
 fn main() {
-    let input = opening::open_input(
+    let o = arguments::read(
         b"plskip reads lines of a card and ticks, and prints how many of the ticks a processor may sleep through.
 
 usage: plskip [FILE]     with no FILE it reads standard input
 
 In a tick that is slept through nothing changes but counts, and none comes to its end: the outputs stay as they
 are, and the tick may be made later, with others at once. The processor is awake for the other ticks, and
-wakes where an input changes and where a line comes. Idle ticks are left out. What was refused is told on the
+wakes where an input changes and where a line comes. Idle ticks are left out. What was refused is reported on the
 error output.
 
     plskip examples/clock.lines
 ",
+        0,
     );
-    if input == opening::NOTHING {
+    if o.input == arguments::NOTHING {
         return;
     }
-    let run = run_from(input);
-    let told = run.told;
-    told::say(told);
+    let run = run_from(o.input);
+    let report = run.report;
+    program::report::say(report);
     put_counts(run.counts);
 }

@@ -15,13 +15,14 @@ use scope::notes::has_refused;
 use scope::notes::has_rest;
 use scope::notes::put_refused;
 use scope::notes::put_rest;
-use scope::sink::Room;
-use scope::sink::Sink;
-use scope::sink::flush;
-use scope::sink::put;
-use scope::sink::put_byte;
-use scope::sink::put_number;
-use told::Told;
+use program::writer::Room;
+use program::writer::Writer;
+use program::writer::flush;
+use program::writer::put;
+use program::writer::put_byte;
+use program::writer::put_number;
+use program::arguments;
+use program::report::Report;
 
 // The identifier of the wire that shows bit i of a tick's packed words: one printable byte.
 fn code_of(i: u32) -> u8
@@ -34,7 +35,7 @@ fn code_of(i: u32) -> u8
 // ---- the header
 
 // A wire that shows bit i, with a name that ends in a number.
-fn put_wire(out: &mut Room, s: Sink, i: u32, name: &[u8], n: u32) -> Sink
+fn put_wire(out: &mut Room, s: Writer, i: u32, name: &[u8], n: u32) -> Writer
     requires { ⌜ i < wires ⌝ }
 {
     let a = put(out, s, b"$var wire 1 ");
@@ -46,7 +47,7 @@ fn put_wire(out: &mut Room, s: Sink, i: u32, name: &[u8], n: u32) -> Sink
 }
 
 // Count wires from bit `from`, numbered from `first`.
-fn put_wires(out: &mut Room, s: Sink, from: u32, count: u32, name: &[u8], first: u32) -> Sink
+fn put_wires(out: &mut Room, s: Writer, from: u32, count: u32, name: &[u8], first: u32) -> Writer
     requires { ⌜ from + count ≤ wires ⌝ }
     requires { ⌜ first ≤ 1 ⌝ }
 {
@@ -57,26 +58,26 @@ fn put_wires(out: &mut Room, s: Sink, from: u32, count: u32, name: &[u8], first:
     w
 }
 
-fn put_scope(out: &mut Room, s: Sink, name: &[u8]) -> Sink {
+fn put_scope(out: &mut Room, s: Writer, name: &[u8]) -> Writer {
     let a = put(out, s, b"$scope module ");
     let b = put(out, a, name);
     put(out, b, b" $end\n")
 }
 
-fn end_scope(out: &mut Room, s: Sink) -> Sink {
+fn end_scope(out: &mut Room, s: Writer) -> Writer {
     put(out, s, b"$upscope $end\n")
 }
 
 // A scope with one kind of wires.
 fn put_group(
     out: &mut Room,
-    s: Sink,
+    s: Writer,
     scope: &[u8],
     from: u32,
     count: u32,
     name: &[u8],
     first: u32,
-) -> Sink
+) -> Writer
     requires { ⌜ from + count ≤ wires ⌝ }
     requires { ⌜ first ≤ 1 ⌝ }
 {
@@ -86,7 +87,7 @@ fn put_group(
 }
 
 // The scope of the driven word, front and backplane. The names say so too, since some viewers show no scopes.
-fn put_driven(out: &mut Room, s: Sink) -> Sink {
+fn put_driven(out: &mut Room, s: Writer) -> Writer {
     let a = put_scope(out, s, b"driven");
     let b = put_wires(out, a, 16, 8, b"drive_BNC", 1);
     let c = put_wires(out, b, 24, 8, b"drive_TTL", 0);
@@ -94,7 +95,7 @@ fn put_driven(out: &mut Room, s: Sink) -> Sink {
 }
 
 // It is written at once, so that an output that takes nothing ends the program before it reads.
-fn put_header(out: &mut Room, s: Sink) -> Sink {
+fn put_header(out: &mut Room, s: Writer) -> Writer {
     let a = put(out, s, b"$version plwave $end\n");
     let b = put(
         out,
@@ -151,20 +152,20 @@ fn put_changes(out: &mut [u8], word: u64, set: u64) -> usize
 }
 
 // The bits of a word that are in a set.
-fn put_bits(out: &mut Room, s: Sink, word: u64, set: u64) -> Sink {
+fn put_bits(out: &mut Room, s: Writer, word: u64, set: u64) -> Writer {
     let mut bits = [0u8; 192];
     let n = put_changes(&mut bits, word, set);
     put(out, s, &bits[0..n])
 }
 
-fn put_time(out: &mut Room, s: Sink, t: u64) -> Sink {
+fn put_time(out: &mut Room, s: Writer, t: u64) -> Writer {
     let a = put_byte(out, s, b'#');
     let b = put_number(out, a, t);
     put_byte(out, b, b'\n')
 }
 
 // The first tick, whole.
-fn put_first(out: &mut Room, s: Sink, word: u64) -> Sink {
+fn put_first(out: &mut Room, s: Writer, word: u64) -> Writer {
     let a = put_time(out, s, 0);
     let b = put(out, a, b"$dumpvars\n");
     let c = put_bits(out, b, word, u64::MAX);
@@ -172,7 +173,7 @@ fn put_first(out: &mut Room, s: Sink, word: u64) -> Sink {
 }
 
 // A tick at time t, behind one that showed `last`.
-fn put_tick(out: &mut Room, s: Sink, t: u64, word: u64, last: u64) -> Sink {
+fn put_tick(out: &mut Room, s: Writer, t: u64, word: u64, last: u64) -> Writer {
     if t == 0 {
         return put_first(out, s, word);
     }
@@ -186,29 +187,29 @@ fn put_tick(out: &mut Room, s: Sink, t: u64, word: u64, last: u64) -> Sink {
 // ---- the end
 
 // The lines that were refused, as a comment.
-fn put_refusals(out: &mut Room, s: Sink, told: Told) -> Sink {
-    if !has_refused(told) {
+fn put_refusals(out: &mut Room, s: Writer, report: Report) -> Writer {
+    if !has_refused(report) {
         return s;
     }
     let a = put(out, s, b"$comment ");
-    let b = put_refused(out, a, told, Form::Wave);
+    let b = put_refused(out, a, report, Form::Wave);
     put(out, b, b" $end\n")
 }
 
 // A last line that was not entered.
-fn put_unended(out: &mut Room, s: Sink, told: Told) -> Sink {
-    if !has_rest(told) {
+fn put_unended(out: &mut Room, s: Writer, report: Report) -> Writer {
+    if !has_rest(report) {
         return s;
     }
     let a = put(out, s, b"$comment ");
-    let b = put_rest(out, a, told, Form::Wave);
+    let b = put_rest(out, a, report, Form::Wave);
     put(out, b, b" $end\n")
 }
 
 // What no wave shows, the time behind the last tick, and all that waits.
-fn finish(out: &mut Room, s: Sink, told: Told, t: u64) -> Sink {
-    let a = put_refusals(out, s, told);
-    let b = put_unended(out, a, told);
+fn finish(out: &mut Room, s: Writer, report: Report, t: u64) -> Writer {
+    let a = put_refusals(out, s, report);
+    let b = put_unended(out, a, report);
     let c = put_time(out, b, t);
     flush(out, c)
 }
@@ -218,8 +219,8 @@ fn write_wave(input: i32) {
     let mut block = [0u8; scope::BUFFER];
     let mut line = [0u8; scope::LINE];
     let mut store = [0u8; scope::STORE];
-    let mut out = [0u8; scope::sink::ROOM];
-    let mut s = put_header(&mut out, scope::sink::empty());
+    let mut out = [0u8; program::writer::ROOM];
+    let mut s = put_header(&mut out, program::writer::empty());
     let mut feed = scope::start();
     let mut last: u64 = 0;
     let mut t: u64 = 0;
@@ -237,24 +238,25 @@ fn write_wave(input: i32) {
         last = word;
         t += 1;
     }
-    let told = feed.told;
-    finish(&mut out, s, told, t);
-    told::say(told);
+    let report = feed.report;
+    finish(&mut out, s, report, t);
+    program::report::say(report);
 }
 
 fn main() {
-    let input = opening::open_input(
+    let o = arguments::read(
         b"plwave reads lines of a card and ticks, and writes a wave file (Value Change Dump) of the ticks that ran.
 
 usage: plwave [FILE]     with no FILE it reads standard input
 
-Each tick that ran is one unit of time; tick 1 is at time 0. Lines that were refused are told in a comment at the end and on the error output.
+Each tick that ran is one unit of time; tick 1 is at time 0. Lines that were refused are reported in a comment at the end and on the error output.
 
     plwave first.lines > first.vcd
     gtkwave first.vcd examples/card.gtkw
 ",
+        0,
     );
-    if input != opening::NOTHING {
-        write_wave(input);
+    if o.input != arguments::NOTHING {
+        write_wave(o.input);
     }
 }

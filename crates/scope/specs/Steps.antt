@@ -1,15 +1,10 @@
--- What one line of input shows, and whether it is refused, beside what it leaves (`entered` of the console).
-use Prim.Native.Nat.{ℕ, _+_, _-_, _*_, _%_, _^_}
-use mathlib.Core.Bool.{Bool, true, false, cond}
-use mathlib.Core.List.{List}
-use lib.ListN.{length, take}
+-- What one line of input shows, beside what it leaves (`entered` of the session).
+use Prim.Native.Nat.{ℕ, _+_, _*_, _%_, _^_}
+use mathlib.Core.Bool.{true, false, cond}
 use Rattle.card.specs.declared.card.Card.{Card}
 use Rattle.ticks.specs.declared.tick.Answer.{Answer}
-use Rattle.ticks.specs.declared.tick.Ticked.{Ticked}
-use Rattle.console.specs.declared.TickLine.{TickLine}
-use Rattle.console.specs.Console.{tickLine, ticked, entered}
+use Rattle.session.specs.declared.TickDone.{TickDone}
 use Rattle.input.specs.Lines.{kept, blockLength}
-use Rattle.told.specs.Told.{isRefusal}
 use Rattle.scope.specs.declared.Shown.{Shown}
 use Rattle.scope.specs.declared.Words.{Words}
 
@@ -31,23 +26,12 @@ nothing =
       words = record { levels = 0; driven = 0; cells = 0; woken = 0 };
     }
 
-unfoldable pub shownBy : TickLine → Ticked → Shown
-shownBy l t =
+-- what a tick shows that left this card, with the levels that the card read in it
+unfoldable pub shownIn : TickDone → Card → Shown
+shownIn t c =
     cond (t .answer .ran)
-    (record { ran = true; full = l .full; input = l .input; words = wordsOf (t .card .memory .levels) (t .answer) })
+    (record { ran = true; full = t .full; input = t .input; words = wordsOf (c .memory .levels) (t .answer) })
     nothing
-
--- what a line shows to a card of n cells
-unfoldable pub shownAt : ℕ → Card → List ℕ → Shown
-shownAt n c t = cond (tickLine t .ok) (shownBy (tickLine t) (ticked n c t)) nothing
-
--- what a line prints, without the LF at its end
-abbrev pub withoutLf : List ℕ → List ℕ
-withoutLf printed = take (length printed - 1) printed
-
--- a tick is not refused, and another line where it prints a refusal
-unfoldable pub refusedAt : ℕ → Card → List ℕ → List ℕ → Bool
-refusedAt n c t store = cond (tickLine t .ok) false (isRefusal (withoutLf (entered n c t store .printed)))
 
 -- the bytes of the block that a program lends: a line that has not ended, and a block of input
 abbrev pub bufferLength : ℕ

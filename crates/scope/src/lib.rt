@@ -1,40 +1,41 @@
 // What the ticks of an input show, one after the other, for programs that make pictures of them.
 //
-// `step` is one line of input: it leaves the card and the store that a line of plrun leaves, and gives what a tick showed in place of what it prints.
-// `next` goes on to the next tick that ran. It takes constant memory, whatever the input: what `input::next_line` asks for, and the store. No contract
-// can say which bytes are read. `sink` is the way back: what such a program writes; and `notes` what it says of lines that no picture shows.
+// `step` is one line of input: it leaves the card and the store that a line of plrun leaves, and gives
+// what a tick showed in place of what it prints. `next` goes on to the next tick that ran. It takes
+// constant memory, whatever the input: what `input::next_line` asks for, and the store. No contract can
+// say which bytes are read. `notes` is what a picture says of lines that it does not show.
 pub mod notes;
-pub mod sink;
 
 ghost use mathlib.Core.Bool.{true};
 ghost use mathlib.Core.Path.{_≡_};
-ghost use Prim.Native.Nat.{_≤_, _<_, _-_};
+ghost use Prim.Native.Nat.{_≤_, _<_};
 ghost use lib.ListN.{length};
-ghost use Rattle.card.specs.Address.{cellsFor};
 ghost use Rattle.card.specs.Fresh.{fresh};
-ghost use Rattle.console.specs.Console.{entered};
 ghost use Rattle.scope.specs.Steps;
-ghost use Rattle.told.specs.Told.{isRefusal, countedIf};
-ghost use Rattle.scope.specs.Steps.{wordsOf, shownBy, shownAt, withoutLf, refusedAt, bufferLength};
+ghost use Rattle.scope.specs.Steps.{wordsOf, shownIn, bufferLength};
 use card::card::Card;
-use console::LONGEST_PRINT;
-use console::TickLine;
 use input::Reader;
 use input::next_line;
+use program::report;
+use program::report::Report;
 use saved::record::RECORD_LENGTH;
+use session::Event;
+use session::LONGEST_PRINT;
+use session::TickDone;
+use session::refusal_of;
 use ticks::tick::Answer;
-use ticks::tick::Ticked;
 use ticks::view::Input;
-use told::Told;
 
-// What a program lends for the whole of an input: the block, the line that has not ended, and "The program's store starts as 308 zeros".
+// What a program lends for the whole of an input: the block, the line that has not ended, and "The
+// program's store starts as 308 zeros".
 pub const BUFFER: usize = input::BUFFER;
 
 pub const LINE: usize = input::LINE;
 
 pub const STORE: usize = RECORD_LENGTH;
 
-// The words of a tick: the levels, BNC1 first, what the card drove, the outputs of the cells 1 to 16, and which of these woke.
+// The words of a tick: the levels, BNC1 first, what the card drove, the outputs of the cells 1 to 16,
+// and which of these woke.
 pub struct Words {
     pub levels: u16,
     pub driven: u16,
@@ -42,7 +43,8 @@ pub struct Words {
     pub woken: u16,
 }
 
-// What a line showed: nothing, unless it was a tick that ran. Then which kind of tick it was, what came in with it, and its words.
+// What a line showed: nothing, unless it was a tick that ran. Then which kind of tick it was, what came
+// in with it, and its words.
 pub struct Shown {
     pub ran: bool,
     pub full: bool,
@@ -50,11 +52,12 @@ pub struct Shown {
     pub words: Words,
 }
 
-// The card after a line, what the line showed, and what is told of the lines so far.
+// The card after a line, what the line did and showed, and the report of the lines so far.
 pub struct Stepped {
     pub card: Card,
+    pub event: Event,
     pub shown: Shown,
-    pub told: Told,
+    pub report: Report,
 }
 
 // Between two lines.
@@ -65,7 +68,7 @@ pub struct Feed {
     // what the last line showed
     pub shown: Shown,
     pub reader: Reader,
-    pub told: Told,
+    pub report: Report,
 }
 
 // ---- a line
@@ -115,76 +118,48 @@ pub fn packed(w: Words) -> u64
     w.levels as u64 + driven + cells + woken
 }
 
-// What the tick of a line showed.
-fn shown_by(line: TickLine, t: Ticked) -> Shown
-    ensures { λ r. ⌜ r ≡ shownBy line t ⌝ }
+// What a tick showed that left this card.
+fn shown_in(t: TickDone, card: Card) -> Shown
+    ensures { λ r. ⌜ r ≡ shownIn t card ⌝ }
 {
     let a = t.answer;
     if !a.ran {
         return nothing();
     }
-    let card = t.card;
     let m = card.memory;
     let words = words_of(m.levels, a);
-    let input = line.input;
+    let input = t.input;
     Shown {
         ran: true,
-        full: line.full,
+        full: t.full,
         input: input,
         words: words,
     }
 }
 
-// How many bytes are printed before the LF.
-fn before_lf(n: usize) -> usize
-    ensures { λ r. ⌜ (r ≡ n - 1) × (r ≤ n) ⌝ }
-{
-    if n == 0 {
-        return 0;
-    }
-    n - 1
-}
-
-// A line that is no tick, to a card. What it prints is left out; whether it was refused is told.
-fn step_line(card: Card, told: Told, text: &[u8], store: &mut [u8]) -> Stepped
-    ensures { λ r. ⌜ r .card ≡ entered (cellsFor (card .size)) card (now (text .entry)) (now (store .entry)) .card ⌝ }
-    ensures { λ r. ⌜ now (store .exit) ≡ entered (cellsFor (card .size)) card (now (text .entry)) (now (store .entry)) .store ⌝ }
-    ensures { λ r. ⌜ r .shown ≡ Steps.nothing ⌝ }
-    ensures { λ r. ⌜ r .told .refused ≡ countedIf (isRefusal (withoutLf (entered (cellsFor (card .size)) card (now (text .entry)) (now (store .entry)) .printed))) (told .refused) ⌝ }
-{
-    let mut out = [0u8; LONGEST_PRINT];
-    let entered = console::enter(card, text, store, &mut out);
-    let next = entered.card;
-    let shown = nothing();
-    let len = before_lf(entered.len);
-    let after = told::after(told, text, &out[0..len]);
-    Stepped {
-        card: next,
-        shown: shown,
-        told: after,
+// What a line showed that left this card.
+fn shown_by(event: Event, card: Card) -> Shown {
+    match event {
+        Event::Tick(t) => shown_in(t, card),
+        Event::Load(_) => nothing(),
+        Event::Line(_) => nothing(),
     }
 }
 
 // One line of input, without its LF: a tick, a load of the store, or a card line.
-pub fn step(card: Card, told: Told, text: &[u8], store: &mut [u8]) -> Stepped
-    ensures { λ r. ⌜ r .card ≡ entered (cellsFor (card .size)) card (now (text .entry)) (now (store .entry)) .card ⌝ }
-    ensures { λ r. ⌜ now (store .exit) ≡ entered (cellsFor (card .size)) card (now (text .entry)) (now (store .entry)) .store ⌝ }
-    ensures { λ r. ⌜ r .shown ≡ shownAt (cellsFor (card .size)) card (now (text .entry)) ⌝ }
-    ensures { λ r. ⌜ r .told .refused ≡ countedIf (refusedAt (cellsFor (card .size)) card (now (text .entry)) (now (store .entry))) (told .refused) ⌝ }
-{
-    let t = console::tick_line(text);
-    if t.ok {
-        let done = console::do_tick(card, t);
-        let next = done.card;
-        let shown = shown_by(t, done);
-        let after = told::after(told, text, b"T");
-        return Stepped {
-            card: next,
-            shown: shown,
-            told: after,
-        };
+pub fn step(card: Card, past: Report, text: &[u8], store: &mut [u8]) -> Stepped {
+    let mut out = [0u8; LONGEST_PRINT];
+    let entered = session::enter(card, text, store, &mut out);
+    let next = entered.card;
+    let event = entered.event;
+    let shown = shown_by(event, next);
+    let report = report::after(past, text, refusal_of(event));
+    Stepped {
+        card: next,
+        event: event,
+        shown: shown,
+        report: report,
     }
-    step_line(card, told, text, store)
 }
 
 // ---- the input
@@ -199,25 +174,25 @@ pub fn start() -> Feed
     let card = card::card::fresh();
     let shown = nothing();
     let reader = input::start();
-    let told = told::none();
+    let report = report::none();
     Feed {
         before: card,
         card: card,
         shown: shown,
         reader: reader,
-        told: told,
+        report: report,
     }
 }
 
-// Where no further line comes: what stands behind the last LF is told.
+// Where no further line comes: what is after the last LF is reported.
 fn past(feed: Feed, r: Reader, text: &[u8]) -> Feed
     ensures { λ f. ⌜ (f .reader .end ≡ r .end) × (f .reader .n ≡ r .n) × (f .reader .left ≡ r .left) ⌝ }
 {
     let mut f = feed;
     f.shown = nothing();
     f.reader = r;
-    let told = told::at_end(feed.told, text);
-    f.told = told;
+    let report = report::at_end(feed.report, text);
+    f.report = report;
     f
 }
 
@@ -226,16 +201,16 @@ fn taken(feed: Feed, r: Reader, text: &[u8], store: &mut [u8]) -> Feed
     ensures { λ f. ⌜ (f .reader .end ≡ r .end) × (f .reader .n ≡ r .n) × (f .reader .left ≡ r .left) ⌝ }
 {
     let card = feed.card;
-    let stepped = step(card, feed.told, text, store);
+    let stepped = step(card, feed.report, text, store);
     let next = stepped.card;
     let shown = stepped.shown;
-    let told = stepped.told;
+    let report = stepped.report;
     Feed {
         before: card,
         card: next,
         shown: shown,
         reader: r,
-        told: told,
+        report: report,
     }
 }
 

@@ -1,0 +1,2 @@
+-- Laws of what programs share.
+pub mod Numbers

@@ -1,0 +1,26 @@
+-- `program::report::first_refused` meets its contract.
+use borrow.Author.Needs.{needs}
+use Rattle.program.proofs.report.first_refused.Statement.{statement}
+use Rattle.program.proofs.report.first_refused.Tie as tie
+
+text-of-requires : tie.Need-text-of-requires
+text-of-requires c κs = search needs
+
+one-more-requires : tie.Need-one-more-requires
+one-more-requires c κs = search needs
+
+one-more-requires-2 : tie.Need-one-more-requires-2
+one-more-requires-2 c κs = search needs
+
+returns : tie.Need-returns
+returns c =
+    let text = c .before .before .before .text-of .ensures in
+    let r = c .before .before .before .before .before .args .report in
+    let k = c .before .before .before .before .before .args .k in
+    let lines = c .before .one-more .ensures in
+    let refused = c .one-more2 .ensures in
+    λ i. record { lines = lines i; refused = refused i; number = lines i; k = k; line = text i; rest = r .rest }
+
+pub first-refused-spec : {M : Type 1} → statement M
+first-refused-spec =
+    tie.close (tie.spec text-of-requires one-more-requires one-more-requires-2 returns)

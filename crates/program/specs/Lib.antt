@@ -1,0 +1,4 @@
+-- What a reader must believe: the definitions that the contracts cite.
+pub mod Report
+pub mod Words
+pub mod Writer

@@ -1,0 +1,3 @@
+-- The proofs of the console.
+pub mod Chains
+pub mod Long
