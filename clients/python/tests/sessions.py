@@ -241,5 +241,5 @@ class RackSession:
 def stored_files() -> Iterator[Path]:
     """The sessions in crates/*/data: every file of lines."""
     for path in sorted(CRATES.glob("*/data/*")):
-        if path.suffix in (".in", ".lines"):
+        if path.suffix in (".in", ".lines", ".wiring", ".txt"):
             yield path
