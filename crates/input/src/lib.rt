@@ -29,6 +29,8 @@ pub struct Reader {
     pub n: usize,
     // whether a line was given; none is at the input's end, and where a read failed. While the next line is looked for: whether one may come
     pub going: bool,
+    // whether the last read failed
+    pub failed: bool,
     // lines that may still be given, and reads that may be made
     pub left: u64,
 }
@@ -70,26 +72,71 @@ pub fn keep(line: &mut [u8], text: &[u8]) -> usize
     text::copy(line, 0, &text[0..n])
 }
 
-// One read, to a place of a block. Where it fails, it gives no bytes.
-fn read_at(input: i32, block: &mut [u8], at: usize) -> usize
+// How many bytes a read gave, and whether it failed: then it gave none, and errno says why.
+pub struct Got {
+    pub n: usize,
+    pub failed: bool,
+}
+
+// One read, to a place of a block.
+fn read_at(input: i32, block: &mut [u8], at: usize) -> Got
     requires { ⌜ at + blockLength ≤ length (now block) ⌝ }
-    ensures { λ r. ⌜ r ≤ blockLength ⌝ }
+    ensures { λ r. ⌜ r .n ≤ blockLength ⌝ }
     ensures { λ r. ⌜ take at (now (block .exit)) ≡ take at (now (block .entry)) ⌝ }
 {
     let part = &mut block[at..at + BLOCK];
     let got = libc::read(input, part);
-    io::count(got, part)
+    let n = io::count(got, part);
+    Got {
+        n: n,
+        failed: got < 0,
+    }
 }
 
 // One read, behind the first `len` bytes of a line.
-pub fn read_behind(input: i32, block: &mut [u8], line: &[u8], len: usize) -> usize
+pub fn read_behind(input: i32, block: &mut [u8], line: &[u8], len: usize) -> Got
     requires { ⌜ len ≤ length (now line) ⌝ }
     requires { ⌜ len + blockLength ≤ length (now block) ⌝ }
-    ensures { λ r. ⌜ r ≤ blockLength ⌝ }
+    ensures { λ r. ⌜ r .n ≤ blockLength ⌝ }
     ensures { λ r. ⌜ take len (now (block .exit)) ≡ take len (now (line .entry)) ⌝ }
 {
     text::copy(block, 0, &line[0..len]);
     read_at(input, block, len)
+}
+
+// One read, to the end of a buffer from a place on.
+fn read_from(input: i32, buffer: &mut [u8], at: usize) -> Got
+    requires { ⌜ at ≤ length (now buffer) ⌝ }
+    ensures { λ r. ⌜ at + r .n ≤ length (now (buffer .entry)) ⌝ }
+{
+    let part = &mut buffer[at..];
+    let got = libc::read(input, part);
+    let n = io::count(got, part);
+    Got {
+        n: n,
+        failed: got < 0,
+    }
+}
+
+// Reads until a buffer is full or the input ends. Where a read fails, `n` counts the bytes before it.
+pub fn read_all(input: i32, buffer: &mut [u8]) -> Got
+    ensures { λ r. ⌜ r .n ≤ length (now (buffer .exit)) ⌝ }
+{
+    let mut n: usize = 0;
+    while n < buffer.len() {
+        let got = read_from(input, buffer, n);
+        if got.n == 0 {
+            return Got {
+                n: n,
+                failed: got.failed,
+            };
+        }
+        n = n + got.n;
+    }
+    Got {
+        n: n,
+        failed: false,
+    }
 }
 
 // ---- line by line
@@ -105,6 +152,7 @@ pub fn start() -> Reader
         end: 0,
         n: 0,
         going: true,
+        failed: false,
         left: READS,
     }
 }
@@ -123,6 +171,7 @@ fn behind(r: Reader, block: &[u8]) -> Reader
         end: end,
         n: r.n,
         going: r.left > 1,
+        failed: r.failed,
         left: r.left - 1,
     }
 }
@@ -140,13 +189,14 @@ fn refilled(r: Reader, input: i32, block: &mut [u8], line: &mut [u8]) -> Reader
     let n = r.n;
     let len = keep(line, &block[start..n]);
     let got = read_behind(input, block, line, len);
-    let all = len + got;
+    let all = len + got.n;
     let end = line_end(block, len, all);
     Reader {
         start: 0,
         end: end,
         n: all,
-        going: (got > 0) & (r.left > 1),
+        going: (got.n > 0) & (r.left > 1),
+        failed: got.failed,
         left: r.left - 1,
     }
 }
@@ -173,6 +223,7 @@ pub fn next_line(r: Reader, input: i32, block: &mut [u8], line: &mut [u8]) -> Re
         end: q.end,
         n: q.n,
         going: q.end < q.n,
+        failed: q.failed,
         left: q.left,
     }
 }

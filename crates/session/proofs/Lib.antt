@@ -1,3 +1,5 @@
--- The proofs of the console.
+-- The laws of a session.
 pub mod Chains
 pub mod Long
+pub mod Runs
+pub mod Turns

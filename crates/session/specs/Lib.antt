@@ -1,3 +1,5 @@
 -- What a reader must believe: the definitions that the contracts cite.
-pub mod Session
 pub mod Examples
+pub mod Feed
+pub mod Run
+pub mod Session

@@ -1,4 +1,7 @@
 // One line of input of a run: a tick, a load or a card line, and what it prints.
+pub mod feed;
+pub mod run;
+
 ghost use mathlib.Core.List.{_++_};
 ghost use mathlib.Core.Path.{_≡_};
 ghost use Prim.Native.Nat.{_≤_, _<_, _+_, _-_};

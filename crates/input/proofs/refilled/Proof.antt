@@ -39,8 +39,8 @@ same-length-2 c = search needs
 
 returns : tie.Need-returns
 returns c =
-    let e = c .before .before in
-    let b = e .before .before .before .before in
+    let e = c .before .before .before in
+    let b = e .before .before .before .before .before in
     let k = b .before .before .before .before .before in
     let o = k .before .before .before .before .before .before in
     let f = e .line-end .ensures in
@@ -57,7 +57,7 @@ returns c =
             inside = search needs;
             free = f .1 .1 .0;
             lf = f .1 .1 .1;
-            more = more-reads (ltb 0 (b .read-behind .result)) (o .args .r .left);
+            more = more-reads (ltb 0 (b .read-behind .result .n)) (o .args .r .left);
           };
       left = omega (arith, o .pre);
     }
