@@ -20,7 +20,7 @@ fn run_loop(path: &[u8]) -> bool {
         libc::close(input);
         return false;
     }
-    runner::run_from(input, output);
+    session::run::run_from(input, output);
     libc::close(output);
     libc::close(input);
     true
@@ -41,7 +41,7 @@ fn read_wrote(bytes: &mut [u8; MOST]) -> usize
 
 // What the run over the bytes in memory did is what plrun wrote, and it took them all.
 fn compare(session: &[u8], wrote: &[u8], output: &mut [u8]) {
-    let over = runner::run_over(session, output);
+    let over = session::run::run_over(session, output);
     let printed = over.printed;
     if over.taken != session.len() {
         put(b"Over lent bytes it stops elsewhere.\n");

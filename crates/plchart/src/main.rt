@@ -10,6 +10,8 @@ use card::chart::Entry;
 use card::chart::chart;
 use card::chart::entry_of;
 use card::limits::SMALL;
+use program::arguments::NOTHING;
+use program::arguments::NO_INPUT;
 
 // The most bytes of a field, ten digits and what ends it, and of a row. All rows have room in this many.
 const FIELD_MOST: usize = 11;
@@ -62,11 +64,11 @@ fn put_chart(out: &mut [u8; TEXT_MOST]) -> usize
 fn print_chart() {
     let mut out: [u8; TEXT_MOST] = [0; TEXT_MOST];
     let n = put_chart(&mut out);
-    io::write_all(1, &out[0..n]);
+    program::writer::write(&out[0..n]);
 }
 
 fn main() {
-    if opening::goes_on(
+    let given = program::arguments::read(
         b"plchart reads nothing, and prints the chart of the 256 addresses.
 
 usage: plchart
@@ -74,7 +76,9 @@ usage: plchart
 Each row has an address, its base, and 0 or 1 for inverted, edge and permitted: `129 1 0 1 1` is the rise of
 cell 1.
 ",
-    ) {
+        NO_INPUT,
+    );
+    if given.input != NOTHING {
         print_chart();
     }
 }

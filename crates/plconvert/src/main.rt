@@ -1,8 +1,8 @@
-// The program of document 02, "Records for cards already at sea": it reads one record, and writes the same settings in the other form, those of a card of
-// 32 cells in the old form of sixteen. A refusal is a
-// line `:N-k` on the error output.
+// The program of document 02, "Records for cards already at sea": it reads one record,
+// and writes the same settings in the other form, those of a card of 32 cells in the old form of
+// sixteen. A refusal is a line `:N-k` on the error output.
 use libc::STDERR_FILENO;
-use libc::STDOUT_FILENO;
+use program::arguments::NOTHING;
 
 // `:N-k` and LF.
 fn refuse(k: u8) {
@@ -12,21 +12,28 @@ fn refuse(k: u8) {
 }
 
 // One byte more than the longest record is read: an input that goes on is of no form's length.
+const ROOM: usize = 517;
+
 fn convert_from(input: i32) {
-    let mut bytes = [0u8; 517];
+    let mut bytes = [0u8; ROOM];
     let mut result = [0u8; 308];
-    let given = io::read_full(input, &mut bytes);
+    let got = input::read_all(input, &mut bytes);
+    if got.failed {
+        os::fail(b"the input");
+        return;
+    }
+    let given = input::least(got.n, ROOM);
     let done = convert::convert(&bytes[0..given], &mut result);
     if done.k != 0 {
         refuse(done.k);
         return;
     }
     let n = done.len;
-    io::write_all(STDOUT_FILENO, &result[0..n]);
+    program::writer::write(&result[0..n]);
 }
 
 fn main() {
-    let input = opening::open_input(
+    let given = program::arguments::read(
         b"plconvert reads a saved record and writes the same settings in the other form, for older or newer cards.
 
 usage: plconvert [FILE]     with no FILE it reads standard input
@@ -36,8 +43,9 @@ Where the record cannot be converted, nothing is written, and :N- and a number o
 
     plsave wiring.lines | plconvert > old.record
 ",
+        0,
     );
-    if input != opening::NOTHING {
-        convert_from(input);
+    if given.input != NOTHING {
+        convert_from(given.input);
     }
 }

@@ -352,7 +352,7 @@ fn run(input: i32) {
 }
 
 fn main() {
-    let input = opening::open_input(
+    let given = program::arguments::read(
         b"plrack reads calls on up to four cards that share a backplane, and prints an answer for each.
 
 usage: plrack [FILE]     with no FILE it reads standard input
@@ -367,8 +367,9 @@ A call prints its number, 0 where it is accepted, and what it answers; a line of
 
     plrack examples/two-cards.rack
 ",
+        0,
     );
-    if input != opening::NOTHING {
-        run(input);
+    if given.input != program::arguments::NOTHING {
+        run(given.input);
     }
 }

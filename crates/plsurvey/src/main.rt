@@ -4,6 +4,9 @@ ghost use Prim.Native.Nat.{_≤_, _<_};
 use card::card::Card;
 use card::limits::Number;
 use libc::STDOUT_FILENO;
+use program::arguments::ANYWAY;
+use program::arguments::CELLS;
+use program::arguments::NOTHING;
 use ticks::view::sees;
 
 // A cell and a connector are told by their bases: the first of the cells, of the connectors and of those on the backplane, and the one behind the last.
@@ -144,22 +147,26 @@ fn survey_of(card: Card) {
 }
 
 fn main() {
-    let input = opening::open_input(
+    let given = program::arguments::read(
         b"plsurvey reads lines of a card and ticks, and prints what depends on each line of the rig.
 
-usage: plsurvey [FILE]     with no FILE it reads standard input
+usage: plsurvey [--cells 32] [--anyway] [FILE]     with no FILE it reads standard input
 
 `TTL0: cells 1 2; BNC1` says that cells 1 and 2 and the connector BNC1 can depend on TTL0, and nothing else
-can. `BNC1 <- TTL0` says the same of an output: only TTL0 can move it. What was refused is told on the error
-output.
+can. `BNC1 <- TTL0` says the same of an output: only TTL0 can move it. Where the card refuses a line, the error
+output says which and why, and nothing is printed; --anyway prints all the same. --cells 32 is for a card of
+thirty-two cells.
 
     plsurvey examples/clock.lines
 ",
+        CELLS | ANYWAY,
     );
-    if input == opening::NOTHING {
+    if given.input == NOTHING {
         return;
     }
-    let run = runner::run_from(input, runner::QUIET);
-    let card = run.card;
-    survey_of(card);
+    let wiring = wiring_input::wiring_from(given);
+    if wiring.ok {
+        let card = wiring.card;
+        survey_of(card);
+    }
 }

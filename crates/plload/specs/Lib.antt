@@ -1,2 +1,0 @@
--- What plload prints of a record.
-pub mod Wiring
