@@ -6,7 +6,7 @@ use card::connectors::connector_at;
 use card::limits::CONNECTORS_END;
 use card::limits::FIRST_CONNECTOR;
 use card::limits::OPEN_DRAIN;
-use names::LONGEST_NAME;
+use phrases::names::LONGEST_NAME;
 use scope::sink::Room;
 use scope::sink::Sink;
 use scope::sink::put;
@@ -15,7 +15,7 @@ use scope::sink::put_with;
 // The name of a cell type.
 fn put_kind(out: &mut Room, w: Sink, kind: u8) -> Sink {
     let mut name = [0u8; LONGEST_NAME];
-    let n = names::put_name(&mut name, 0, kind);
+    let n = phrases::names::put_type(&mut name, 0, kind);
     put(out, w, &name[0..n])
 }
 

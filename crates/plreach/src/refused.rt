@@ -8,8 +8,8 @@ use phrases::out::Page;
 use phrases::out::around;
 use phrases::out::put;
 use phrases::out::put_text;
-use refusals::refused::put_refused;
-use refusals::refused::put_unloaded;
+use phrases::refused::put_refused;
+use phrases::refused::put_unloaded;
 
 // The rule that refuses a line, in words. The card is as it was before the line.
 fn put_rule(out: &mut Page, at: usize, text: &[u8], store: &[u8], card: Card) -> usize {
