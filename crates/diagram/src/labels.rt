@@ -6,7 +6,7 @@ use card::connectors::connector_at;
 use card::limits::CONNECTORS_END;
 use card::limits::FIRST_CONNECTOR;
 use card::limits::OPEN_DRAIN;
-use names::LONGEST_NAME;
+use phrases::names::LONGEST_NAME;
 use program::writer::Room;
 use program::writer::Writer;
 use program::writer::put;
@@ -15,7 +15,7 @@ use program::writer::put_with;
 // The name of a cell type.
 fn put_kind(out: &mut Room, w: Writer, kind: u8) -> Writer {
     let mut name = [0u8; LONGEST_NAME];
-    let n = names::put_name(&mut name, 0, kind);
+    let n = phrases::names::put_type(&mut name, 0, kind);
     put(out, w, &name[0..n])
 }
 

@@ -3,6 +3,7 @@ use card::card::Card;
 use card::context::Context;
 use card::context::context_of;
 use card::limits::FIRST_CONNECTOR;
+use card::limits::LARGE;
 use card::limits::Number;
 use cells::cell::Cell;
 use cells::table::Class;
@@ -299,9 +300,19 @@ fn put_levels(out: &mut Page, at: usize, x: Context, front: bool) -> usize {
     put_high(out, a, x.levels, 8, 16)
 }
 
-fn put_outputs(out: &mut Page, at: usize, x: Context) -> usize {
-    let a = put(out, at, b"    High cells since the last tick:");
-    put_set(out, a, x.outputs as u64)
+// The cells that a read of one half gives: on a card of sixteen these are all.
+fn put_outputs(out: &mut Page, at: usize, x: Context, upper: bool) -> usize {
+    if x.size != LARGE {
+        let a = put(out, at, b"    High cells since the last tick:");
+        return put_set(out, a, x.outputs as u64);
+    }
+    let all = x.outputs as u64;
+    if upper {
+        let a = put(out, at, b"    High since the last tick, of cells 17 to 32:");
+        return put_set(out, a, all & 0xffff0000);
+    }
+    let a = put(out, at, b"    High since the last tick, of cells 1 to 16:");
+    put_set(out, a, all & 0xffff)
 }
 
 // A command that changes the card, by the card after it.
@@ -330,8 +341,8 @@ fn put_read(out: &mut Page, at: usize, command: Command, x: Context) -> usize {
         Command::GetSlot(s) => put_get_slot(out, at, x, s),
         Command::Front => put_levels(out, at, x, true),
         Command::Back => put_levels(out, at, x, false),
-        Command::Cells => put_outputs(out, at, x),
-        Command::Upper => put_outputs(out, at, x),
+        Command::Cells => put_outputs(out, at, x, false),
+        Command::Upper => put_outputs(out, at, x, true),
         Command::Save => put(
             out,
             at,

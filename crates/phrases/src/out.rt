@@ -1,11 +1,12 @@
-// Text onto a lent page, piece by piece.
+// Text onto a page that the caller lends, piece by piece.
 
-// Room for all that is written of one line of input: at most 52 lines, each of them below 300 bytes, and 176 hints, each below 200.
+// Room for all that is written of one line of input: of a tick at most 55 lines, each below 300
+// bytes, and 208 hints, each below 200; of a preset or a load at most 86 lines.
 pub const PAGE: usize = 65536;
 
 pub type Page = [u8; PAGE];
 
-// A piece behind what is written; the place behind it. One that has no room is left out whole.
+// A piece after what is written; the place after it. One that has no room is left out whole.
 pub fn put(out: &mut Page, at: usize, bytes: &[u8]) -> usize {
     if PAGE < at {
         return at;
@@ -25,6 +26,14 @@ pub fn number(out: &mut Page, at: usize, n: u32) -> usize {
         return at;
     }
     text::put_decimal(out, at, n)
+}
+
+// A word as four hexadecimal digits.
+pub fn hex4(out: &mut Page, at: usize, w: u16) -> usize {
+    if PAGE - 4 < at {
+        return at;
+    }
+    text::put_hex4(out, at, w)
 }
 
 // A number between two pieces.

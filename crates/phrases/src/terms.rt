@@ -11,14 +11,16 @@ use cells::table::Class;
 use cells::table::CounterKind;
 use cells::table::FlopKind;
 use cells::table::class_of;
-use names::LONGEST_NAME;
+use crate::names;
+use crate::names::CONNECTOR_NAME;
+use crate::names::LONGEST_NAME;
 
 // A type's name. One that has no room is left out whole.
 pub fn type_name(out: &mut Page, at: usize, kind: u8) -> usize {
     if PAGE - LONGEST_NAME < at {
         return at;
     }
-    names::put_name(out, at, kind)
+    names::put_type(out, at, kind)
 }
 
 // One of four pieces, by slot: X 0, Y 1, Z 2, F 3.
@@ -113,9 +115,14 @@ fn role(out: &mut Page, at: usize, kind: u8, slot: u8) -> usize {
     }
 }
 
+// A slot's letter.
+pub fn slot_letter(out: &mut Page, at: usize, slot: u8) -> usize {
+    by_slot(out, at, slot, b"X", b"Y", b"Z", b"F")
+}
+
 // A slot with what it is for: "Y (clock)".
 pub fn slot_name(out: &mut Page, at: usize, kind: u8, slot: u8) -> usize {
-    let a = by_slot(out, at, slot, b"X", b"Y", b"Z", b"F");
+    let a = slot_letter(out, at, slot);
     role(out, a, kind, slot)
 }
 
@@ -124,14 +131,12 @@ pub fn clock_slot(kind: u8) -> u8 {
     if kind == 13 { 2 } else { 1 }
 }
 
-// Connector k: "BNC1" to "BNC8", "TTL0" to "TTL7".
+// Connector k: "BNC1" to "BNC8", "TTL0" to "TTL7". One that has no room is left out whole.
 pub fn connector_name(out: &mut Page, at: usize, k: u8) -> usize {
-    if k < 8 {
-        let a = put(out, at, b"BNC");
-        return number(out, a, k as u32 + 1);
+    if PAGE - CONNECTOR_NAME < at {
+        return at;
     }
-    let a = put(out, at, b"TTL");
-    number(out, a, k as u32 - 8)
+    names::put_connector(out, at, k)
 }
 
 // The connector at a place.
@@ -145,6 +150,14 @@ pub fn connector_at(out: &mut Page, at: usize, place: u8) -> usize {
 // Cell i, counted from 0: "cell 1".
 pub fn cell_name(out: &mut Page, at: usize, i: u8) -> usize {
     around(out, at, b"cell ", i as u32 + 1, b"")
+}
+
+// The cell or the connector at a place.
+pub fn place_name(out: &mut Page, at: usize, place: u8) -> usize {
+    if place < FIRST_CONNECTOR {
+        return around(out, at, b"cell ", place as u32, b"");
+    }
+    connector_name(out, at, place - FIRST_CONNECTOR)
 }
 
 // "cell 1 (AND2)".

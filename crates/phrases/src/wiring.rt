@@ -1,10 +1,14 @@
-// Cells and connectors with their settings, and which of them two cards have otherwise.
+// Cells and connectors with their settings, and which of them differ between two cards; in
+// sentences, or as lists of a row.
 ghost use Prim.Native.Nat.{_<_, _≤_};
+use crate::json;
+use crate::json::comma;
 use crate::out::Page;
 use crate::out::around;
 use crate::out::either;
 use crate::out::put;
 use crate::out::put_if;
+use crate::out::wide;
 use crate::terms::address;
 use crate::terms::cell_name;
 use crate::terms::connector_kind;
@@ -17,6 +21,7 @@ use card::connectors::each_of;
 use card::limits::CELLS;
 use card::limits::CONNECTORS;
 use card::limits::EditedSet;
+use card::place::cells_for;
 use cells::cell::Cell;
 use cells::table::Class;
 use cells::table::class_of;
@@ -101,7 +106,33 @@ pub fn put_connector(out: &mut Page, at: usize, k: u8, c: Connector) -> usize {
     put(out, e, b".\n")
 }
 
-// Whether two cells have the same settings.
+// A cell of a row: its settings and its state.
+fn put_cell_item(out: &mut Page, at: usize, i: u8, cell: Cell) -> usize {
+    let s = cell.slots;
+    let count = cell.count;
+    let a = json::number(out, at, b"{\"cell\":", i as u32 + 1);
+    let b = json::number(out, a, b",\"type\":", cell.kind as u32);
+    let c = json::number(out, b, b",\"config\":", cell.config);
+    let d = json::number(out, c, b",\"slots\":[", wide(s[0]));
+    let e = json::number(out, d, b",", wide(s[1]));
+    let f = json::number(out, e, b",", wide(s[2]));
+    let g = json::number(out, f, b",", wide(s[3]));
+    let h = json::flag(out, g, b"],\"bit\":", cell.bit);
+    let j = json::number(out, h, b",\"count\":", count.0);
+    let k = json::flag(out, j, b",\"pulse\":", cell.pulse);
+    put(out, k, b"}")
+}
+
+// A connector of a row.
+fn put_connector_item(out: &mut Page, at: usize, k: u8, c: Connector) -> usize {
+    let a = put(out, at, b"{\"connector\":\"");
+    let b = connector_name(out, a, k);
+    let d = json::number(out, b, b"\",\"type\":", c.kind as u32);
+    let e = json::number(out, d, b",\"source\":", c.source as u32);
+    put(out, e, b"}")
+}
+
+// Whether two cells have the same settings, and the same state.
 fn alike(a: Cell, b: Cell) -> bool {
     let s = a.slots;
     let t = b.slots;
@@ -109,28 +140,64 @@ fn alike(a: Cell, b: Cell) -> bool {
     ((a.kind == b.kind) & (a.config == b.config)) & slots
 }
 
-// A cell, where it has other settings now.
-fn put_changed_cell(out: &mut Page, at: usize, i: u8, before: Cell, after: Cell) -> usize {
-    if alike(before, after) {
+fn same_state(a: Cell, b: Cell) -> bool {
+    let m = a.count;
+    let n = b.count;
+    ((a.bit == b.bit) & (a.pulse == b.pulse)) & (m.0 == n.0)
+}
+
+// A cell, where it has other settings now, and in a row where it has another state.
+fn put_changed_cell(
+    out: &mut Page,
+    at: usize,
+    first: usize,
+    rows: bool,
+    i: u8,
+    before: Cell,
+    after: Cell,
+) -> usize {
+    if alike(before, after) & (same_state(before, after) | !rows) {
         return at;
+    }
+    if rows {
+        let a = comma(out, at, first);
+        return put_cell_item(out, a, i, after);
     }
     put_cell(out, at, i, after)
 }
 
 // The cells that have.
-fn put_cells(out: &mut Page, at: usize, before: [Cell; CELLS], after: [Cell; CELLS]) -> usize {
+fn put_cells(
+    out: &mut Page,
+    at: usize,
+    rows: bool,
+    before: [Cell; CELLS],
+    after: [Cell; CELLS],
+) -> usize {
     let mut n = at;
     for i in 0..CELLS as u8 {
         let k = i as usize;
-        n = put_changed_cell(out, n, i, before[k], after[k]);
+        n = put_changed_cell(out, n, at, rows, i, before[k], after[k]);
     }
     n
 }
 
 // A connector, where it has other settings now.
-fn put_changed_connector(out: &mut Page, at: usize, k: u8, b: Connector, a: Connector) -> usize {
+fn put_changed_connector(
+    out: &mut Page,
+    at: usize,
+    first: usize,
+    rows: bool,
+    k: u8,
+    b: Connector,
+    a: Connector,
+) -> usize {
     if (a.kind == b.kind) & (a.source == b.source) {
         return at;
+    }
+    if rows {
+        let n = comma(out, at, first);
+        return put_connector_item(out, n, k, a);
     }
     put_connector(out, at, k, a)
 }
@@ -139,13 +206,14 @@ fn put_changed_connector(out: &mut Page, at: usize, k: u8, b: Connector, a: Conn
 fn put_connectors(
     out: &mut Page,
     at: usize,
+    rows: bool,
     before: [Connector; CONNECTORS],
     after: [Connector; CONNECTORS],
 ) -> usize {
     let mut n = at;
     for i in 0..CONNECTORS as u8 {
         let k = i as usize;
-        n = put_changed_connector(out, n, i, before[k], after[k]);
+        n = put_changed_connector(out, n, at, rows, i, before[k], after[k]);
     }
     n
 }
@@ -164,7 +232,7 @@ fn put_trigger(out: &mut Page, at: usize, before: u8, after: u8) -> usize {
     )
 }
 
-// The settings that one card has otherwise than another, a line for each.
+// The settings in which two cards differ, a line for each.
 pub fn put_changes(out: &mut Page, at: usize, before: Card, after: Card) -> usize {
     let a = put_trigger(out, at, before.trigger, after.trigger);
     let cells = before.cells;
@@ -173,35 +241,57 @@ pub fn put_changes(out: &mut Page, at: usize, before: Card, after: Card) -> usiz
     let new_row = after.connectors;
     let connectors = each_of(row);
     let new_connectors = each_of(new_row);
-    let b = put_cells(out, a, cells, new_cells);
-    let c = put_connectors(out, b, connectors, new_connectors);
+    let b = put_cells(out, a, false, cells, new_cells);
+    let c = put_connectors(out, b, false, connectors, new_connectors);
     if c == at {
         return put(out, c, b"    No setting is another one than before.\n");
     }
     c
 }
 
-// A cell of a set: " cell 1".
-fn put_member(out: &mut Page, at: usize, set: u64, i: u32) -> usize
+// What differs between two cards, as members of a row. Pointer and trigger are always there.
+pub fn put_change_row(out: &mut Page, at: usize, before: Card, after: Card) -> usize {
+    let cells = before.cells;
+    let new_cells = after.cells;
+    let row = before.connectors;
+    let new_row = after.connectors;
+    let connectors = each_of(row);
+    let new_connectors = each_of(new_row);
+    let a = json::number(out, at, b",\"pointer\":", after.pointer as u32);
+    let b = json::number(out, a, b",\"trigger\":", after.trigger as u32);
+    let c = put(out, b, b",\"changed\":{\"cells\":[");
+    let d = put_cells(out, c, true, cells, new_cells);
+    let e = put(out, d, b"],\"connectors\":[");
+    let f = put_connectors(out, e, true, connectors, new_connectors);
+    put(out, f, b"]}")
+}
+
+// A cell of a set: " cell 1", or in a row its number.
+fn put_member(out: &mut Page, at: usize, first: usize, rows: bool, set: u64, i: u32) -> usize
     requires { ⌜ i < 32 ⌝ }
 {
     if !words::bit(set, i) {
         return at;
     }
+    if rows {
+        let a = comma(out, at, first);
+        return json::number(out, a, b"", i + 1);
+    }
     around(out, at, b" cell ", i + 1, b"")
 }
 
-fn put_members(out: &mut Page, at: usize, set: u64) -> usize {
+// The cells of a set: " cell 1 cell 10", or "1,10".
+pub fn put_members(out: &mut Page, at: usize, rows: bool, set: u64) -> usize {
     let mut n = at;
     for i in 0..CELLS as u32 {
-        n = put_member(out, n, set, i);
+        n = put_member(out, n, at, rows, set, i);
     }
     n
 }
 
 // The cells of a set: " cell 1 cell 10.", or " none.".
 pub fn put_set(out: &mut Page, at: usize, set: u64) -> usize {
-    let a = put_members(out, at, set);
+    let a = put_members(out, at, false, set);
     either(a == at, out, a, b" none.\n", b".\n")
 }
 
@@ -237,12 +327,12 @@ pub fn put_high(out: &mut Page, at: usize, levels: u16, from: u32, to: u32) -> u
     either(a == at, out, a, b" none.\n", b".\n")
 }
 
-// Which cells a call has edited.
-pub fn put_edited(out: &mut Page, at: usize, set: EditedSet) -> usize {
+// Which cells of a card of this size a call has edited.
+pub fn put_edited(out: &mut Page, at: usize, set: EditedSet, size: u8) -> usize {
     if set == 0 {
         return at;
     }
-    if set == 65535 {
+    if u64::count_ones(set) == cells_for(size) as u32 {
         return put(
             out,
             at,

@@ -1,23 +1,27 @@
-// Compares a transcript with what the card answers: its inputs are entered, and the answers below them are what must come. Constant memory, whatever the input.
+// Compares a transcript with what the card answers: its inputs are entered, and the answers below
+// them are what must come. Constant memory, whatever the input.
 ghost use lib.ListN.{length};
 ghost use Prim.Native.Nat.{_≤_};
-use console::LONGEST_PRINT;
+use explain::checking::Answer;
+use explain::checking::Check;
+use explain::checking::Text;
+use explain::checking::end;
+use explain::checking::take;
+use explain::checking::take_last;
 use input::BUFFER;
 use input::LINE;
 use input::Reader;
 use input::least;
 use input::next_line;
-use libc::STDOUT_FILENO;
 use phrases::out::Page;
-use saved::record::RECORD_LENGTH;
-use transcript::checking::Answer;
-use transcript::checking::Check;
-use transcript::checking::Store;
-use transcript::checking::Text;
-use transcript::checking::end;
-use transcript::checking::take;
+use program::arguments;
+use saved::record::record_length;
+use session::LONGEST_PRINT;
 
-// A transcript so far, and whether all that was said of it could be written.
+// The bytes of a record of thirty-two cells, the longest.
+const LONGEST_RECORD: usize = 516;
+
+// A transcript so far, and whether it goes on: all that was said could be written.
 struct Said {
     check: Check,
     wrote: bool,
@@ -26,15 +30,37 @@ struct Said {
 // The first n bytes of a page.
 fn write_front(out: &[u8], n: usize) -> bool {
     let end = least(n, out.len());
-    io::write_all(STDOUT_FILENO, &out[0..end])
+    program::writer::write(&out[0..end])
 }
 
-// The line that a reader has given, cut to the bytes that are kept of one that ends in another block. Where none was given, the input has ended.
+// The input has ended, with these bytes after its last LF.
+fn take_end(
+    check: Check,
+    text: &[u8],
+    store: &mut [u8],
+    kept: &mut Text,
+    answer: &mut Answer,
+    out: &mut Page,
+) -> Said {
+    let last = take_last(check, text, store, kept, answer, out);
+    if write_front(out, last.len) {
+        let n = end(last, out);
+        write_front(out, n);
+    }
+    Said {
+        check: last,
+        wrote: false,
+    }
+}
+
+// The line that a reader has given, cut to the bytes that are kept of one that ends in another block.
+// Where none was given, the input has ended. The store is as long as a record of the card.
 fn take_given(
     check: Check,
+    size: u8,
     r: Reader,
     block: &[u8],
-    store: &mut Store,
+    store: &mut [u8],
     kept: &mut Text,
     answer: &mut Answer,
     out: &mut Page,
@@ -44,15 +70,12 @@ fn take_given(
 {
     let start = r.start;
     let long = least(r.end - start, LINE);
+    let text = &block[start..start + long];
+    let room = least(record_length(size), store.len());
     if !r.going {
-        let n = end(check, &block[start..start + long], out);
-        write_front(out, n);
-        return Said {
-            check: check,
-            wrote: false,
-        };
+        return take_end(check, text, &mut store[0..room], kept, answer, out);
     }
-    let next = take(check, &block[start..start + long], store, kept, answer, out);
+    let next = take(check, text, &mut store[0..room], kept, answer, out);
     let wrote = write_front(out, next.len);
     Said {
         check: next,
@@ -61,14 +84,14 @@ fn take_given(
 }
 
 // The run ends with the input, and where a write fails.
-fn run_from(input: i32) {
+fn run_from(input: i32, size: u8) {
     let mut block = [0u8; BUFFER];
     let mut line = [0u8; LINE];
-    let mut store = [0u8; RECORD_LENGTH];
+    let mut store = [0u8; LONGEST_RECORD];
     let mut kept = [0u8; LINE];
     let mut answer = [0u8; LONGEST_PRINT];
     let mut out = io::large_buffer();
-    let check = transcript::checking::start();
+    let check = explain::checking::start(size);
     let mut s = Said {
         check: check,
         wrote: true,
@@ -79,6 +102,7 @@ fn run_from(input: i32) {
         let check = s.check;
         s = take_given(
             check,
+            size,
             r,
             &block,
             &mut store,
@@ -90,21 +114,25 @@ fn run_from(input: i32) {
 }
 
 fn main() {
-    let input = opening::open_input(
+    let a = arguments::read(
         b"plcheck reads a wiring and a transcript, lines with the answers that must come, and compares.
 
-usage: plcheck [FILE]     with no FILE it reads standard input
+usage: plcheck [--cells 32] [FILE]     with no FILE it reads standard input
 
-Behind `> ` stands a line that is entered, and below it the answer that must come. A line without `> ` is entered and
-not compared. Blank lines are passed over, and so are remarks behind #.
+After `> ` comes a line that is entered, and below it the answer that must come. A line without `> ` is entered and
+not compared. Blank lines are passed over, and so are remarks after #. CR LF, blanks at the end of lines without `> `,
+and a last line with no line end are taken, and each is reported once.
 
-It tells the first answer that is another one: its line and tick, what must come, what came, and why. The last line
+It reports the first answer that is another one: its line and tick, what must come, what came, and why. The last line
 counts, as `10 answers agree, 0 differ`.
+
+--cells 32   the card has thirty-two cells
 
     cat examples/exercises/one-flash.lines examples/exercises/one-flash.ticks | plcheck
 ",
+        arguments::CELLS,
     );
-    if input != opening::NOTHING {
-        run_from(input);
+    if a.input != arguments::NOTHING {
+        run_from(a.input, a.cells);
     }
 }

@@ -7,11 +7,11 @@ use Rattle.plcheck.proofs.run_from.Statement.{statement}
 use Rattle.plcheck.proofs.run_from.Tie as tie
 
 abbrev Inv-loop : tie.InvT-loop
-Inv-loop input block₀ line₀ store₀ kept₀ answer₀ out₀ s₀ r₀ block line store kept answer out s r =
-    (r .end ≤ r .n) × (r .n ≤ length block) × (length block ≡ 2144) × (length line ≡ 96)
+Inv-loop input size block₀ line₀ store₀ kept₀ answer₀ out₀ s₀ r₀ block line store kept answer out s r =
+    (r .end ≤ r .n) × (r .n ≤ length block) × (length block ≡ 2144) × (length line ≡ 96) × (length store ≡ 516)
 
 abbrev μ-loop : tie.MeasureT-loop
-μ-loop input block₀ line₀ store₀ kept₀ answer₀ out₀ s₀ r₀ block line store kept answer out s r = r .left
+μ-loop input size block₀ line₀ store₀ kept₀ answer₀ out₀ s₀ r₀ block line store kept answer out s r = r .left
 
 large-buffer-requires : tie.Need-large-buffer-requires Inv-loop μ-loop
 large-buffer-requires c κs = search needs
@@ -37,16 +37,19 @@ next-line-requires c κs = search needs
 slice-aggregate-take-given : tie.Need-slice-aggregate-take-given Inv-loop μ-loop
 slice-aggregate-take-given c = search needs
 
+slice-aggregate-take-given-2 : tie.Need-slice-aggregate-take-given-2 Inv-loop μ-loop
+slice-aggregate-take-given-2 c = search needs
+
 take-given-requires : tie.Need-take-given-requires Inv-loop μ-loop
 take-given-requires c κs = search needs
 
 loop-less : tie.Need-loop-less Inv-loop μ-loop
-loop-less c = c .before .before .before .before .before .before .before .before .before .next-line .ensures .1 .1 .1 .1
+loop-less c = c .before .before .before .before .before .before .before .before .before .before .next-line .ensures .1 .1 .1 .1
 
 loop-again : tie.Need-loop-again Inv-loop μ-loop
 loop-again c =
-    let given = c .before .before .before .before .before .before .before .before .before .next-line .ensures .1 .1 in
-    (given .0, given .1 .0, search needs, search needs)
+    let given = c .before .before .before .before .before .before .before .before .before .before .next-line .ensures .1 .1 in
+    (given .0, given .1 .0, search needs, search needs, search needs)
 
 returns : tie.Need-returns Inv-loop μ-loop
 returns c = search needs
@@ -68,6 +71,7 @@ run-from-spec =
     slice-aggregate-next-line-2
     next-line-requires
     slice-aggregate-take-given
+    slice-aggregate-take-given-2
     take-given-requires
     loop-less
     loop-again

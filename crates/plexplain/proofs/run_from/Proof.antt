@@ -7,11 +7,11 @@ use Rattle.plexplain.proofs.run_from.Statement.{statement}
 use Rattle.plexplain.proofs.run_from.Tie as tie
 
 abbrev Inv-loop : tie.InvT-loop
-Inv-loop input block₀ line₀ store₀ out₀ s₀ r₀ block line store out s r = (r .end ≤ r .n) × (r .n ≤ length block) × (length block ≡ 2144) ×
-    (length line ≡ 96) × (length store ≡ 308)
+Inv-loop input size style block₀ line₀ store₀ out₀ s₀ r₀ block line store out s r = (r .end ≤ r .n) × (r .n ≤ length block) × (length block ≡ 2144) ×
+    (length line ≡ 96) × (length store ≡ 516)
 
 abbrev μ-loop : tie.MeasureT-loop
-μ-loop input block₀ line₀ store₀ out₀ s₀ r₀ block line store out s r = r .left
+μ-loop input size style block₀ line₀ store₀ out₀ s₀ r₀ block line store out s r = r .left
 
 large-buffer-requires : tie.Need-large-buffer-requires Inv-loop μ-loop
 large-buffer-requires c κs = search needs

@@ -7,10 +7,10 @@ use Rattle.phrases.proofs.wiring.put_cells.Statement.{statement}
 use Rattle.phrases.proofs.wiring.put_cells.Tie as tie
 
 abbrev Inv-loop : tie.InvT-loop
-Inv-loop out₀ at before after n₀ i₀ out n i = i ≤ cellRoom
+Inv-loop out₀ at rows before after n₀ i₀ out n i = i ≤ cellRoom
 
 abbrev μ-loop : tie.MeasureT-loop
-μ-loop out₀ at before after n₀ i₀ out n i = cellRoom - i
+μ-loop out₀ at rows before after n₀ i₀ out n i = cellRoom - i
 
 loop-holds : tie.Need-loop-holds Inv-loop μ-loop
 loop-holds c = search needs

@@ -7,10 +7,10 @@ use Rattle.phrases.proofs.wiring.put_connectors.Statement.{statement}
 use Rattle.phrases.proofs.wiring.put_connectors.Tie as tie
 
 abbrev Inv-loop : tie.InvT-loop
-Inv-loop out₀ at before after n₀ i₀ out n i = i ≤ connectorCount
+Inv-loop out₀ at rows before after n₀ i₀ out n i = i ≤ connectorCount
 
 abbrev μ-loop : tie.MeasureT-loop
-μ-loop out₀ at before after n₀ i₀ out n i = connectorCount - i
+μ-loop out₀ at rows before after n₀ i₀ out n i = connectorCount - i
 
 loop-holds : tie.Need-loop-holds Inv-loop μ-loop
 loop-holds c = search needs

@@ -1,3 +1,0 @@
--- The proofs of the console.
-pub mod Chains
-pub mod Long

@@ -1,2 +1,0 @@
--- What the words of a program say.
-pub mod Words

@@ -1,2 +1,0 @@
--- What a reader must believe: the definitions that the contracts cite.
-pub mod Run

@@ -1,2 +1,0 @@
--- What is told of the lines of an input.
-pub mod Told
