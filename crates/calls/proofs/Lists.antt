@@ -21,9 +21,9 @@ use Rattle.ticks.specs.Settled.{Settled, AlikeTicks}
 use Rattle.ticks.proofs.Sleep.{fresh-settled, tick-on-settled, same-ticks-on, edit-settled, powered-settled}
 use Rattle.saved.specs.Record.{loadNumber}
 use Rattle.saved.proofs.Records.{loaded-by}
-use Rattle.commands.specs.declared.grammar.Parsed.{Parsed}
-use Rattle.commands.specs.declared.grammar.Parsed.the-variants.{Malformed, Elsewhere, Here}
-use Rattle.commands.specs.Grammar.{parse}
+use Rattle.grammar.specs.declared.grammar.Parsed.{Parsed}
+use Rattle.grammar.specs.declared.grammar.Parsed.the-variants.{Malformed, Elsewhere, Here}
+use Rattle.grammar.specs.Grammar.{parse}
 use Rattle.lines.specs.Line.{decision, decisionFor, refused, shortestReply, lineDecision, lineChange, lineOutcome}
 use Rattle.calls.specs.Calls.{Call, afterCall, answer, end, answers}
 use Rattle.calls.specs.Calls.Call.{line, load, tick}

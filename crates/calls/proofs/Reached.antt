@@ -24,13 +24,13 @@ use Rattle.card.proofs.PresetValid.{valid-preset}
 use Rattle.ticks.proofs.ValidTicks.{valid-tick-on}
 use Rattle.saved.specs.Record.{loadNumber, loaded}
 use Rattle.saved.proofs.Records.{load-refused, loaded-valid}
-use Rattle.commands.specs.declared.grammar.Pairs.{Pairs}
-use Rattle.commands.specs.declared.grammar.Command.{Command}
-use Rattle.commands.specs.declared.grammar.Command.the-variants.{Move, Where, Trigger, Home, Preset, SetKind, SetConfig, SetState, GetKind, GetConfig}
-use Rattle.commands.specs.declared.grammar.Command.the-variants.{GetState, SetSlots, GetSlot, Front, Back, Cells, Upper, Save}
-use Rattle.commands.specs.declared.grammar.Parsed.{Parsed}
-use Rattle.commands.specs.declared.grammar.Parsed.the-variants.{Malformed, Elsewhere, Here}
-use Rattle.commands.specs.Grammar.{parse}
+use Rattle.grammar.specs.declared.grammar.Pairs.{Pairs}
+use Rattle.grammar.specs.declared.grammar.Command.{Command}
+use Rattle.grammar.specs.declared.grammar.Command.the-variants.{Move, Where, Trigger, Home, Preset, SetKind, SetConfig, SetState, GetKind, GetConfig}
+use Rattle.grammar.specs.declared.grammar.Command.the-variants.{GetState, SetSlots, GetSlot, Front, Back, Cells, Upper, Save}
+use Rattle.grammar.specs.declared.grammar.Parsed.{Parsed}
+use Rattle.grammar.specs.declared.grammar.Parsed.the-variants.{Malformed, Elsewhere, Here}
+use Rattle.grammar.specs.Grammar.{parse}
 use Rattle.lines.specs.Refusal.{when, orElse, judged, anyGiven, anyTooLarge, anyBadAddress, refusal}
 use Rattle.lines.specs.Line.{wireOf, wiresOf, changeFor, decision, decisionFor, refused, shortestReply, lineDecision, lineOutcome}
 use Rattle.calls.specs.Calls.{Call, afterCall, end}

@@ -26,12 +26,12 @@ use Rattle.saved.specs.Record.{loadNumberAs, configWidth, narrowWidth, recordLe
 use Rattle.saved.specs.Record.{loadCells, connectorsIn, poweredUp, loadNumber, loaded}
 use Rattle.saved.proofs.Records.{valid-length, saved-front, cleared-taken, load-accepts, load-powers, narrow-form, no-old-form, saved-loads, saved-loaded}
 use Rattle.saved.proofs.Records
-use Rattle.commands.specs.declared.grammar.Command.{Command}
-use Rattle.commands.specs.declared.grammar.Command.the-variants.{Move, Where, Trigger, Home, Preset, SetKind, SetConfig, SetState, GetKind, GetConfig}
-use Rattle.commands.specs.declared.grammar.Command.the-variants.{GetState, SetSlots, GetSlot, Front, Back, Cells, Upper, Save}
-use Rattle.commands.specs.declared.grammar.Parsed.{Parsed}
-use Rattle.commands.specs.declared.grammar.Parsed.the-variants.{Malformed, Elsewhere, Here}
-use Rattle.commands.specs.Grammar.{isWord, isWhole, cardForm, plainForm, addressed, parse}
+use Rattle.grammar.specs.declared.grammar.Command.{Command}
+use Rattle.grammar.specs.declared.grammar.Command.the-variants.{Move, Where, Trigger, Home, Preset, SetKind, SetConfig, SetState, GetKind, GetConfig}
+use Rattle.grammar.specs.declared.grammar.Command.the-variants.{GetState, SetSlots, GetSlot, Front, Back, Cells, Upper, Save}
+use Rattle.grammar.specs.declared.grammar.Parsed.{Parsed}
+use Rattle.grammar.specs.declared.grammar.Parsed.the-variants.{Malformed, Elsewhere, Here}
+use Rattle.grammar.specs.Grammar.{isWord, isWhole, cardForm, plainForm, addressed, parse}
 use Rattle.lines.specs.Refusal.{refusal}
 use Rattle.lines.specs.Line.{responseTo, decision, decisionFor, refused, shortestReply, lineDecision, lineOutcome, storeAfter}
 use Rattle.calls.specs.Calls.{savedBytes, end}

@@ -32,8 +32,8 @@ use Rattle.ticks.specs.Levels.{effectiveSample, drivenWord, levelsFrom, linesOf
 use Rattle.ticks.specs.Tick.{readNow, readLast, named, turnAt, outputsBelow, turned, tick}
 use Rattle.saved.specs.Record.{bigEndian, cellField, connectorField, fieldsFrom, encode, bigValue, cellIn, connectorIn, normalCell, recordOf, sameBytes}
 use Rattle.saved.specs.Record.{loadNumberAs, loadedAs, loadNumber, loaded}
-use Rattle.commands.specs.Grammar.{isWord, isWhole, toEnd, slotOf, gave, give, pairRead, pairsOf, writeOf, ccaWrite, ccaRead, ccaForm, slotForm, ccbForm}
-use Rattle.commands.specs.Grammar.{readOf, readForm, cardForm, plainForm, addressed, parse}
+use Rattle.grammar.specs.Grammar.{isWord, isWhole, toEnd, slotOf, gave, give, pairRead, pairsOf, writeOf, ccaWrite, ccaRead, ccaForm, slotForm, ccbForm}
+use Rattle.grammar.specs.Grammar.{readOf, readForm, cardForm, plainForm, addressed, parse}
 use Rattle.lines.specs.Refusal.{alone, refusal}
 use Rattle.lines.specs.Line
 use Rattle.lines.specs.Line.{shortestReply, slotIndex, changeFor, responseTo, decision, decisionFor, lineDecision, lineOutcome, replyOf}

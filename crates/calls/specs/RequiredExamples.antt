@@ -29,8 +29,8 @@ use Rattle.card.specs.Valid.{permittedBase, badPlace, badCellType, badConfig, u
 use Rattle.ticks.specs.Reading.{levelAt, readsLevels, reads, slotsRead, mixed, view}
 use Rattle.ticks.specs.Levels.{effectiveSample, drivenWord, levelsFrom, linesOf}
 use Rattle.ticks.specs.Tick.{readNow, readLast, named, turnAt, outputsBelow, turned, tick}
-use Rattle.commands.specs.Grammar.{isWord, isWhole, toEnd, slotOf, gave, give, pairRead, pairsOf, writeOf, ccaWrite, ccaRead, ccaForm, slotForm, ccbForm}
-use Rattle.commands.specs.Grammar.{readOf, readForm, cardForm, plainForm, addressed, parse}
+use Rattle.grammar.specs.Grammar.{isWord, isWhole, toEnd, slotOf, gave, give, pairRead, pairsOf, writeOf, ccaWrite, ccaRead, ccaForm, slotForm, ccbForm}
+use Rattle.grammar.specs.Grammar.{readOf, readForm, cardForm, plainForm, addressed, parse}
 use Rattle.lines.specs.Refusal.{alone, refusal}
 use Rattle.lines.specs.Line
 use Rattle.lines.specs.Line.{shortestReply, changeFor, responseTo, decision, decisionFor, lineDecision, lineOutcome, replyOf}

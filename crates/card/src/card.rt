@@ -15,14 +15,16 @@ use crate::tallies::no_tallies;
 use cells::cell::Cell;
 use cells::cell::Pulses;
 
-// A front or backplane connector by itself: its type (0 input, 1 open-drain, 2 push-pull) and the address that it is driven from.
+// A front or backplane connector by itself: its type (0 input, 1 open-drain, 2 push-pull) and the
+// address that it is driven from.
 pub struct Connector {
     pub kind: u8,
     pub source: u8,
 }
 
-// All connectors: the addresses that they are driven from, and of each type of outputs the word of those that are of it, bit 0 for BNC1 to bit 15 for
-// TTL7 as in the sample. The others are inputs. One that is in both words is push-pull; lines and loads leave none.
+// All connectors: the addresses that they are driven from, and of each type of outputs the word of
+// those that are of it, bit 0 for BNC1 to bit 15 for TTL7 as in the sample. The others are inputs.
+// One that is in both words is push-pull; lines and loads leave none.
 #[repr(C)]
 pub struct Connectors {
     pub sources: [u8; CONNECTORS],
@@ -30,9 +32,10 @@ pub struct Connectors {
     pub open_drain: u16,
 }
 
-// What is remembered of ticks. The words of the last tick that ran are `driven`, `pulled`, `outputs` and `levels`; `pulled` has the lines of
-// the backplane that it pulled low. `outputs2` and `levels2` are those of the tick before it, and `outputs3` those of the one before that. No tick has to
-// write anything for a cell that sleeps.
+// What is remembered of ticks. The words of the last tick that ran are `driven`, `pulled`,
+// `outputs` and `levels`; `pulled` has the lines of the backplane that it pulled low. `outputs2`
+// and `levels2` are those of the tick before it, and `outputs3` those of the one before that. No
+// tick has to write anything for a cell that sleeps.
 #[repr(C)]
 pub struct Memory {
     pub driven: u16,

@@ -1,4 +1,5 @@
-// What an accepted line changes in the card, as a value: a command is judged by a small part of the card, and the card is changed in one place.
+// What an accepted line changes in the card, as a value: a command is judged by a small part of the
+// card, and the card is changed in one place.
 ghost use mathlib.Core.Path.{_≡_};
 ghost use Rattle.card.specs.Address.{cellsFor};
 ghost use Rattle.card.specs.Change.{changed};
@@ -19,7 +20,8 @@ pub struct Wires {
     pub f: u8,
 }
 
-// `Kind`, `Config`, `State` and `Slots` are of the cell at the pointer, `ConnectorKind` and `Source` of the connector there.
+// `Kind`, `Config`, `State` and `Slots` are of the cell at the pointer, `ConnectorKind` and
+// `Source` of the connector there.
 pub enum Change {
     Nothing,
     Pointer(u8),

@@ -18,7 +18,8 @@ pub struct Entry {
 // How many addresses there are.
 pub const ADDRESSES: usize = 256;
 
-// An entry for each address, read by bytes: base, inverted, edge, permitted. It is a word, since the checker takes no constant of 256 structs.
+// An entry for each address, read by bytes: base, inverted, edge, permitted. It is a word, since
+// the checker takes no constant of 256 structs.
 pub type Chart = [u32; ADDRESSES];
 
 const CHART: Chart = [
@@ -280,7 +281,8 @@ const CHART: Chart = [
     0x3f_01_01_00,
 ];
 
-// The chart. A constant array is made anew wherever it is read: a caller makes it once and lends it.
+// The chart. A constant array is made anew wherever it is read: a caller makes it once and lends
+// it.
 pub fn chart() -> Chart
     ensures { λ c. ⌜ Charted c ⌝ }
 {
@@ -307,7 +309,8 @@ fn is_upper(base: u8, size: u8) -> bool
     (size == LARGE) & ((SMALL < base) & (base <= LARGE))
 }
 
-// The entry of an address on a card of this size. The table is the small card's; on a large one the bases of its other cells are permitted too.
+// The entry of an address on a card of this size. The table is the small card's; on a large one the
+// bases of its other cells are permitted too.
 pub fn entry_of(chart: &Chart, a: u8, size: u8) -> Entry
     requires { ⌜ Charted (now chart) ⌝ }
     ensures { λ e. ⌜ e ≡ entryOf (cellsFor size) a ⌝ }

@@ -1,7 +1,9 @@
-// What a line goes by, and what its reads give: where the pointer stands and what is there, the trigger source, the words of the last tick.
+// What a line goes by, and what its reads give: where the pointer stands and what is there, the
+// trigger source, the words of the last tick.
 ghost use mathlib.Core.Path.{_≡_};
 ghost use Rattle.card.specs.Address.{cellsFor};
-ghost use Rattle.card.specs.Context.{contextOf, typeRead, configShown, configRead, stateAs, stateRead, slotRead, frontRead, backRead, lowerRead, upperRead};
+ghost use Rattle.card.specs.Context.{contextOf, typeRead, configShown, configRead, stateAs, stateRead, slotRead};
+ghost use Rattle.card.specs.Context.{frontRead, backRead, lowerRead, upperRead};
 ghost use Rattle.card.specs.Context.{drivesFront, presetDrives};
 use crate::card::Card;
 use crate::card::Connector;
@@ -25,7 +27,8 @@ use cells::table::row_of;
 // What a read gives: anything that the card holds, and nothing is wider than a configuration.
 pub type Value = Config;
 
-// A small part of the card: no line looks at more before it changes something. `at_cell` says whether the pointer is at a cell.
+// A small part of the card: no line looks at more before it changes something. `at_cell` says
+// whether the pointer is at a cell.
 pub struct Context {
     pub pointer: u8,
     pub at_cell: bool,
@@ -107,7 +110,8 @@ fn state_as(kept: Kept, s: State) -> Value
     }
 }
 
-// The state of the cell at the pointer: a flip-flop's bit, a timer's or a counter's count, 0 where it keeps none.
+// The state of the cell at the pointer: a flip-flop's bit, a timer's or a counter's count, 0 where
+// it keeps none.
 pub fn read_state(x: Context) -> Value
     ensures { λ v. ⌜ v ≡ stateRead x ⌝ }
 {
@@ -117,7 +121,8 @@ pub fn read_state(x: Context) -> Value
     state_as(kept, state_of(cell))
 }
 
-// What slot number i of the cell at the pointer holds, X being 0; there is none from 4 on, and its answer is 0.
+// What slot number i of the cell at the pointer holds, X being 0; there is none from 4 on, and its
+// answer is 0.
 pub fn read_slot(x: Context, i: usize) -> Value
     ensures { λ v. ⌜ v ≡ slotRead x i ⌝ }
 {
@@ -152,7 +157,8 @@ pub fn read_upper(x: Context) -> Value
     x.outputs / 65536
 }
 
-// 13: the pointer stands at BNC1, and this type would make it an output while it brings the trigger.
+// 13: the pointer stands at BNC1, and this type would make it an output while it brings the
+// trigger.
 pub fn drives_front(x: Context, v: Number) -> bool
     ensures { λ q. ⌜ q ≡ drivesFront x v ⌝ }
 {

@@ -3,8 +3,11 @@ ghost use mathlib.Core.Path.{_≡_};
 ghost use Prim.Native.Nat.{_-_, _^_, _<_, _≤_};
 ghost use Rattle.card.specs.Address.{cellRoom, cellsFor};
 ghost use Rattle.card.specs.Edits;
-ghost use Rattle.card.specs.Edits.{atCell, currentCell, currentConnector, putCell, putConnectors, setTrigger, configuredState, statedAs, wiredSlot, bitState, countState, recountedState, clearedCell, clearedCells};
-ghost use Rattle.card.specs.Edits.{setType, setConfig, setState, wiredSlots, setSlots, setConnectorType, setSource, blankSlot};
+ghost use Rattle.card.specs.Edits.{atCell, currentCell, currentConnector, putCell, putConnectors, setTrigger};
+ghost use Rattle.card.specs.Edits.{configuredState, statedAs, wiredSlot, bitState, countState, recountedState};
+ghost use Rattle.card.specs.Edits.{clearedCell, clearedCells};
+ghost use Rattle.card.specs.Edits.{setType, setConfig, setState, wiredSlots, setSlots, setConnectorType};
+ghost use Rattle.card.specs.Edits.{setSource, blankSlot};
 use crate::card::Card;
 use crate::card::Connector;
 use crate::connectors::connector_at;
@@ -132,7 +135,8 @@ fn cleared_cell(cell: Cell) -> Cell
     next
 }
 
-// The first n cells with their states cleared. A loop up to a number that the card gives is not unrolled into its callers, as one of constant length is.
+// The first n cells with their states cleared. A loop up to a number that the card gives is not
+// unrolled into its callers, as one of constant length is.
 fn cleared(cells: [Cell; CELLS], n: usize) -> [Cell; CELLS]
     requires { ⌜ n ≤ cellRoom ⌝ }
     ensures { λ r. ⌜ r ≡ clearedCells n cells ⌝ }

@@ -15,14 +15,16 @@ pub const FIRST_CONNECTOR: u8 = 33;
 
 pub const CONNECTORS_END: u8 = FIRST_CONNECTOR + CONNECTORS as u8;
 
-// How many of the connectors are on the front, the word of those that are not, the backplane, and of those that are.
+// How many of the connectors are on the front, the word of those that are not, the backplane, and
+// of those that are.
 pub const FRONT: u16 = 8;
 
 pub const BACKPLANE: u16 = 0xffff << FRONT;
 
 pub const FRONT_WORD: u16 = 0xffff ^ BACKPLANE;
 
-// A number as a line gives it: it may be too large for what it is to set. It has at most ten digits, which 32 bits do not hold.
+// A number as a line gives it: it may be too large for what it is to set. It has at most ten
+// digits, which 32 bits do not hold.
 pub type Number = u64;
 
 // The largest address.
@@ -31,7 +33,8 @@ pub const LARGEST_ADDRESS: Number = 255;
 // A word with a bit for each cell.
 pub type CellWord = u32;
 
-// A set of edited cells, a bit for each. It has 64 bits, so that a card is aligned to 8 bytes and copied by whole words.
+// A set of edited cells, a bit for each. It has 64 bits, so that a card is aligned to 8 bytes and
+// copied by whole words.
 pub type EditedSet = u64;
 
 // The types of a connector.

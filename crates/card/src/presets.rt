@@ -10,7 +10,8 @@ ghost use Rattle.words.specs.Listed.{listed};
 ghost use Rattle.card.specs.Address.{cellCount, cellRoom, cellsFor, connectorCount};
 ghost use Rattle.card.specs.Connectors.{noConnector};
 ghost use Rattle.card.specs.PresetRows;
-ghost use Rattle.card.specs.PresetRows.{rowByte, sourceUnder, wiredCell, cellUnder, SourceRows, LargeRow, CellRows};
+ghost use Rattle.card.specs.PresetRows.{rowByte, sourceUnder, wiredCell, cellUnder, SourceRows, LargeRow};
+ghost use Rattle.card.specs.PresetRows.{CellRows};
 ghost use Rattle.card.specs.Presets.{offered, isLarge, presetCell, presetSource, setsFront, sourced, preset};
 ghost use Rattle.card.specs.Fresh.{noCell};
 use crate::card::Card;
@@ -29,13 +30,15 @@ use cells::cell::Cell;
 use cells::cell::Config;
 use cells::cell::Pulses;
 
-// How many rows the two tables have: no preset has a number past the first, and none past the second sets a cell.
+// How many rows the two tables have: no preset has a number past the first, and none past the
+// second sets a cell.
 const SOURCE_ROWS: usize = 60;
 
 const CELL_ROWS: usize = 37;
 
-// A row for each preset number, read by bytes: the connectors that it sources, a bit for each from BNC1 on; those of them that take the first
-// address; the first and the second address; 1 where a connector's address is its index further.
+// A row for each preset number, read by bytes: the connectors that it sources, a bit for each from
+// BNC1 on; those of them that take the first address; the first and the second address; 1 where a
+// connector's address is its index further.
 const SOURCES: [u64; SOURCE_ROWS] = [
     0x00_00_00_00_00,
     0x00_00_00_00_00,
@@ -99,9 +102,10 @@ const SOURCES: [u64; SOURCE_ROWS] = [
     0x7f_22_0a_00_00,
 ];
 
-// Two rows for each preset number, read by bytes: the first cell that it sets and how many from there, then that cell's type, configuration
-// and slots X Y Z F; in the second row, behind a zero, 1 where the addresses in X and Y are the cell's index further, then the type,
-// configuration and slots of the other cells. No later preset sets a cell.
+// Two rows for each preset number, read by bytes: the first cell that it sets and how many from
+// there, then that cell's type, configuration and slots X Y Z F; in the second row, behind a zero,
+// 1 where the addresses in X and Y are the cell's index further, then the type, configuration and
+// slots of the other cells. No later preset sets a cell.
 const SET_CELLS: [u64; 2 * CELL_ROWS] = [
     0x01_10_00_00_00_00_00_00,
     0x00_00_00_00_00_00_00_00,
@@ -372,7 +376,8 @@ fn connectors_under(row: u64, connectors: [Connector; CONNECTORS]) -> [Connector
 // The first n cells under a row.
 fn cells_under(row: CellRow, cells: [Cell; CELLS], n: u32) -> [Cell; CELLS]
     requires { ⌜ n ≤ cellRoom ⌝ }
-    ensures { λ r. ⌜ r ≡ listed (λ i. Option·getD (cellUnder (row .0) (row .1) i) (getD cells i noCell)) n ++ drop n cells ⌝ }
+    ensures { λ r. ⌜ r
+        ≡ listed (λ i. Option·getD (cellUnder (row .0) (row .1) i) (getD cells i noCell)) n ++ drop n cells ⌝ }
 {
     let mut next = cells;
     for i in 0..n {

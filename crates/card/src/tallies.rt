@@ -63,8 +63,9 @@ fn counting(total: Ticks, named: CellWord) -> Counts
     }
 }
 
-// The tallies after a tick that ran, in which the rules named these cells. It goes from one named cell to the next: those are few. There is one way through it:
-// where two ways meet in the tallies, the compiler copies them once more.
+// The tallies after a tick that ran, in which the rules named these cells. It goes from one named
+// cell to the next: those are few. There is one way through it: where two ways meet in the tallies,
+// the compiler copies them once more.
 pub fn tally(t: Tallies, named: CellWord) -> Tallies
     ensures { λ r. ⌜ ((n : ℕ) → n ≤ cellRoom → named < 2 ^ n → r ≡ Tally.talliedBy n (bitAt named) t) ⌝ }
 {

@@ -1,13 +1,16 @@
-// Rows 5 to 13 of "When the card says no" as tests of single values, and the settings that a record may hold.
+// Rows 5 to 13 of "When the card says no" as tests of single values, and the settings that a record
+// may hold.
 ghost use mathlib.Core.Path.{_≡_};
 ghost use Prim.Native.Nat.{_≤_};
 ghost use lib.ListN.{take};
 ghost use Rattle.cells.specs.Table.{slots};
 ghost use Rattle.card.specs.Address.{cellRoom, cellsFor};
 ghost use Rattle.card.specs.Chart.{Charted};
-ghost use Rattle.card.specs.Valid.{badPlace, badCellType, badConnectorType, badClock, badConfig, unusedSlot, badAddress, frontDriven};
+ghost use Rattle.card.specs.Valid.{badPlace, badCellType, badConnectorType, badClock, badConfig, unusedSlot};
+ghost use Rattle.card.specs.Valid.{badAddress, frontDriven};
 ghost use Rattle.text.specs.Digits.{every};
-ghost use Rattle.card.specs.Valid.{validSlot, validSlots, validCell, validConnector, valid, isCounted, noConfig, badStateAs, badState, noState};
+ghost use Rattle.card.specs.Valid.{validSlot, validSlots, validCell, validConnector, valid, isCounted, noConfig};
+ghost use Rattle.card.specs.Valid.{badStateAs, badState, noState};
 use crate::card::Connector;
 use crate::chart::Chart;
 use crate::chart::chart;
@@ -95,7 +98,9 @@ pub fn bad_address(a: Number, size: u8) -> bool
 
 // The same of four addresses, for which the chart is made once.
 pub fn bad_addresses(x: Number, y: Number, z: Number, f: Number, size: u8) -> Slots
-    ensures { λ r. ⌜ r ≡ slots (badAddress (cellsFor size) x) (badAddress (cellsFor size) y) (badAddress (cellsFor size) z) (badAddress (cellsFor size) f) ⌝ }
+    ensures { λ r. ⌜ r
+        ≡ slots (badAddress (cellsFor size) x) (badAddress (cellsFor size) y) (badAddress (cellsFor size) z)
+        (badAddress (cellsFor size) f) ⌝ }
 {
     let c = chart();
     let x = refused(&c, x, size);

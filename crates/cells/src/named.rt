@@ -22,7 +22,8 @@ pub fn moved2(d: &[u64; QUARTERS], x: u8, y: u8) -> bool
 }
 
 pub fn moved3(d: &[u64; QUARTERS], x: u8, y: u8, z: u8) -> bool
-    ensures { λ r. ⌜ r ≡ ((readFrom (now (d .entry)) x || readFrom (now (d .entry)) y) || readFrom (now (d .entry)) z) ⌝ }
+    ensures { λ r. ⌜ r
+        ≡ ((readFrom (now (d .entry)) x || readFrom (now (d .entry)) y) || readFrom (now (d .entry)) z) ⌝ }
 {
     moved2(d, x, y) || read(d, z)
 }
@@ -42,7 +43,8 @@ pub fn flop_wakes(x: u8, y: u8, z: u8, f: u8, q: &[u64; QUARTERS], d: &[u64; QUA
 }
 
 pub fn jk_wakes(x: u8, y: u8, z: u8, q: &[u64; QUARTERS], d: &[u64; QUARTERS]) -> bool
-    ensures { λ r. ⌜ r ≡ (readFrom (now (q .entry)) z || (readFrom (now (d .entry)) x || readFrom (now (d .entry)) y)) ⌝ }
+    ensures { λ r. ⌜ r
+        ≡ (readFrom (now (q .entry)) z || (readFrom (now (d .entry)) x || readFrom (now (d .entry)) y)) ⌝ }
 {
     read(q, z) || moved2(d, x, y)
 }

@@ -6,8 +6,10 @@ ghost use Rattle.cells.specs.declared.cell.Pulses.{Pulses};
 ghost use Rattle.cells.specs.State.{state};
 ghost use Rattle.cells.specs.Reading.{threeFrom, slotsFrom};
 ghost use Rattle.cells.specs.Work;
-ghost use Rattle.cells.specs.Work.{lookupOut, looked, dFlop, syncDFlop, clearDFlop, flopNext, shotBusy, delayBusy, nextCount, nextPulse, pulses};
-ghost use Rattle.cells.specs.Work.{countAfter, pulseAfter, startedBy, activeAfter, keptActive, countedUp, workAs, gateOut};
+ghost use Rattle.cells.specs.Work.{lookupOut, looked, dFlop, syncDFlop, clearDFlop, flopNext, shotBusy};
+ghost use Rattle.cells.specs.Work.{delayBusy, nextCount, nextPulse, pulses};
+ghost use Rattle.cells.specs.Work.{countAfter, pulseAfter, startedBy, activeAfter, keptActive, countedUp, workAs};
+ghost use Rattle.cells.specs.Work.{gateOut};
 ghost use Rattle.cells.specs.Effect.{workedBy, flopOf};
 use crate::cell::Config;
 use crate::cell::Count;
@@ -308,14 +310,16 @@ pub enum Effect {
 // becomes of any state that has them.
 
 pub fn one_shot(retrigger: bool, config: Config, count: Pulses, r: Slots) -> Effect
-    ensures { λ e. ⌜ ((bit pulse out : Bool) → let s = state count bit pulse in workedBy s out e ≡ workAs (OneShot retrigger) config s r) ⌝ }
+    ensures { λ e. ⌜ ((bit pulse out : Bool)
+        → let s = state count bit pulse in workedBy s out e ≡ workAs (OneShot retrigger) config s r) ⌝ }
 {
     let took = taken(retrigger, r, shot_busy(count));
     Effect::Count(count_after(took, Pulses(config), count, r))
 }
 
 pub fn delay(retrigger: bool, config: Config, count: Pulses, pulse: bool, r: Slots) -> Effect
-    ensures { λ e. ⌜ ((bit out : Bool) → let s = state count bit pulse in workedBy s out e ≡ workAs (Delay retrigger) config s r) ⌝ }
+    ensures { λ e. ⌜ ((bit out : Bool)
+        → let s = state count bit pulse in workedBy s out e ≡ workAs (Delay retrigger) config s r) ⌝ }
 {
     let took = taken(retrigger, r, delay_busy(count, pulse));
     let next = count_after(took, Pulses(config), count, r);
@@ -323,7 +327,8 @@ pub fn delay(retrigger: bool, config: Config, count: Pulses, pulse: bool, r: Slo
 }
 
 pub fn counter(counter: CounterKind, count: Pulses, bit: bool, r: Slots) -> Effect
-    ensures { λ e. ⌜ ((pulse out : Bool) → let s = state count bit pulse in workedBy s out e ≡ workAs (Counter counter) 0 s r) ⌝ }
+    ensures { λ e. ⌜ ((pulse out : Bool)
+        → let s = state count bit pulse in workedBy s out e ≡ workAs (Counter counter) 0 s r) ⌝ }
 {
     let active = active_after(counter, r, count, bit);
     let next = counted_up(r.z, active, r.y, count);

@@ -5,7 +5,8 @@ ghost use lib.ListN.{length, take, drop};
 ghost use Rattle.card.specs.Address.{cellCount, cellRoom};
 ghost use Rattle.text.specs.Digits.{every};
 ghost use Rattle.saved.specs.Record.{configWidth, recordLength};
-ghost use Rattle.convert.specs.Convert.{cellsOf, otherWidth, narrowCell, isBlank, convertNumber, convertLength, convertedTo};
+ghost use Rattle.convert.specs.Convert.{cellsOf, otherWidth, narrowCell, isBlank, convertNumber, convertLength};
+ghost use Rattle.convert.specs.Convert.{convertedTo};
 use card::connectors::each_of;
 use card::limits::CELLS;
 use card::limits::LARGE;
@@ -97,10 +98,12 @@ fn all_blank(cells: [Cell; CELLS], n: usize) -> bool
     ok
 }
 
-// A record in its other form, constants above 1 made 1, to the front of a buffer; beyond it the buffer is as it was. That of a large card comes out as
-// a small one's in the old form. k is 14 for a length of no form, else 1 for a buffer with no room for the result, else what a load of the record gives,
-// else 17 where the old form has no room for a duration, else 18 where a cell above those of a small card is set or read: then by the rules of a small
-// card the settings of the others are none that lines can set. Where k is not 0 the buffer stays, and len is 0.
+// A record in its other form, constants above 1 made 1, to the front of a buffer; beyond it the
+// buffer is as it was. That of a large card comes out as a small one's in the old form. k is 14 for
+// a length of no form, else 1 for a buffer with no room for the result, else what a load of the
+// record gives, else 17 where the old form has no room for a duration, else 18 where a cell above
+// those of a small card is set or read: then by the rules of a small card the settings of the
+// others are none that lines can set. Where k is not 0 the buffer stays, and len is 0.
 pub fn convert(bytes: &[u8], buffer: &mut [u8]) -> Converted
     ensures { λ r. ⌜ r .k ≡ convertNumber cellCount (length (now (buffer .entry))) (now (bytes .entry)) ⌝ }
     ensures { λ r. ⌜ r .len ≡ convertLength cellCount (length (now (buffer .entry))) (now (bytes .entry)) ⌝ }

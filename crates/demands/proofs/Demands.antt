@@ -27,7 +27,7 @@ use Rattle.saved.proofs.Records.{load-refused, valid-length, saved-front}
 use Rattle.convert.specs.Convert.{convertNumber, convertLength, otherForm, convertedTo}
 use Rattle.convert.proofs.Conversion.{fitting, conversion}
 use Rattle.convert.proofs.Laws.{converted-as, refused-as}
-use Rattle.commands.proofs.Texts.{texts}
+use Rattle.grammar.proofs.Texts.{texts}
 use Rattle.lines.specs.declared.line.Outcome.{Outcome}
 use Rattle.lines.specs.Line.{shortestReply, replyWith, replyOf, lineOutcome, lineReply, lineResult}
 use Rattle.calls.specs.Calls.{Call, savedBytes, end}
@@ -40,10 +40,10 @@ use Rattle.calls.proofs.Rest.{rest-lasts}
 use Rattle.calls.proofs.SaveLoad.{save-room, save-load}
 use Rattle.calls.proofs.Sizes.{size-kept}
 use Rattle.calls.proofs.Tallied.{every-list-tallied, who-is-named, grows-as-answered}
-use Rattle.printed.specs.Print.{wiringText, tooLong, printNumber, printLength, printedTo}
-use Rattle.printed.proofs.Feeds.{feeds-back}
-use Rattle.printed.proofs.Longest.{longest-text}
-use Rattle.printed.proofs.Settable.{valid-is-settable}
+use Rattle.wiring.specs.Print.{wiringText, tooLong, printNumber, printLength, printedTo}
+use Rattle.wiring.proofs.Feeds.{feeds-back}
+use Rattle.wiring.proofs.Longest.{longest-text}
+use Rattle.wiring.proofs.Settable.{valid-is-settable}
 use Rattle.rack.proofs.Alone.{alone-in-row, shared-timer-promise}
 use Rattle.rack.proofs.Buffers.{rack-buffers}
 use Rattle.rack.proofs.Cards.{is-card, reached}

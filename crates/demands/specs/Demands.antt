@@ -31,7 +31,7 @@ use Rattle.saved.specs.Headers.{Bytes, headedEither}
 use Rattle.saved.specs.Record.{loadNumber, loaded}
 use Rattle.convert.specs.Convert.{convertNumber, convertLength, otherForm, convertedTo}
 use Rattle.convert.specs.Conversion.{Conversion}
-use Rattle.commands.specs.Texts.{Texts}
+use Rattle.grammar.specs.Texts.{Texts}
 use Rattle.lines.specs.Line.{shortestReply, lineReply, lineResult}
 use Rattle.calls.specs.Calls.{Call, savedBytes, end}
 use Rattle.calls.specs.Demand3 as Lists
@@ -41,10 +41,10 @@ use Rattle.calls.specs.Rest.{RestLasts}
 use Rattle.calls.specs.SaveLoad.{SaveLoad}
 use Rattle.calls.specs.Sizes.{SizeKept}
 use Rattle.calls.specs.Tallies.{EveryListTallied, WhoIsNamed, GrowsAsAnswered}
-use Rattle.printed.specs.Feeds.{FeedsBack}
-use Rattle.printed.specs.Longest.{Longest}
-use Rattle.printed.specs.Print.{wiringText, printNumber, printLength, printedTo}
-use Rattle.printed.specs.Settable.{ValidIsSettable}
+use Rattle.wiring.specs.Feeds.{FeedsBack}
+use Rattle.wiring.specs.Longest.{Longest}
+use Rattle.wiring.specs.Print.{wiringText, printNumber, printLength, printedTo}
+use Rattle.wiring.specs.Settable.{ValidIsSettable}
 use Rattle.rack.specs.Alone.{AloneInRow, SharedTimerPromise}
 use Rattle.rack.specs.Calls.{RackBuffers}
 use Rattle.rack.specs.Cards.{IsCard, Reached}

@@ -1,4 +1,5 @@
-// The boxes behind a cell's wave: the ticks in which it woke. A browser shows why where one points at a box.
+// The boxes behind a cell's wave: the ticks in which it woke. A browser shows why where one points
+// at a box.
 ghost use Rattle.diagram.specs.Page.{Fits};
 use crate::kept::Ticks;
 use crate::kept::Why;

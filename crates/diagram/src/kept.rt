@@ -1,16 +1,18 @@
-// The ticks that a picture keeps, in one array of words, four words for each tick; the first four are those of the tick before the first that is kept.
+// The ticks that a picture keeps, in one array of words, four words for each tick; the first four
+// are those of the tick before the first that is kept.
 //
-// The words of a tick: what it showed (scope::packed), twice why cells woke in it, and what kind of tick and of cells it had. Each of these three has
-// a bit for each cell in every sixteen: 0 edited, 16 X changed, 32 Y, 48 Z; 0 F changed, 16 clock high, 32 X high, 48 F high; 0 its clock wakes it only
-// while it is active, 16 it has a start and a stop. Bit 32 of the last is set in a full tick.
+// The words of a tick: what it showed (scope::packed), twice why cells woke in it, and what kind of
+// tick and of cells it had. Each of these three has a bit for each cell in every sixteen: 0 edited,
+// 16 X changed, 32 Y, 48 Z; 0 F changed, 16 clock high, 32 X high, 48 F high; 0 its clock wakes it
+// only while it is active, 16 it has a start and a stop. Bit 32 of the last is set in a full tick.
 ghost use Prim.Native.Nat.{_≤_, _<_};
 use card::card::Card;
 use card::limits::CELLS;
 use cells::cell::Cell;
 use cells::table::Class;
 use cells::table::class_of;
+use reasons::cell::Reasons;
 use ticks::view::Input;
-use why::cell::Reasons;
 
 // `keptTicks`: of a longer run only these are drawn.
 pub const KEPT: usize = 300;
@@ -103,12 +105,13 @@ fn gathered(found: [Reasons; CELLS], cells: [Cell; CELLS], full: bool) -> Why {
 
 // Why the cells of a card wake in a tick.
 pub fn why_of(card: Card, input: Input, full: bool) -> Why {
-    let found = why::reasons(card, input, full);
+    let found = reasons::reasons(card, input, full);
     let cells = card.cells;
     gathered(found, cells, full)
 }
 
-// The place of tick t, counted from 1; 0 is the tick before the first. The remainder changes no tick of a picture: with it no caller has to show that there is room.
+// The place of tick t, counted from 1; 0 is the tick before the first. The remainder changes no
+// tick of a picture: with it no caller has to show that there is room.
 fn place_of(t: usize) -> usize
     ensures { λ r. ⌜ r ≤ 1200 ⌝ }
 {

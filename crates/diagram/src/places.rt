@@ -1,4 +1,5 @@
-// Where things stand in a picture. Lengths are in pixels, of which a printed page has about 96 to the inch.
+// Where things stand in a picture. Lengths are in pixels, of which a printed page has about 96 to
+// the inch.
 ghost use Prim.Native.Nat.{_≤_, _<_, _+_};
 ghost use Rattle.diagram.specs.Page.{columns, mostRows};
 use program::writer::Room;
@@ -28,8 +29,8 @@ pub const ROW: u64 = 22;
 
 pub const GAP: u64 = 16;
 
-// Ticks side by side: from tick `start` up to `end`, counted from 0 among those kept; `before` came before these. Their columns are wide where the
-// picture has few.
+// Ticks side by side: from tick `start` up to `end`, counted from 0 among those kept; `before` came
+// before these. Their columns are wide where the picture has few.
 pub struct Strip {
     pub start: usize,
     pub end: usize,

@@ -110,7 +110,14 @@ fn put_full_over(out: &mut Room, w: Writer, full: bool, k: usize, wide: bool) ->
     put(out, a, b"25\">F</text>\n")
 }
 
-fn put_column_head(out: &mut Room, w: Writer, number: u64, full: bool, k: usize, wide: bool) -> Writer
+fn put_column_head(
+    out: &mut Room,
+    w: Writer,
+    number: u64,
+    full: bool,
+    k: usize,
+    wide: bool,
+) -> Writer
     requires { ⌜ k ≤ columns ⌝ }
 {
     let a = put_number_over(out, w, number, k, wide);
@@ -233,7 +240,14 @@ fn put_row(out: &mut Room, w: Writer, card: Card, ticks: &Ticks, s: Strip, r: u3
 }
 
 // All rows, one below the other.
-fn put_rows(out: &mut Room, writer: Writer, card: Card, ticks: &Ticks, s: Strip, rows: u64) -> Writer
+fn put_rows(
+    out: &mut Room,
+    writer: Writer,
+    card: Card,
+    ticks: &Ticks,
+    s: Strip,
+    rows: u64,
+) -> Writer
     requires { ⌜ Fits s ⌝ }
 {
     let mut w = writer;

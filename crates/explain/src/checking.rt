@@ -1,5 +1,5 @@
-// A transcript, line by line: what is entered, what must come, and what is said where something else
-// comes.
+// A transcript, line by line: what is entered, what must come, and what is said where something
+// else comes.
 use crate::facts::Facts;
 use crate::facts::Run;
 use crate::facts::more;
@@ -12,7 +12,7 @@ use crate::shape::is_input;
 use crate::shape::plain_end;
 use crate::shape::return_start;
 use check::same;
-use commands::grammar::Parsed;
+use grammar::grammar::Parsed;
 use input::LINE;
 use input::keep;
 use input::least;
@@ -24,8 +24,8 @@ use session::Event;
 use session::LONGEST_PRINT;
 use session::refusal_of;
 
-// What a program lends for the whole of a transcript: the line that was entered last, and its answer,
-// which wait for the answer that must come.
+// What a program lends for the whole of a transcript: the line that was entered last, and its
+// answer, which wait for the answer that must come.
 pub type Text = [u8; LINE];
 
 pub type Answer = [u8; LONGEST_PRINT];
@@ -314,8 +314,8 @@ fn take_line(
     take_plain(d, &text[0..n], store, kept, answer, out)
 }
 
-// The next line, without its LF. Of one that is longer the first bytes, as many as are kept of a line
-// that has not ended.
+// The next line, without its LF. Of one that is longer the first bytes, as many as are kept of a
+// line that has not ended.
 pub fn take(
     c: Check,
     text: &[u8],

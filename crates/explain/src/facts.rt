@@ -6,9 +6,9 @@ use card::card::Card;
 use card::change::Change;
 use card::change::apply;
 use card::context::context_of;
-use commands::grammar::Command;
-use commands::grammar::Parsed;
-use commands::grammar::parse_line;
+use grammar::grammar::Command;
+use grammar::grammar::Parsed;
+use grammar::grammar::parse_line;
 use lines::decision::decide_for;
 use phrases::form::is_move;
 use session::Event;
@@ -24,8 +24,8 @@ pub struct Run {
     pub strayed: bool,
 }
 
-// What a line did: the run before it and after it, the event, of a card line what it was read as and
-// the cells that it edited, and how many bytes its answer has.
+// What a line did: the run before it and after it, the event, of a card line what it was read as
+// and the cells that it edited, and how many bytes its answer has.
 pub struct Facts {
     pub before: Run,
     pub after: Run,
@@ -139,8 +139,8 @@ fn run_after(run: Run, next: Card, ran: bool, strayed: bool) -> Run {
     }
 }
 
-// One line of input, without its LF: `session::enter` enters it, so that card and store are those of
-// plrun, and its answer goes to the front of a buffer that has room for the longest.
+// One line of input, without its LF: `session::enter` enters it, so that card and store are those
+// of plrun, and its answer goes to the front of a buffer that has room for the longest.
 pub fn step(run: Run, text: &[u8], store: &mut [u8], answer: &mut [u8]) -> Facts
     requires { ⌜ longestPrint ≤ length (now answer) ⌝ }
 {

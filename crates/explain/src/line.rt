@@ -1,9 +1,9 @@
 // A run, line by line: each with its number, its answer, and below it what the answer means.
 //
-// plexplain writes of each line: its number, where it is a tick that ran `, tick ` and the number of
-// that tick, `> `, and the line; then the answer, as plrun prints it; then sentences, each after four
-// blanks or more. Ticks are counted as pldraw counts them: an idle one has no number. With rows it
-// writes the same facts as one line of JSON.
+// plexplain writes of each line: its number, where it is a tick that ran `, tick ` and the number
+// of that tick, `> `, and the line; then the answer, as plrun prints it; then sentences, each after
+// four blanks or more. Ticks are counted as pldraw counts them: an idle one has no number. With
+// rows it writes the same facts as one line of JSON.
 use crate::accepted::put_accepted;
 use crate::accepted::put_loaded;
 use crate::facts::Facts;
@@ -14,8 +14,8 @@ use crate::rows::put_row;
 use card::card::Card;
 use card::context::Context;
 use card::context::context_of;
-use commands::grammar::Command;
-use commands::grammar::Parsed;
+use grammar::grammar::Command;
+use grammar::grammar::Parsed;
 use phrases::hints::put_hints;
 use phrases::out::Page;
 use phrases::out::around;
@@ -99,17 +99,20 @@ fn put_astray(out: &mut Page, at: usize, f: Facts, x: Context) -> usize {
     if !is_astray(f) {
         return at;
     }
-    let a = put(
-        out,
-        at,
-        b"    The pointer did not move: this line goes to ",
-    );
+    let a = put(out, at, b"    The pointer did not move: this line goes to ");
     let b = place_name(out, a, x.pointer);
     put(out, b, b".\n")
 }
 
 // A card line that is accepted.
-fn put_obeyed(out: &mut Page, at: usize, p: Parsed, edits: u64, before: Card, after: Card) -> usize {
+fn put_obeyed(
+    out: &mut Page,
+    at: usize,
+    p: Parsed,
+    edits: u64,
+    before: Card,
+    after: Card,
+) -> usize {
     match p {
         Parsed::Here(command) => {
             let a = put_accepted(out, at, command, before, after);

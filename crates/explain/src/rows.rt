@@ -93,13 +93,7 @@ pub fn put_row(
     let event = f.event;
     let a = put_head(out, at, text, run.lines);
     let b = put_answer(out, a, answer, f.len);
-    let c = around(
-        out,
-        b,
-        b",\"refusal\":",
-        refusal_of(event) as u32,
-        b"",
-    );
+    let c = around(out, b, b",\"refusal\":", refusal_of(event) as u32, b"");
     let d = put_event(out, c, asleep, f);
     put(out, d, b"}\n")
 }

@@ -36,7 +36,8 @@ fn blanks_start(text: &[u8], n: usize) -> usize
     i
 }
 
-// How many bytes a line has before its remark and the blanks there, or before the blanks at its end.
+// How many bytes a line has before its remark and the blanks there, or before the blanks at its
+// end.
 pub fn plain_end(text: &[u8]) -> usize
     ensures { λ r. ⌜ r ≤ length (now (text .entry)) ⌝ }
 {

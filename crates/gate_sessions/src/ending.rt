@@ -4,12 +4,12 @@ use crate::put_number;
 use card::card::Card;
 use card::limits::Number;
 use libc::STDOUT_FILENO;
-use printed::parts::TEXT_MOST;
+use wiring::parts::TEXT_MOST;
 
 // What a card prints of itself.
 pub fn put_wiring(card: Card) {
     let mut text = [0u8; TEXT_MOST];
-    let printed = printed::print::print(card, &mut text);
+    let printed = wiring::print::print(card, &mut text);
     let len = printed.len;
     put(&text[0..len]);
 }

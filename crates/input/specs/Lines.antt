@@ -1,5 +1,6 @@
--- Document 01, "One run": lines of input end at LF, each is taken when its LF comes, and what stands behind the last LF is dropped, since no LF comes.
--- What is done with a line is a parameter, so that every program takes its lines by this definition.
+-- Document 01, "One run": lines of input end at LF, each is taken when its LF comes, and what
+-- stands behind the last LF is dropped, since no LF comes. What is done with a line is a parameter,
+-- so that every program takes its lines by this definition.
 use Prim.Native.Nat.{ℕ, _-_, _^_, _<_}
 use mathlib.Core.Path.{_≡_}
 use mathlib.Core.Bool.{cond}
@@ -44,7 +45,8 @@ NoLf l = (k : ℕ) → k < length l → getD l k 0 ≡ 10 → ⊥
 abbrev pub cutTo : {A : Type 0} → ℕ → Taken A → Taken A
 cutTo n s = record { done = s .done; line = take n (s .line) }
 
--- of a card line or a tick: more than the 80 bytes of the longest, so that a longer one, cut to these, is still too long
+-- of a card line or a tick: more than the 80 bytes of the longest, so that a longer one, cut to
+-- these, is still too long
 abbrev pub kept : ℕ
 kept = 96
 

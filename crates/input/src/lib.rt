@@ -1,8 +1,10 @@
 // Lines of an input: where they end, what is kept of one that has not ended, and the reads.
 //
-// What bytes of input do is a definition, `takesAll`, whatever a program does with a line. A program that holds bytes in memory goes from LF to LF by
-// `line_end`. One that reads goes from line to line by `next_line`, in constant memory: a block of input with room for a line before it, and the line
-// that has not ended. The calls that read stand in `read_at`; no contract can say which bytes come there.
+// What bytes of input do is a definition, `takesAll`, whatever a program does with a line. A
+// program that holds bytes in memory goes from LF to LF by `line_end`. One that reads goes from
+// line to line by `next_line`, in constant memory: a block of input with room for a line before it,
+// and the line that has not ended. The calls that read stand in `read_at`; no contract can say
+// which bytes come there.
 ghost use mathlib.Core.Bool.{true, false};
 ghost use mathlib.Core.Path.{_≡_};
 ghost use Prim.Native.Nat.{ℕ, _≤_, _<_, _+_, min};
@@ -13,21 +15,25 @@ ghost use Rattle.input.specs.Reading.{Looked, Refilled, Next};
 // `blockLength`: of a block of input.
 pub const BLOCK: usize = 2048;
 
-// `kept`: more than the 80 bytes of the longest line, so that a longer one, cut to this, is still too long.
+// `kept`: more than the 80 bytes of the longest line, so that a longer one, cut to this, is still
+// too long.
 pub const LINE: usize = 96;
 
 // A line that has not ended, and behind it a block.
 pub const BUFFER: usize = LINE + BLOCK;
 
-// `mostReads`: a proved loop has to end, and nothing says that the input does. At a microsecond a read these last for more than four years.
+// `mostReads`: a proved loop has to end, and nothing says that the input does. At a microsecond a
+// read these last for more than four years.
 pub const READS: u64 = 1 << 47;
 
-// Where the line lies in a block that was given last, from `start` to its LF at `end`, and how many bytes of the block have been read.
+// Where the line lies in a block that was given last, from `start` to its LF at `end`, and how many
+// bytes of the block have been read.
 pub struct Reader {
     pub start: usize,
     pub end: usize,
     pub n: usize,
-    // whether a line was given; none is at the input's end, and where a read failed. While the next line is looked for: whether one may come
+    // whether a line was given; none is at the input's end, and where a read failed. While the next
+    // line is looked for: whether one may come
     pub going: bool,
     // whether the last read failed
     pub failed: bool,
@@ -118,7 +124,8 @@ fn read_from(input: i32, buffer: &mut [u8], at: usize) -> Got
     }
 }
 
-// Reads until a buffer is full or the input ends. Where a read fails, `n` counts the bytes before it.
+// Reads until a buffer is full or the input ends. Where a read fails, `n` counts the bytes before
+// it.
 pub fn read_all(input: i32, buffer: &mut [u8]) -> Got
     ensures { λ r. ⌜ r .n ≤ length (now (buffer .exit)) ⌝ }
 {
@@ -157,7 +164,8 @@ pub fn start() -> Reader
     }
 }
 
-// The bytes behind the line that was given last, up to the next LF, or to the last that has been read.
+// The bytes behind the line that was given last, up to the next LF, or to the last that has been
+// read.
 fn behind(r: Reader, block: &[u8]) -> Reader
     requires { ⌜ r .end ≤ r .n ⌝ }
     requires { ⌜ r .n ≤ length (now block) ⌝ }
@@ -176,8 +184,8 @@ fn behind(r: Reader, block: &[u8]) -> Reader
     }
 }
 
-// The line from `start` has no LF up to the last byte that has been read. Its first bytes, as many as are kept, go to the front of the block, and the
-// bytes of a read behind them.
+// The line from `start` has no LF up to the last byte that has been read. Its first bytes, as many
+// as are kept, go to the front of the block, and the bytes of a read behind them.
 fn refilled(r: Reader, input: i32, block: &mut [u8], line: &mut [u8]) -> Reader
     requires { ⌜ r .start ≤ r .n ⌝ }
     requires { ⌜ r .n ≤ length (now block) ⌝ }
@@ -201,8 +209,8 @@ fn refilled(r: Reader, input: i32, block: &mut [u8], line: &mut [u8]) -> Reader
     }
 }
 
-// The next line. It lies in the block, from `start` to `end`, without its LF; where no further LF comes, none is given. The reader is what `start` or
-// this function gave, with the same buffers.
+// The next line. It lies in the block, from `start` to `end`, without its LF; where no further LF
+// comes, none is given. The reader is what `start` or this function gave, with the same buffers.
 pub fn next_line(r: Reader, input: i32, block: &mut [u8], line: &mut [u8]) -> Reader
     requires { ⌜ r .end ≤ r .n ⌝ }
     requires { ⌜ r .n ≤ length (now block) ⌝ }

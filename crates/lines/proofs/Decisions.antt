@@ -14,9 +14,9 @@ use Rattle.card.specs.Address.{cellRoom}
 use Rattle.card.specs.Valid.{badPlace, badCellType, badConnectorType, badClock, badAddress}
 use Rattle.card.proofs.Bounds.{place-most, clock-most, kind-most, connector-kind-most}
 use Rattle.card.proofs.WriteLaws.{address-most}
-use Rattle.commands.specs.declared.grammar.Pairs.{Pairs}
-use Rattle.commands.specs.declared.grammar.Slot.{Slot}
-use Rattle.commands.specs.declared.grammar.Slot.the-variants.{X, Y, Z, F, NoSlot}
+use Rattle.grammar.specs.declared.grammar.Pairs.{Pairs}
+use Rattle.grammar.specs.declared.grammar.Slot.{Slot}
+use Rattle.grammar.specs.declared.grammar.Slot.the-variants.{X, Y, Z, F, NoSlot}
 use Rattle.lines.specs.declared.decision.Response.{Response}
 use Rattle.lines.specs.Refusal.{when, orElse, tooLarge, judged, anyBadAddress, alone}
 use Rattle.lines.specs.Line.{wireOf, wiresOf, slotIndex, decided}

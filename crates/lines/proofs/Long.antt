@@ -9,9 +9,9 @@ use borrow.Author.Tests.{lt-leb}
 use Rattle.card.specs.declared.card.Card.{Card}
 use Rattle.card.specs.Context.{contextOf}
 use Rattle.saved.specs.Record.{configWidth, savedTo}
-use Rattle.commands.specs.declared.grammar.Parsed.{Parsed}
-use Rattle.commands.specs.declared.grammar.Parsed.the-variants.{Malformed}
-use Rattle.commands.specs.Grammar.{longestLine, parse}
+use Rattle.grammar.specs.declared.grammar.Parsed.{Parsed}
+use Rattle.grammar.specs.declared.grammar.Parsed.the-variants.{Malformed}
+use Rattle.grammar.specs.Grammar.{longestLine, parse}
 use Rattle.lines.specs.declared.line.Outcome.{Outcome}
 use Rattle.lines.specs.Line.{outcomeOf, shortestReply, refused, decisionFor, lineDecision, replyOf, lineOutcome, lineReply, storeAfter}
 

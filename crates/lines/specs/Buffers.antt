@@ -22,7 +22,7 @@ use Rattle.card.specs.Edits.{currentCell, currentConnector, putCell, typed, set
 use Rattle.card.specs.Change.{changed}
 use Rattle.card.specs.Fresh.{fresh, freshOf}
 use Rattle.card.specs.Valid.{badConfig, noConfig}
-use Rattle.commands.specs.Grammar.{isWord, isWhole, toEnd, slotOf, writeOf, ccaWrite, ccaRead, ccaForm, readForm, cardForm, plainForm, addressed, parse}
+use Rattle.grammar.specs.Grammar.{isWord, isWhole, toEnd, slotOf, writeOf, ccaWrite, ccaRead, ccaForm, readForm, cardForm, plainForm, addressed, parse}
 use Rattle.lines.specs.Refusal.{refusal}
 use Rattle.lines.specs.Line.{ending, shortestReply, changeFor, responseTo, decision, decisionFor, lineDecision, lineOutcome, replyOf, lineReply, lineResult}
 

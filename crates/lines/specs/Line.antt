@@ -16,19 +16,19 @@ use Rattle.card.specs.declared.context.Context.{Context}
 use Rattle.card.specs.Change.{changed}
 use Rattle.card.specs.Context.{contextOf, typeRead, configRead, stateRead, slotRead, frontRead, backRead, lowerRead, upperRead}
 use Rattle.saved.specs.Record.{configWidth, savedTo}
-use Rattle.commands.specs.declared.grammar.Pairs.{Pairs}
-use Rattle.commands.specs.declared.grammar.Slot.{Slot}
-use Rattle.commands.specs.declared.grammar.Slot.the-variants.{X, Y, Z, F, NoSlot}
-use Rattle.commands.specs.declared.grammar.Command.{Command}
-use Rattle.commands.specs.declared.grammar.Command.the-variants.{Move, Where, Trigger, Home, Preset, SetKind, SetConfig, SetState, GetKind, GetConfig}
-use Rattle.commands.specs.declared.grammar.Command.the-variants.{GetState, SetSlots, GetSlot, Front, Back, Cells, Upper, Save}
-use Rattle.commands.specs.declared.grammar.Parsed.{Parsed}
-use Rattle.commands.specs.declared.grammar.Parsed.the-variants.{Malformed, Elsewhere, Here}
+use Rattle.grammar.specs.declared.grammar.Pairs.{Pairs}
+use Rattle.grammar.specs.declared.grammar.Slot.{Slot}
+use Rattle.grammar.specs.declared.grammar.Slot.the-variants.{X, Y, Z, F, NoSlot}
+use Rattle.grammar.specs.declared.grammar.Command.{Command}
+use Rattle.grammar.specs.declared.grammar.Command.the-variants.{Move, Where, Trigger, Home, Preset, SetKind, SetConfig, SetState, GetKind, GetConfig}
+use Rattle.grammar.specs.declared.grammar.Command.the-variants.{GetState, SetSlots, GetSlot, Front, Back, Cells, Upper, Save}
+use Rattle.grammar.specs.declared.grammar.Parsed.{Parsed}
+use Rattle.grammar.specs.declared.grammar.Parsed.the-variants.{Malformed, Elsewhere, Here}
 use Rattle.lines.specs.declared.decision.Response.{Response}
 use Rattle.lines.specs.declared.decision.Decision.{Decision}
 use Rattle.lines.specs.declared.line.Answered.{Answered}
 use Rattle.lines.specs.declared.line.Outcome.{Outcome}
-use Rattle.commands.specs.Grammar.{parse}
+use Rattle.grammar.specs.Grammar.{parse}
 use Rattle.lines.specs.Refusal.{refusal}
 
 -- ---- what an accepted command changes; reads and `36SS Z` change nothing in the card

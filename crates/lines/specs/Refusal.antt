@@ -10,12 +10,12 @@ use Rattle.card.specs.Context.{drivesFront, presetDrives}
 use Rattle.card.specs.Presets.{offered}
 use Rattle.card.specs.Valid.{badPlace, badCellType, badConnectorType, badClock, badConfig, noConfig, unusedSlot, badAddress, badState, noState}
 use Rattle.saved.specs.Record.{configWidth, recordLength}
-use Rattle.commands.specs.declared.grammar.Pairs.{Pairs}
-use Rattle.commands.specs.declared.grammar.Slot.{Slot}
-use Rattle.commands.specs.declared.grammar.Slot.the-variants.{X, Y, Z, F, NoSlot}
-use Rattle.commands.specs.declared.grammar.Command.{Command}
-use Rattle.commands.specs.declared.grammar.Command.the-variants.{Move, Where, Trigger, Home, Preset, SetKind, SetConfig, SetState, GetKind, GetConfig}
-use Rattle.commands.specs.declared.grammar.Command.the-variants.{GetState, SetSlots, GetSlot, Front, Back, Cells, Upper, Save}
+use Rattle.grammar.specs.declared.grammar.Pairs.{Pairs}
+use Rattle.grammar.specs.declared.grammar.Slot.{Slot}
+use Rattle.grammar.specs.declared.grammar.Slot.the-variants.{X, Y, Z, F, NoSlot}
+use Rattle.grammar.specs.declared.grammar.Command.{Command}
+use Rattle.grammar.specs.declared.grammar.Command.the-variants.{Move, Where, Trigger, Home, Preset, SetKind, SetConfig, SetState, GetKind, GetConfig}
+use Rattle.grammar.specs.declared.grammar.Command.the-variants.{GetState, SetSlots, GetSlot, Front, Back, Cells, Upper, Save}
 
 -- a number, where the test holds
 abbrev pub when : Bool → ℕ → ℕ

@@ -1,4 +1,5 @@
-// What a line comes to, by a small part of the card: the number of its refusal, the change that it makes, and the response.
+// What a line comes to, by a small part of the card: the number of its refusal, the change that it
+// makes, and the response.
 ghost use mathlib.Core.Path.{_≡_};
 ghost use Prim.Native.Nat.{_%_};
 ghost use Rattle.card.specs.Address.{cellsFor};
@@ -12,8 +13,8 @@ use card::change::Change;
 use card::context::Context;
 use card::context::Value;
 use card::limits::Number;
-use commands::grammar::Command;
-use commands::grammar::Parsed;
+use grammar::grammar::Command;
+use grammar::grammar::Parsed;
 
 // The largest number that a command may give.
 const LARGEST_NUMBER: Number = 4294967295;
@@ -138,7 +139,8 @@ fn decide(x: Context, store: usize, command: Command) -> Decision
     }
 }
 
-// What a parsed line comes to, where the store has this many bytes. The card itself is not needed: Context holds what counts of it.
+// What a parsed line comes to, where the store has this many bytes. The card itself is not needed:
+// Context holds what counts of it.
 pub fn decide_for(x: Context, store: usize, p: Parsed) -> Decision
     ensures { λ d. ⌜ d ≡ decisionFor (cellsFor (x .size)) x store p ⌝ }
 {

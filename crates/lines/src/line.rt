@@ -1,4 +1,5 @@
-// The public call of the line reader: a line obeyed or refused, its reply written, the record saved.
+// The public call of the line reader: a line obeyed or refused, its reply written, the record
+// saved.
 ghost use mathlib.Core.Bool.{cond};
 ghost use mathlib.Core.List.{_++_};
 ghost use mathlib.Core.Path.{_≡_};
@@ -9,14 +10,15 @@ ghost use Rattle.text.specs.Decimal.{decimal, maxDigits};
 ghost use Rattle.card.specs.Address.{cellsFor};
 ghost use Rattle.card.specs.Context.{contextOf};
 ghost use Rattle.saved.specs.Record.{configWidth, savedTo};
-ghost use Rattle.lines.specs.Line.{ending, replyOf, replyWith, shortestReply, lineDecision, lineOutcome, lineResult, resultFor, resultOf};
+ghost use Rattle.lines.specs.Line.{ending, replyOf, replyWith, shortestReply, lineDecision, lineOutcome};
+ghost use Rattle.lines.specs.Line.{lineResult, resultFor, resultOf};
 use crate::decision::Decision;
 use crate::decision::Response;
 use crate::decision::decide_for;
 use crate::decision::refused;
 use card::card::Card;
 use card::context::Value;
-use commands::grammar::parse_line;
+use grammar::grammar::parse_line;
 
 // The fewest bytes that a reply buffer may have.
 pub const SHORTEST_REPLY: usize = 16;
@@ -59,7 +61,8 @@ fn put_reply(reply: &mut [u8], k: u8, r: Response) -> usize
 
 // Saves the record, where that was asked.
 pub fn save_if(asked: bool, card: Card, store: &mut [u8])
-    ensures { λ _. ⌜ now (store .exit) ≡ cond asked (savedTo (cellsFor (card .size)) configWidth card (now (store .entry))) (now (store .entry)) ⌝ }
+    ensures { λ _. ⌜ now (store .exit)
+        ≡ cond asked (savedTo (cellsFor (card .size)) configWidth card (now (store .entry))) (now (store .entry)) ⌝ }
 {
     if asked {
         saved::record::save(card, store);
@@ -68,7 +71,9 @@ pub fn save_if(asked: bool, card: Card, store: &mut [u8])
 
 // What becomes of a line, by the lengths of the two buffers.
 pub fn judge(card: Card, text: &[u8], reply: usize, store: usize) -> Decision
-    ensures { λ d. ⌜ d ≡ lineDecision (cellsFor (card .size)) (contextOf (cellsFor (card .size)) card) (now (text .entry)) reply store ⌝ }
+    ensures { λ d. ⌜ d
+        ≡ lineDecision (cellsFor (card .size)) (contextOf (cellsFor (card .size)) card)
+        (now (text .entry)) reply store ⌝ }
 {
     if reply < SHORTEST_REPLY {
         return refused(1);
@@ -77,7 +82,8 @@ pub fn judge(card: Card, text: &[u8], reply: usize, store: usize) -> Decision
     decide_for(x, store, parse_line(text, card.size))
 }
 
-// What a line comes to: 0 or the number of its refusal, the card then, and the response. The definitions go by it; the code changes the card last.
+// What a line comes to: 0 or the number of its refusal, the card then, and the response. The
+// definitions go by it; the code changes the card last.
 pub struct Outcome {
     pub k: u8,
     pub card: Card,
@@ -96,12 +102,14 @@ pub fn put_reply_if(reply: &mut [u8], k: u8, r: Response) -> usize
     put_reply(reply, k, r)
 }
 
-// A line to the card: any bytes, without the line's own ending. The reply is written to the front of its buffer, and `36SS Z` writes the record
-// to the front of the store; beyond these both are as they were. A refused line gives its number and leaves the card. Where the buffer has
-// fewer than SHORTEST_REPLY bytes, that number is 1 and nothing is written. The card is changed last: held in an outcome it costs some
-// 200 instructions more.
+// A line to the card: any bytes, without the line's own ending. The reply is written to the front
+// of its buffer, and `36SS Z` writes the record to the front of the store; beyond these both are as
+// they were. A refused line gives its number and leaves the card. Where the buffer has fewer than
+// SHORTEST_REPLY bytes, that number is 1 and nothing is written. The card is changed last: held in
+// an outcome it costs some 200 instructions more.
 pub fn line(card: Card, text: &[u8], reply: &mut [u8], store: &mut [u8]) -> Answered
-    ensures { λ r. ⌜ resultOf r (now (reply .exit)) (now (store .exit)) ≡ lineResult (cellsFor (card .size)) card (now (text .entry)) (now (reply .entry)) (now (store .entry)) ⌝ }
+    ensures { λ r. ⌜ resultOf r (now (reply .exit)) (now (store .exit))
+        ≡ lineResult (cellsFor (card .size)) card (now (text .entry)) (now (reply .entry)) (now (store .entry)) ⌝ }
     ensures { λ r. ⌜ r .len ≤ shortestReply ⌝ }
 {
     let d = judge(card, text, reply.len(), store.len());

@@ -1,4 +1,5 @@
-// The commands that change nothing in the card and can be refused: three reads at the pointer, and the saving of the record.
+// The commands that change nothing in the card and can be refused: three reads at the pointer, and
+// the saving of the record.
 ghost use mathlib.Core.Path.{_≡_};
 ghost use lib.Dec.{ltb};
 ghost use Rattle.card.specs.Address.{cellsFor};
@@ -14,11 +15,12 @@ use card::change::Change;
 use card::context::Context;
 use card::valid;
 use cells::table::Slots;
-use commands::grammar::Command;
-use commands::grammar::Slot;
+use grammar::grammar::Command;
+use grammar::grammar::Slot;
 use saved::record::record_length;
 
-// `36CCA Z?`: the configuration of the current cell, or a connector's source; 9 where the type has none.
+// `36CCA Z?`: the configuration of the current cell, or a connector's source; 9 where the type has
+// none.
 pub fn config(x: Context) -> Decision
     ensures { λ d. ⌜ d ≡ decision (cellsFor (x .size)) x 0 Command.GetConfig ⌝ }
 {
@@ -62,7 +64,8 @@ fn slot_index(s: Slot) -> usize
     }
 }
 
-// `36CCB p?`: the address in a slot of the current cell; 6 at a connector, 10 where the type does not use it.
+// `36CCB p?`: the address in a slot of the current cell; 6 at a connector, 10 where the type does
+// not use it.
 pub fn slot(x: Context, s: Slot) -> Decision
     ensures { λ d. ⌜ d ≡ decision (cellsFor (x .size)) x 0 (Command.GetSlot s) ⌝ }
 {
@@ -76,7 +79,13 @@ pub fn slot(x: Context, s: Slot) -> Decision
 
 // `36SS Z`, for a store of this many bytes: 1 where it is too short.
 pub fn save(store: usize, size: u8) -> Decision
-    ensures { λ d. ⌜ d ≡ record { k = Refusal.when (ltb store (recordLength (cellsFor size) configWidth)) 1; change = Change.Nothing; response = saving } ⌝ }
+    ensures { λ d. ⌜ d
+        ≡ record {
+          k = Refusal.when
+              (ltb store (recordLength (cellsFor size) configWidth)) 1;
+          change = Change.Nothing;
+          response = saving;
+        } ⌝ }
 {
     Decision {
         k: when(store < record_length(size), 1),

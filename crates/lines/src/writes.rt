@@ -1,4 +1,5 @@
-// The commands that change the card: the rows of the refusal table that each can meet, lowest number first, and the change that it makes.
+// The commands that change the card: the rows of the refusal table that each can meet, lowest
+// number first, and the change that it makes.
 ghost use mathlib.Core.Bool.{not};
 ghost use mathlib.Core.Path.{_≡_};
 ghost use Prim.Native.Nat.{_%_};
@@ -18,8 +19,8 @@ use card::context::Context;
 use card::limits::Number;
 use card::valid;
 use cells::table::Slots;
-use commands::grammar::Command;
-use commands::grammar::Pairs;
+use grammar::grammar::Command;
+use grammar::grammar::Pairs;
 
 // The low byte of a number, which is the number where it was not refused.
 fn low8(v: Number) -> u8

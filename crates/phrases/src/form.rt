@@ -1,10 +1,11 @@
-// 2: a line of another form or length. What a line has that no line may have is told, each thing by itself; where there is none, the forms are.
+// 2: a line of another form or length. What a line has that no line may have is told, each thing by
+// itself; where there is none, the forms are.
 ghost use Prim.Native.Nat.{_≤_};
 ghost use lib.ListN.{length};
-use check::same;
 use crate::out::Page;
 use crate::out::put;
 use crate::out::put_if;
+use check::same;
 
 // The most digits of a number.
 const DIGITS: u8 = 10;
@@ -24,7 +25,8 @@ struct Marks {
     odd: bool,
     blanks: bool,
     small: bool,
-    // the letters that were given a number, whether one was given two, and whether there is a second number
+    // the letters that were given a number, whether one was given two, and whether there is a
+    // second number
     x: bool,
     y: bool,
     z: bool,
@@ -329,7 +331,8 @@ fn put_body(out: &mut Page, at: usize, text: &[u8]) -> usize {
     put_plain(out, at, text, m)
 }
 
-// How many bytes of a byte-order mark a line begins with, and how many stand before a CR at its end.
+// How many bytes of a byte-order mark a line begins with, and how many stand before a CR at its
+// end.
 fn body_start(text: &[u8]) -> usize {
     if begins(text, b"\xef\xbb\xbf") { 3 } else { 0 }
 }

@@ -26,10 +26,10 @@ use cells::table::class_of;
 use cells::table::row_of;
 
 // The codes. A one-shot of duration 0; a delay of duration 0; a clock that never comes; a slot that
-// reads a connector which the card alone drives; one that reads a higher cell, one tick late; the same
-// of two flip-flops of one clock, which is how a bit is shifted; one of a flip-flop that reads a lower
-// one of the same clock, so that a bit passes through both in one tick; an output from a cell that is
-// not wired.
+// reads a connector which the card alone drives; one that reads a higher cell, one tick late; the
+// same of two flip-flops of one clock, which is how a bit is shifted; one of a flip-flop that reads
+// a lower one of the same clock, so that a bit passes through both in one tick; an output from a
+// cell that is not wired.
 const NO_HINT: u8 = 0;
 
 const NO_PULSE: u8 = 1;
@@ -419,7 +419,8 @@ fn put_connectors(
     n
 }
 
-// The hints on a card that were not given on an earlier one, in sentences or as the items of a list.
+// The hints on a card that were not given on an earlier one, in sentences or as the items of a
+// list.
 pub fn put_hints(out: &mut Page, at: usize, rows: bool, then: Card, card: Card) -> usize {
     let a = put_cells(out, at, rows, then, card);
     put_connectors(out, a, at, rows, then, card)

@@ -1,5 +1,13 @@
 // A refused line: the rule in words, and what to do. Every number that a line or a load can give.
 use crate::form::put_form;
+use crate::out::Page;
+use crate::out::around;
+use crate::out::either;
+use crate::out::low;
+use crate::out::put;
+use crate::out::put_if;
+use crate::terms::connector_at;
+use crate::terms::type_name;
 use card::context::Context;
 use card::limits::LARGE;
 use card::limits::Number;
@@ -10,17 +18,9 @@ use cells::table::Kept;
 use cells::table::Slots;
 use cells::table::class_of;
 use cells::table::row_of;
-use commands::grammar::Command;
-use commands::grammar::Pairs;
-use commands::grammar::Parsed;
-use crate::out::Page;
-use crate::out::around;
-use crate::out::either;
-use crate::out::low;
-use crate::out::put;
-use crate::out::put_if;
-use crate::terms::connector_at;
-use crate::terms::type_name;
+use grammar::grammar::Command;
+use grammar::grammar::Pairs;
+use grammar::grammar::Parsed;
 
 // 5: there is no such place.
 fn put_place(out: &mut Page, at: usize, v: Number, size: u8) -> usize {

@@ -1,4 +1,7 @@
 // Names of types, of slots with what they are for, of places and addresses.
+use crate::names;
+use crate::names::CONNECTOR_NAME;
+use crate::names::LONGEST_NAME;
 use crate::out::PAGE;
 use crate::out::Page;
 use crate::out::around;
@@ -11,9 +14,6 @@ use cells::table::Class;
 use cells::table::CounterKind;
 use cells::table::FlopKind;
 use cells::table::class_of;
-use crate::names;
-use crate::names::CONNECTOR_NAME;
-use crate::names::LONGEST_NAME;
 
 // A type's name. One that has no room is left out whole.
 pub fn type_name(out: &mut Page, at: usize, kind: u8) -> usize {

@@ -23,10 +23,10 @@ use card::limits::CellWord;
 use card::limits::OPEN_DRAIN;
 use card::place::cells_for;
 use cells::cell::Cell;
+use reasons::cell::Reasons;
+use reasons::cell::any_reason;
 use ticks::tick::Answer;
 use ticks::view::Input;
-use why::cell::Reasons;
-use why::cell::any_reason;
 
 // A tick: what came in with it, its kind, its answer, and the card before it and after it.
 pub struct Tick {
@@ -68,7 +68,8 @@ fn is_still(cell: Cell, i: u32, before: CellWord, now: CellWord) -> bool
     (cell.kind == 0) & (was == is)
 }
 
-// The cells of a set that are. They are many after a load, and nothing is to be said of them but that they were edited.
+// The cells of a set that are. They are many after a load, and nothing is to be said of them but
+// that they were edited.
 fn still_of(set: u64, cells: [Cell; CELLS], before: CellWord, now: CellWord, count: u32) -> u64
     requires { ⌜ count ≤ 32 ⌝ }
 {
@@ -146,7 +147,8 @@ fn put_still(out: &mut Page, at: usize, still: u64) -> usize {
     put_set(out, a, still)
 }
 
-// Which cells the rules name: in a quick tick they are those that are worked out, and a full tick works out all.
+// Which cells the rules name: in a quick tick they are those that are worked out, and a full tick
+// works out all.
 fn put_named(out: &mut Page, at: usize, full: bool, named: u64) -> usize {
     if full {
         let a = put(out, at, b"    The rules name:");
@@ -155,7 +157,8 @@ fn put_named(out: &mut Page, at: usize, full: bool, named: u64) -> usize {
     put_if(named == 0, out, at, b"    No cell wakes.\n")
 }
 
-// The cells that the rules do not name. On a card that calls reach a full tick leaves them what they had, as a quick one does.
+// The cells that the rules do not name. On a card that calls reach a full tick leaves them what
+// they had, as a quick one does.
 fn put_others(out: &mut Page, at: usize, full: bool, named: u64, count: u32) -> usize {
     let others = u64::count_ones(named) < count;
     put_if(
@@ -175,7 +178,8 @@ fn put_cause(out: &mut Page, at: usize, c: Connector, attached: bool) -> usize {
     put(out, a, b" in the last tick.\n")
 }
 
-// The sample is what moved an open-drain line: it is low though the card drives it high, or high again where the card drove it high before.
+// The sample is what moved an open-drain line: it is low though the card drives it high, or high
+// again where the card drove it high before.
 fn by_sample(kind: u8, high: bool, drove: bool, drives: bool) -> bool {
     (kind == OPEN_DRAIN) & ((high & drove) | (!high & drives))
 }
@@ -190,7 +194,8 @@ fn put_sampled(out: &mut Page, at: usize, c: Connector, attached: bool, high: bo
     put(out, f, b").\n")
 }
 
-// Connector k, where it shows another level. `drove` and `drives` are the driven words of the last tick and of this one.
+// Connector k, where it shows another level. `drove` and `drives` are the driven words of the last
+// tick and of this one.
 fn put_connector(
     out: &mut Page,
     at: usize,
@@ -266,7 +271,8 @@ fn put_idle(out: &mut Page, at: usize, code: u8, trigger: u8) -> usize {
     around(out, a, b"", code as u32, b": nothing happens.\n")
 }
 
-// What the words of the answer say: the connectors that are driven high, and the cells that are high.
+// What the words of the answer say: the connectors that are driven high, and the cells that are
+// high.
 fn put_words(out: &mut Page, at: usize, answer: Answer) -> usize {
     let a = put(out, at, b"    Driven high:");
     let b = put_high(out, a, answer.driven, 0, 16);
@@ -280,7 +286,7 @@ fn put_worked(out: &mut Page, at: usize, asleep: bool, t: Tick) -> usize {
     let answer = t.answer;
     let m = before.memory;
     let old = before.cells;
-    let found = why::reasons(before, t.input, t.full);
+    let found = reasons::reasons(before, t.input, t.full);
     let count = cells_for(before.size) as u32;
     let named = named_by(found, count);
     let still = still_of(named, old, m.outputs, answer.cells, count);
@@ -323,13 +329,21 @@ fn put_answer_row(out: &mut Page, at: usize, asleep: bool, t: Tick) -> usize {
     let before = t.before;
     let after = t.after;
     let w = after.memory;
-    let found = why::reasons(before, t.input, t.full);
+    let found = reasons::reasons(before, t.input, t.full);
     let a = json::number(out, at, b",\"driven\":", answer.driven as u32);
     let b = json::number(out, a, b",\"cells\":", answer.cells);
     let c = json::number(out, b, b",\"woken\":", answer.woken);
     let d = json::number(out, c, b",\"levels\":", w.levels as u32);
     let e = put(out, d, b",\"named\":[");
-    let f = put_cells(out, e, true, asleep, t, found, cells_for(before.size) as u32);
+    let f = put_cells(
+        out,
+        e,
+        true,
+        asleep,
+        t,
+        found,
+        cells_for(before.size) as u32,
+    );
     put(out, f, b"]")
 }
 

@@ -1,4 +1,5 @@
 // A cell in a tick: why it was worked out and what became of it, or why it sleeps.
+use crate::causes::put_reasons;
 use crate::json;
 use crate::json::comma;
 use crate::out::Page;
@@ -7,15 +8,14 @@ use crate::out::either;
 use crate::out::level;
 use crate::out::put;
 use crate::out::put_if;
-use crate::reasons::put_reasons;
 use crate::terms::typed_cell;
 use cells::cell::Cell;
 use cells::table::Class;
 use cells::table::CounterKind;
 use cells::table::class_of;
 use cells::wake::has_start;
-use why::cell::Reasons;
-use why::cell::any_reason;
+use reasons::cell::Reasons;
+use reasons::cell::any_reason;
 
 // A cell in a tick: as it was and is, its output then and now, and its reasons.
 pub struct Turn {
@@ -44,8 +44,8 @@ fn put_turn(out: &mut Page, at: usize, before: bool, now: bool) -> usize {
     level(out, a, now)
 }
 
-// Whether a timer takes a trigger that comes now: one that is not retriggerable ignores it while the
-// count is above 0.
+// Whether a timer takes a trigger that comes now: one that is not retriggerable ignores it while
+// the count is above 0.
 fn takes_trigger(cell: Cell) -> bool {
     let count = cell.count;
     let class = class_of(cell.kind);
@@ -56,7 +56,8 @@ fn takes_trigger(cell: Cell) -> bool {
     }
 }
 
-// Whether a timer's clock is high in the tick of a trigger that it takes. A reset comes before both.
+// Whether a timer's clock is high in the tick of a trigger that it takes. A reset comes before
+// both.
 fn ignores_clock(cell: Cell, q: Reasons) -> bool {
     let r = q.now;
     let triggered = (q.trigger | q.other) & !r.z;

@@ -18,7 +18,8 @@ lineFeed = 10
 unfoldable pub fieldText : ℕ → ℕ → List ℕ
 fieldText v mark = decimal v ++ (mark ∷ [])
 
--- "the address, its base, inverted 0 or 1, edge 0 or 1, permitted 0 or 1, separated by one blank", "and each ends LF"
+-- "the address, its base, inverted 0 or 1, edge 0 or 1, permitted 0 or 1, separated by one blank",
+-- "and each ends LF"
 unfoldable pub rowText : ℕ → Entry → List ℕ
 rowText a e =
     fieldText a blank

@@ -1,4 +1,5 @@
-// Prints the chart of the addresses: a row for each, which has the address, its base, inverted, edge and permitted.
+// Prints the chart of the addresses: a row for each, which has the address, its base, inverted,
+// edge and permitted.
 ghost use mathlib.Core.Path.{_≡_};
 ghost use Prim.Native.Nat.{_+_, _≤_};
 ghost use lib.ListN.{length};
@@ -10,10 +11,11 @@ use card::chart::Entry;
 use card::chart::chart;
 use card::chart::entry_of;
 use card::limits::SMALL;
-use program::arguments::NOTHING;
 use program::arguments::NO_INPUT;
+use program::arguments::NOTHING;
 
-// The most bytes of a field, ten digits and what ends it, and of a row. All rows have room in this many.
+// The most bytes of a field, ten digits and what ends it, and of a row. All rows have room in this
+// many.
 const FIELD_MOST: usize = 11;
 
 const ROW_MOST: usize = 5 * FIELD_MOST;

@@ -53,8 +53,8 @@ fn take_end(
     }
 }
 
-// The line that a reader has given, cut to the bytes that are kept of one that ends in another block.
-// Where none was given, the input has ended. The store is as long as a record of the card.
+// The line that a reader has given, cut to the bytes that are kept of one that ends in another
+// block. Where none was given, the input has ended. The store is as long as a record of the card.
 fn take_given(
     check: Check,
     size: u8,

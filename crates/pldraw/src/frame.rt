@@ -4,20 +4,21 @@ ghost use Rattle.diagram.specs.Page.{keptTicks, highestStrip};
 use diagram::places::number_of;
 use input::LINE;
 use input::least;
-use scope::notes::Form;
-use scope::notes::has_refused;
-use scope::notes::has_rest;
-use scope::notes::put_refused;
-use scope::notes::put_rest;
+use program::report::Report;
+use program::report::Text;
 use program::writer::Room;
 use program::writer::Writer;
 use program::writer::put;
 use program::writer::put_number;
 use program::writer::put_with;
-use program::report::Text;
-use program::report::Report;
+use scope::notes::Form;
+use scope::notes::has_refused;
+use scope::notes::has_rest;
+use scope::notes::put_refused;
+use scope::notes::put_rest;
 
-// What a picture shows: n ticks, those before them, all ticks that ran, and the rows as a set, in the order in which they are drawn.
+// What a picture shows: n ticks, those before them, all ticks that ran, and the rows as a set, in
+// the order in which they are drawn.
 pub struct Shape {
     pub n: usize,
     pub before: u64,
@@ -98,8 +99,8 @@ pub fn put_size(out: &mut Room, w: Writer, width: u64, height: u64) -> Writer {
 
 // ---- style
 
-// The fonts, the colours and the white ground: w waves, n numbers, f the mark of a full tick, b the box of a cell that woke, a that of one that only the
-// full tick worked out, e what was refused.
+// The fonts, the colours and the white ground: w waves, n numbers, f the mark of a full tick, b the
+// box of a cell that woke, a that of one that only the full tick worked out, e what was refused.
 pub fn put_style(out: &mut Room, w: Writer) -> Writer {
     let a = put(
         out,

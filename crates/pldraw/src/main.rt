@@ -1,8 +1,10 @@
-// Draws a run as a timing diagram in SVG: it reads what plrun reads, and shows each tick that ran as a column.
+// Draws a run as a timing diagram in SVG: it reads what plrun reads, and shows each tick that ran
+// as a column.
 //
-// A row is a connector's level or a cell's output; who has one is said in `rows`. A cell's row is tinted in the ticks that woke it. Sixty ticks stand
-// side by side, and the next sixty below them. The picture keeps 300 ticks, from the one that is asked for, and says how many there are. Rows are named by the
-// wiring of the last tick that is drawn. No contract can say what is written.
+// A row is a connector's level or a cell's output; who has one is said in `rows`. A cell's row is
+// tinted in the ticks that woke it. Sixty ticks stand side by side, and the next sixty below them.
+// The picture keeps 300 ticks, from the one that is asked for, and says how many there are. Rows
+// are named by the wiring of the last tick that is drawn. No contract can say what is written.
 mod frame;
 mod page;
 mod rows;
@@ -17,12 +19,12 @@ use diagram::kept::keep;
 use diagram::kept::why_of;
 use frame::Shape;
 use program::arguments;
+use program::writer::ROOM;
+use program::writer::empty;
 use scope::BUFFER;
 use scope::Feed;
 use scope::LINE;
 use scope::STORE;
-use program::writer::ROOM;
-use program::writer::empty;
 use std::num::wrapping_add_u64;
 
 // Ticks that were passed over: how many, and what the last of them showed.

@@ -20,12 +20,12 @@ use diagram::places::Strip;
 use diagram::places::end_of;
 use diagram::places::x_of;
 use diagram::strip::put_strip;
+use program::report::Report;
 use program::writer::Room;
 use program::writer::Writer;
 use program::writer::flush;
 use program::writer::put;
 use program::writer::put_with;
-use program::report::Report;
 
 // How many rows a set has.
 fn count_rows(rows: u64) -> u64
@@ -114,7 +114,14 @@ fn put_frame(out: &mut Room, w: Writer, p: Shape, report: Report, head: u64, str
 }
 
 // The picture, with rows named by the card's wiring. A write that fails ends it.
-pub fn put_page(out: &mut Room, w: Writer, card: Card, ticks: &Ticks, p: Shape, report: Report) -> Writer
+pub fn put_page(
+    out: &mut Room,
+    w: Writer,
+    card: Card,
+    ticks: &Ticks,
+    p: Shape,
+    report: Report,
+) -> Writer
     requires { ⌜ p .n ≤ keptTicks ⌝ }
 {
     let low = NUMBERS + ROW * count_rows(p.rows);

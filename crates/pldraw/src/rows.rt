@@ -1,10 +1,13 @@
-// Which connectors and cells have a row: those that change, and those that are wired. A set has bit k for connector k, BNC1 first, and bit 32 + i
-// for cell i, as in a tick's packed words (scope::packed).
+// Which connectors and cells have a row: those that change, and those that are wired. A set has bit
+// k for connector k, BNC1 first, and bit 32 + i for cell i, as in a tick's packed words
+// (scope::packed).
 //
-// A cell is wired where it is anything but a constant 0. A connector is wired where it is an output with a source other than 0, or where a wired cell
-// or such an output reads it. A fresh card's front connectors are outputs from 0, so they have no row of their own.
+// A cell is wired where it is anything but a constant 0. A connector is wired where it is an output
+// with a source other than 0, or where a wired cell or such an output reads it. A fresh card's
+// front connectors are outputs from 0, so they have no row of their own.
 //
-// Inputs are drawn first, then cells, then outputs: `in_order` gives the set of rows in that order, sixteen bits for each.
+// Inputs are drawn first, then cells, then outputs: `in_order` gives the set of rows in that order,
+// sixteen bits for each.
 ghost use Prim.Native.Nat.{_<_};
 use card::card::Card;
 use card::card::Connector;

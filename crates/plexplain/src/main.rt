@@ -53,8 +53,9 @@ fn over(run: Run) -> Said {
     }
 }
 
-// Whether the first line shows that the file is none of lines with LF at their ends: every line would
-// be refused, so that is said once instead. Blanks at a line's end are explained where they are.
+// Whether the first line shows that the file is none of lines with LF at their ends: every line
+// would be refused, so that is said once instead. Blanks at a line's end are explained where they
+// are.
 fn is_foreign(run: Run, text: &[u8]) -> bool {
     if 0 < run.lines {
         return false;
@@ -66,10 +67,10 @@ fn is_foreign(run: Run, text: &[u8]) -> bool {
     }
 }
 
-// The line that a reader has given, cut to the bytes that are kept of one that ends in another block,
-// so that what is said does not depend on how the input comes. No line that is obeyed is longer. Where
-// none was given, the input has ended: bytes after its last LF are named. The store is as long as a
-// record of the card.
+// The line that a reader has given, cut to the bytes that are kept of one that ends in another
+// block, so that what is said does not depend on how the input comes. No line that is obeyed is
+// longer. Where none was given, the input has ended: bytes after its last LF are named. The store
+// is as long as a record of the card.
 fn take_given(
     run: Run,
     r: Reader,

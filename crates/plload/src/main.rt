@@ -2,10 +2,10 @@
 // then has, or why the card refuses it.
 use input::least;
 use libc::STDERR_FILENO;
-use printed::parts::TEXT_MOST;
 use program::arguments::Arguments;
 use program::arguments::CELLS;
 use program::arguments::NOTHING;
+use wiring::parts::TEXT_MOST;
 
 // One byte more than the longest record has: an input that goes on is of no record's length.
 const ROOM: usize = 517;
@@ -23,7 +23,9 @@ fn refuse(k: u8, cells: u8) {
         return;
     }
     if cells == 32 {
-        say(b": this is no record of a card of thirty-two cells, which has 516 bytes with fields in order\n");
+        say(
+            b": this is no record of a card of thirty-two cells, which has 516 bytes with fields in order\n",
+        );
         return;
     }
     say(
@@ -41,7 +43,7 @@ fn load(bytes: &[u8], cells: u8) {
     }
     let card = loaded.card;
     let mut text = [0u8; TEXT_MOST];
-    let printed = printed::print::print(card, &mut text);
+    let printed = wiring::print::print(card, &mut text);
     let len = least(printed.len, TEXT_MOST);
     program::writer::write(&text[0..len]);
 }

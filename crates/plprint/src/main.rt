@@ -1,10 +1,10 @@
-// The program of document 02, "Print the wiring as lines": it reads what plrun reads, and at the end
-// writes the wiring of the card.
-use printed::parts::TEXT_MOST;
+// The program of document 02, "Print the wiring as lines": it reads what plrun reads, and at the
+// end writes the wiring of the card.
 use program::arguments::ANYWAY;
 use program::arguments::Arguments;
 use program::arguments::CELLS;
 use program::arguments::NOTHING;
+use wiring::parts::TEXT_MOST;
 
 fn print_from(given: Arguments) {
     let wiring = wiring_input::wiring_from(given);
@@ -13,7 +13,7 @@ fn print_from(given: Arguments) {
     }
     let card = wiring.card;
     let mut text = [0u8; TEXT_MOST];
-    let printed = printed::print::print(card, &mut text);
+    let printed = wiring::print::print(card, &mut text);
     let len = input::least(printed.len, TEXT_MOST);
     program::writer::write(&text[0..len]);
 }

@@ -1,4 +1,5 @@
-// The fields of a call, each read once: what stands at a place of a line, and whether it has the form of the field.
+// The fields of a call, each read once: what stands at a place of a line, and whether it has the
+// form of the field.
 ghost use Prim.Native.Nat.{_≤_};
 use input::least;
 use rack::pass::Front;
@@ -125,7 +126,8 @@ fn front_at(line: &[u8], i: usize) -> Pair
     pair_at(line, i)
 }
 
-// How many pairs a line of a length has from place FIRST on; a number that is no rack's where it has more than LAST.
+// How many pairs a line of a length has from place FIRST on; a number that is no rack's where it
+// has more than LAST.
 fn pairs_in(len: usize) -> u8 {
     if len < FIRST {
         return 255;

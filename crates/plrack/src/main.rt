@@ -1,14 +1,16 @@
-// A rig of cards on one backplane, on paper. Each line of the input is a call on a row of cards, and each has a line of output:
+// A rig of cards on one backplane, on paper. Each line of the input is a call on a row of cards,
+// and each has a line of output:
 //     rack N, rack N 32     a row of N fresh cards of sixteen cells, 0 to 5; the last of them with thirty-two     ok
 //     start                 a start                                                                             the number
 //     line C R TEXT         a line to card C with a reply buffer of R bytes, up to 99          the number, the reply's length and the reply
 //     load C RECORD         a load of a record in hex to card C, - for no bytes                                 the number
 //     tick CODE F|Q ..      a tick: sample and attached of the backplane, then of each front   the number, and where it is 0 the answers
-// A line of another form, and one of more than 640 bytes, prints `?`, and the error output says what form was expected. Bytes after the last LF are dropped,
-// and the program says so.
+// A line of another form, and one of more than 640 bytes, prints `?`, and the error output says
+// what form was expected. Bytes after the last LF are dropped, and the program says so.
 //
-// The cards are held by value, and lent as a row for each order to them (rack::held::on_row): a start, a tick, and the look at the row that a line and a load
-// begin with. What those do to their card is done by the functions that the calls on a lent row are made of (rack::job).
+// The cards are held by value, and lent as a row for each order to them (rack::held::on_row): a
+// start, a tick, and the look at the row that a line and a load begin with. What those do to their
+// card is done by the functions that the calls on a lent row are made of (rack::job).
 mod fields;
 
 ghost use Prim.Native.Nat.{_≤_};
@@ -107,7 +109,8 @@ fn with_card(rig: Rig, i: usize, card: Card) -> Rig {
     }
 }
 
-// What a line or a load to the card of a number needs of the row. An order ends with its place at the first card; all of the row was looked at.
+// What a line or a load to the card of a number needs of the row. An order ends with its place at
+// the first card; all of the row was looked at.
 fn taken_from(rig: Rig, number: usize) -> Taken {
     let h = ordered(rig, look_order());
     let mut p = h.pass;

@@ -1,6 +1,8 @@
-// How many ticks of a run a processor may sleep through: it reads what plrun reads, and counts the ticks in which nothing but counts changes. It goes as the loop
-// of a float does: it asks for how many ticks the card is steady, sleeps through them, makes the next one, and asks again; a line and another input end the
-// sleep, and are followed by the question too. An idle tick is no tick of the card's clock, and is left out.
+// How many ticks of a run a processor may sleep through: it reads what plrun reads, and counts the
+// ticks in which nothing but counts changes. It goes as the loop of a float does: it asks for how
+// many ticks the card is steady, sleeps through them, makes the next one, and asks again; a line
+// and another input end the sleep, and are followed by the question too. An idle tick is no tick of
+// the card's clock, and is left out.
 ghost use Prim.Native.Nat.{_≤_, _<_};
 ghost use lib.ListN.{length};
 use card::card::Card;
@@ -9,13 +11,13 @@ use input::LINE;
 use input::Reader;
 use input::next_line;
 use libc::STDOUT_FILENO;
-use saved::record::RECORD_LENGTH;
-use steady::steady_for;
-use ticks::view::Input;
 use program::arguments;
 use program::report;
 use program::report::Report;
+use saved::record::RECORD_LENGTH;
 use session::Event;
+use steady::steady_for;
+use ticks::view::Input;
 
 fn put(text: &[u8]) {
     io::write_all(STDOUT_FILENO, text);
@@ -31,14 +33,16 @@ fn put_number(n: u64) {
 struct Run {
     card: Card,
     report: Report,
-    // the input of the last tick that ran, and for how many ticks more with it the card is steady, unless a line has come since
+    // the input of the last tick that ran, and for how many ticks more with it the card is steady,
+    // unless a line has come since
     input: Input,
     known: bool,
     left: u32,
     counts: Counts,
 }
 
-// Ticks that ran, those of them that were slept through, those with another input than the tick before, and lines of the card and loads.
+// Ticks that ran, those of them that were slept through, those with another input than the tick
+// before, and lines of the card and loads.
 struct Counts {
     ticks: u64,
     slept: u64,

@@ -1,5 +1,7 @@
-// What depends on each line, for the card that an input leaves: a row for each connector that something else depends on, and behind these, for each output that
-// something else moves, the lines that can reach it. The second rows are the columns of the first: what is in no row is in no column.
+// What depends on each line, for the card that an input leaves: a row for each connector that
+// something else depends on, and behind these, for each output that something else moves, the lines
+// that can reach it. The second rows are the columns of the first: what is in no row is in no
+// column.
 ghost use Prim.Native.Nat.{_≤_, _<_};
 use card::card::Card;
 use card::limits::Number;
@@ -9,7 +11,8 @@ use program::arguments::CELLS;
 use program::arguments::NOTHING;
 use ticks::view::sees;
 
-// A cell and a connector are told by their bases: the first of the cells, of the connectors and of those on the backplane, and the one behind the last.
+// A cell and a connector are told by their bases: the first of the cells, of the connectors and of
+// those on the backplane, and the one behind the last.
 const FIRST_CELL: u32 = 1;
 
 const FIRST: u32 = 33;

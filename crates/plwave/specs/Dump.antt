@@ -1,4 +1,5 @@
--- What a tick writes to a Value Change Dump (IEEE 1364): for each wire its value, its identifier and LF. Bytes are written as numbers.
+-- What a tick writes to a Value Change Dump (IEEE 1364): for each wire its value, its identifier
+-- and LF. Bytes are written as numbers.
 use Prim.Native.Nat.{ℕ, zero, suc, _+_}
 use mathlib.Core.Bool.{Bool, cond}
 use mathlib.Core.List.{List, [], _∷_, _++_}

@@ -1,28 +1,29 @@
-// Writes a Value Change Dump (IEEE 1364) of a run: it reads what plrun reads, and shows each tick that ran as one unit of time. An idle tick takes no
-// time.
+// Writes a Value Change Dump (IEEE 1364) of a run: it reads what plrun reads, and shows each tick
+// that ran as one unit of time. An idle tick takes no time.
 //
-// The first tick's values stand whole, and after it those that changed. A tick without a change writes nothing; the time behind the last tick is
-// written at the end, so that a viewer shows it as long as the others. Before it stand comments on lines that were refused, or not entered; viewers do
-// not show them, so the error output has them too. What a tick writes is a definition, `changes`; no contract can say what is written. All goes to
-// standard output by the buffer.
+// The first tick's values stand whole, and after it those that changed. A tick without a change
+// writes nothing; the time behind the last tick is written at the end, so that a viewer shows it as
+// long as the others. Before it stand comments on lines that were refused, or not entered; viewers
+// do not show them, so the error output has them too. What a tick writes is a definition,
+// `changes`; no contract can say what is written. All goes to standard output by the buffer.
 ghost use mathlib.Core.Path.{_≡_};
 ghost use Prim.Native.Nat.{_≤_, _<_, _+_};
 ghost use lib.ListN.{length};
 ghost use lib.Seq.{sets};
 ghost use Rattle.plwave.specs.Dump.{codeOf, digitOf, changeOf, changes, wires, longest};
-use scope::notes::Form;
-use scope::notes::has_refused;
-use scope::notes::has_rest;
-use scope::notes::put_refused;
-use scope::notes::put_rest;
+use program::arguments;
+use program::report::Report;
 use program::writer::Room;
 use program::writer::Writer;
 use program::writer::flush;
 use program::writer::put;
 use program::writer::put_byte;
 use program::writer::put_number;
-use program::arguments;
-use program::report::Report;
+use scope::notes::Form;
+use scope::notes::has_refused;
+use scope::notes::has_rest;
+use scope::notes::put_refused;
+use scope::notes::put_rest;
 
 // The identifier of the wire that shows bit i of a tick's packed words: one printable byte.
 fn code_of(i: u32) -> u8
@@ -86,7 +87,8 @@ fn put_group(
     end_scope(out, b)
 }
 
-// The scope of the driven word, front and backplane. The names say so too, since some viewers show no scopes.
+// The scope of the driven word, front and backplane. The names say so too, since some viewers show
+// no scopes.
 fn put_driven(out: &mut Room, s: Writer) -> Writer {
     let a = put_scope(out, s, b"driven");
     let b = put_wires(out, a, 16, 8, b"drive_BNC", 1);
@@ -137,7 +139,8 @@ fn put_change(out: &mut [u8], at: usize, i: u32, shown: bool, b: bool) -> usize
     text::copy(out, at, &text)
 }
 
-// The bits of a word that are in a set, to the front of `out`. The result is how many bytes they take.
+// The bits of a word that are in a set, to the front of `out`. The result is how many bytes they
+// take.
 fn put_changes(out: &mut [u8], word: u64, set: u64) -> usize
     requires { ⌜ longest ≤ length (now out) ⌝ }
     ensures { λ _. ⌜ now (out .exit) ≡ sets (now (out .entry)) 0 (changes word set wires) ⌝ }
@@ -214,7 +217,8 @@ fn finish(out: &mut Room, s: Writer, report: Report, t: u64) -> Writer {
     flush(out, c)
 }
 
-// The wave file of an input. Time has 64 bits, and the ticks after so many are left out. A write that fails ends the program.
+// The wave file of an input. Time has 64 bits, and the ticks after so many are left out. A write
+// that fails ends the program.
 fn write_wave(input: i32) {
     let mut block = [0u8; scope::BUFFER];
     let mut line = [0u8; scope::LINE];

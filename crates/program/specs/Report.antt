@@ -1,4 +1,5 @@
--- What a program reports of the lines of an input: how many there were, how many were refused, and the first of these.
+-- What a program reports of the lines of an input: how many there were, how many were refused, and
+-- the first of these.
 use Prim.Native.Nat.{ℕ, _+_, _-_, _^_, min}
 use mathlib.Core.Bool.{cond}
 use mathlib.Core.List.{List}
@@ -17,7 +18,8 @@ textOf l = let n = min (length l) kept in record { bytes = sets (replicate kept 
 abbrev pub oneMore : ℕ → ℕ
 oneMore n = cond (ltb n (2 ^ 64 - 1)) (n + 1) n
 
--- after a line that was taken, after the first that was refused with number k, and after a later one
+-- after a line that was taken, after the first that was refused with number k, and after a later
+-- one
 abbrev pub afterTaken : Report → Report
 afterTaken r = record { lines = oneMore (r .lines); refused = r .refused; number = r .number; k = r .k; line = r .line; rest = r .rest }
 

@@ -29,8 +29,8 @@ pub const ASLEEP: u8 = 16;
 // Not an option: the program reads nothing, and takes no file's name.
 pub const NO_INPUT: u8 = 32;
 
-// What is read, or NOTHING; the number of cells, 16 or 32; the number of `--from`, 0 where it was not
-// given; and whether each of the other options was given.
+// What is read, or NOTHING; the number of cells, 16 or 32; the number of `--from`, 0 where it was
+// not given; and whether each of the other options was given.
 pub struct Arguments {
     pub input: i32,
     pub cells: u8,
@@ -71,8 +71,8 @@ fn refuse(w: Words, word: &[u8], why: &[u8]) -> Words
     next
 }
 
-// Standard input. A person at a terminal reads what is expected, which is the first line of the help,
-// and how to end it.
+// Standard input. A person at a terminal reads what is expected, which is the first line of the
+// help, and how to end it.
 fn standard(help: &[u8]) -> i32 {
     if libc::isatty(STDIN_FILENO) == 1 {
         let end = line_end(help, 0, help.len());
@@ -132,7 +132,7 @@ fn is_asked(help: &[u8], word: &[u8]) -> bool {
         return true;
     }
     if same(word, b"--version") {
-        crate::writer::write(b"14.2\n");
+        crate::writer::write(b"14.2.0\n");
         return true;
     }
     false

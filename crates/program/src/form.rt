@@ -71,7 +71,8 @@ fn say_line(number: u64, text: &[u8]) {
     say(text);
 }
 
-// What the file is and what to do, said of the line that shows it. Whether there was anything to say.
+// What the file is and what to do, said of the line that shows it. Whether there was anything to
+// say.
 pub fn say_form(form: Form, number: u64) -> bool {
     match form {
         Form::Plain => {

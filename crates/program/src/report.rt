@@ -1,5 +1,5 @@
-// What a program reports of its input besides what it prints: the lines that the card refused, and a
-// last line that has not ended, which is never entered.
+// What a program reports of its input besides what it prints: the lines that the card refused, and
+// a last line that has not ended, which is never entered.
 //
 // It says how many there were and which came first, on the error output.
 ghost use mathlib.Core.Path.{_≡_};

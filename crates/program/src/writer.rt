@@ -59,8 +59,8 @@ pub fn flush(out: &[u8], w: Writer) -> Writer
     Writer { used: 0, ok: ok }
 }
 
-// Where a piece has no room after what waits: that is handed to write, and the piece waits alone, or,
-// where it is longer than the buffer, is written at once.
+// Where a piece has no room after what waits: that is handed to write, and the piece waits alone,
+// or, where it is longer than the buffer, is written at once.
 fn put_alone(out: &mut Room, w: Writer, text: &[u8]) -> Writer
     ensures { λ r. ⌜ r .used ≤ roomLength ⌝ }
 {

@@ -11,8 +11,8 @@ use Rattle.card.specs.Connectors.{kindAt, sourceAt, withKind, withSource}
 use Rattle.card.specs.Edits.{move, currentConnector, putConnectors, setConnectorType}
 use Rattle.card.specs.Change.{changed}
 use Rattle.card.specs.Valid.{permittedBase, badPlace, badConnectorType, frontDriven}
-use Rattle.commands.specs.Grammar.{isWord, isWhole, toEnd, slotOf, gave, give, pairRead, pairsOf, writeOf, ccaWrite, ccaRead, ccaForm, slotForm, ccbForm}
-use Rattle.commands.specs.Grammar.{readOf, readForm, cardForm, plainForm, addressed, parse}
+use Rattle.grammar.specs.Grammar.{isWord, isWhole, toEnd, slotOf, gave, give, pairRead, pairsOf, writeOf, ccaWrite, ccaRead, ccaForm, slotForm, ccbForm}
+use Rattle.grammar.specs.Grammar.{readOf, readForm, cardForm, plainForm, addressed, parse}
 use Rattle.lines.specs.Refusal.{alone, refusal}
 use Rattle.lines.specs.Line.{changeFor, decision, decisionFor, lineDecision, lineOutcome}
 use Rattle.calls.specs.Runs.{endOf}

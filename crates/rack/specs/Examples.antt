@@ -20,8 +20,8 @@ use Rattle.card.specs.Valid.{permittedBase, badPlace, badCellType, badConnector
 use Rattle.text.specs.Digits.{every}
 use Rattle.card.specs.Valid.{badState, noState, frontDriven, validSlot, validSlots, validCell, validConnector, valid}
 use Rattle.ticks.specs.Tick.{readNow, readLast, named, turnAt, outputsBelow, turned, tick}
-use Rattle.commands.specs.Grammar.{isWord, isWhole, toEnd, slotOf, gave, give, pairRead, pairsOf, writeOf, ccaWrite, ccaRead, ccaForm, slotForm, ccbForm}
-use Rattle.commands.specs.Grammar.{readOf, readForm, cardForm, plainForm, addressed, parse}
+use Rattle.grammar.specs.Grammar.{isWord, isWhole, toEnd, slotOf, gave, give, pairRead, pairsOf, writeOf, ccaWrite, ccaRead, ccaForm, slotForm, ccbForm}
+use Rattle.grammar.specs.Grammar.{readOf, readForm, cardForm, plainForm, addressed, parse}
 use Rattle.lines.specs.Refusal.{alone, refusal}
 use mathlib.Core.Bool.{true, false}
 use mathlib.Core.List.{List, [], _∷_, _++_, map}

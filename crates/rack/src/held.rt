@@ -1,4 +1,5 @@
-// A row that a program holds by value, lent for the time of a call. `on_row` is proved by a walk of its code.
+// A row that a program holds by value, lent for the time of a call. `on_row` is proved by a walk of
+// its code.
 ghost use mathlib.Core.Path.{_≡_};
 ghost use Prim.Native.Nat.{_≤_};
 ghost use Rattle.rack.specs.Held.{heldOf, rowHeld};

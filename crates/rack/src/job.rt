@@ -24,7 +24,8 @@ use saved::record::Loaded;
 // The number of a change that the supply does not bear.
 const OVER_SUPPLY: u8 = 19;
 
-// What a line or a load to a card needs of the row: whether row and number are no rack's, the card's place, and what the cards draw.
+// What a line or a load to a card needs of the row: whether row and number are no rack's, the
+// card's place, and what the cards draw.
 pub struct Taken {
     pub bad: bool,
     pub place: usize,
@@ -58,7 +59,8 @@ pub fn taken_by(p: Pass, number: usize) -> Taken
     }
 }
 
-// What the rack refuses of a call that would give number k, and connectors b for a: 20 before all, 19 after all, or nothing.
+// What the rack refuses of a call that would give number k, and connectors b for a: 20 before all,
+// 19 after all, or nothing.
 fn refusal_in(t: Taken, a: Connectors, b: Connectors, k: u8) -> u8
     ensures { λ r. ⌜ r ≡ refusalIn (t .bad) (t .draws) (t .place) a b k ⌝ }
 {
@@ -74,7 +76,9 @@ fn refusal_in(t: Taken, a: Connectors, b: Connectors, k: u8) -> u8
 
 // A line to a card of a rack.
 pub fn line_in(t: Taken, card: Card, text: &[u8], reply: &mut [u8], store: &mut [u8]) -> Answered
-    ensures { λ r. ⌜ (resultOf r (now (reply .exit)) (now (store .exit)) ≡ Rack.lineIn (cellsFor (card .size)) (t .bad) (t .draws) (t .place) card (now (text .entry)) (now (reply .entry)) (now (store .entry))) × (r .len ≤ shortestReply) ⌝ }
+    ensures { λ r. ⌜ (resultOf r (now (reply .exit)) (now (store .exit))
+        ≡ Rack.lineIn (cellsFor (card .size)) (t .bad) (t .draws) (t .place) card (now (text .entry))
+        (now (reply .entry)) (now (store .entry))) × (r .len ≤ shortestReply) ⌝ }
 {
     let d = lines::line::judge(card, text, reply.len(), store.len());
     let change = d.change;
@@ -103,7 +107,10 @@ pub fn line_in(t: Taken, card: Card, text: &[u8], reply: &mut [u8], store: &mut 
 
 // A load to a card of a rack.
 pub fn load_in(t: Taken, card: Card, bytes: &[u8]) -> Loaded
-    ensures { λ r. ⌜ (r .k ≡ loadIn (t .bad) (t .draws) (t .place) card (loadNumber (cellsFor (card .size)) (now (bytes .entry))) (loaded (cellsFor (card .size)) card (now (bytes .entry)))) × (r .card ≡ cond (eqb (r .k) 0) (loaded (cellsFor (card .size)) card (now (bytes .entry))) card) ⌝ }
+    ensures { λ r. ⌜ (r .k
+        ≡ loadIn (t .bad) (t .draws) (t .place) card (loadNumber (cellsFor (card .size)) (now (bytes .entry)))
+        (loaded (cellsFor (card .size)) card (now (bytes .entry))))
+        × (r .card ≡ cond (eqb (r .k) 0) (loaded (cellsFor (card .size)) card (now (bytes .entry))) card) ⌝ }
 {
     let l = saved::record::load(card, bytes);
     let next = l.card;

@@ -1,4 +1,5 @@
-// A pass over the row: what goes from card to card, and what is done to one card. No card is inside it.
+// A pass over the row: what goes from card to card, and what is done to one card. No card is inside
+// it.
 ghost use mathlib.Core.Bool.{cond};
 ghost use mathlib.Core.Path.{_≡_};
 ghost use lib.ListN.{getD, set};
@@ -16,15 +17,16 @@ use card::limits::LARGE;
 use ticks::tick::Answer;
 use ticks::view::Input;
 
-// What comes in at the front of one card: the word sampled, and which of its lines have something attached.
+// What comes in at the front of one card: the word sampled, and which of its lines have something
+// attached.
 #[repr(C)]
 pub struct Front {
     pub sample: u8,
     pub attached: u8,
 }
 
-// What comes in with a rack tick: the code of its clock, the word sampled at the backplane and what is attached there, and the fronts, one for each of
-// `count` cards.
+// What comes in with a rack tick: the code of its clock, the word sampled at the backplane and what
+// is attached there, and the fronts, one for each of `count` cards.
 #[repr(C)]
 pub struct RackInput {
     pub code: u8,
@@ -51,8 +53,9 @@ const TICK: u8 = 2;
 // The number of a row that is no rack.
 pub const NO_RACK: u8 = 20;
 
-// What goes from card to card: what is done to each (`act`), with its input; the number of the refusal, which leaves the cards as they are; how many cards
-// are done; of the cards looked at the backplane lines that some pull low, and what each draws; and the answers of those that ticked.
+// What goes from card to card: what is done to each (`act`), with its input; the number of the
+// refusal, which leaves the cards as they are; how many cards are done; of the cards looked at the
+// backplane lines that some pull low, and what each draws; and the answers of those that ticked.
 pub struct Pass {
     pub act: u8,
     pub full: bool,

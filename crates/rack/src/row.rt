@@ -22,7 +22,8 @@ pub(crate) fn look_each(row: &mut [Card], pass: Pass) -> Pass
     p
 }
 
-// A pass over the row: each card is handed by value to `visit`, and what that gives takes its place.
+// A pass over the row: each card is handed by value to `visit`, and what that gives takes its
+// place.
 pub(crate) fn each(row: &mut [Card], pass: Pass) -> Pass
     ensures { λ p. ⌜ (p ≡ afterRow pass (now (row .entry))) × (now (row .exit) ≡ visitedRow pass (now (row .entry))) ⌝ }
 {
@@ -37,7 +38,8 @@ pub(crate) fn each(row: &mut [Card], pass: Pass) -> Pass
     p
 }
 
-// Puts a card at place i of the row, and gives what stood there; where there is no such place, the card itself.
+// Puts a card at place i of the row, and gives what stood there; where there is no such place, the
+// card itself.
 pub(crate) fn swap_at(row: &mut [Card], i: usize, card: Card) -> Card
     ensures { λ r. ⌜ (r ≡ getD (now (row .entry)) i card) × (now (row .exit) ≡ set (now (row .entry)) i card) ⌝ }
 {
@@ -52,7 +54,8 @@ pub(crate) fn swap_at(row: &mut [Card], i: usize, card: Card) -> Card
 
 // An order: the cards are looked at, and then it is done.
 pub(crate) fn passes(row: &mut [Card], order: Pass) -> Pass
-    ensures { λ p. ⌜ (p ≡ actedOver order (now (row .entry))) × (now (row .exit) ≡ actedRow order (now (row .entry))) ⌝ }
+    ensures { λ p. ⌜ (p ≡ actedOver order (now (row .entry)))
+        × (now (row .exit) ≡ actedRow order (now (row .entry))) ⌝ }
 {
     let n = row.len();
     let p = looking(order, n);

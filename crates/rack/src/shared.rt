@@ -31,7 +31,8 @@ pub(crate) fn pulled(card: Card, code: u8) -> u16
     l.pulled
 }
 
-// The levels of a card whose own would be `own`: of the backplane what is sampled high and not pulled low.
+// The levels of a card whose own would be `own`: of the backplane what is sampled high and not
+// pulled low.
 fn levels_on(own: u16, sample: u16, low: u16) -> u16
     ensures { λ r. ⌜ r ≡ sharedLevels own sample low ⌝ }
 {

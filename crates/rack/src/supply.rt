@@ -69,7 +69,8 @@ pub(crate) fn put_draw(draws: [u8; MOST], at: usize, v: u8) -> [u8; MOST]
     next
 }
 
-// Whether a card with other connectors is more than the supply bears: the type of a front one changed, and the sum with them in its place is over it.
+// Whether a card with other connectors is more than the supply bears: the type of a front one
+// changed, and the sum with them in its place is over it.
 pub(crate) fn over(draws: [u8; MOST], at: usize, a: Connectors, b: Connectors) -> bool
     ensures { λ q. ⌜ q ≡ Supply.over draws at a b ⌝ }
 {

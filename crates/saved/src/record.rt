@@ -1,5 +1,5 @@
-// The saved record: the settings as bytes, and what a load makes of some bytes. A record has a form, the width of a configuration in it; its length
-// tells which.
+// The saved record: the settings as bytes, and what a load makes of some bytes. A record has a
+// form, the width of a configuration in it; its length tells which.
 ghost use mathlib.Core.Bool.{not};
 ghost use mathlib.Core.List.{_++_};
 ghost use mathlib.Core.Path.{_≡_};
@@ -48,7 +48,8 @@ pub const WIDTH: usize = 4;
 
 pub const NARROW_WIDTH: usize = 2;
 
-// The field of a cell has its number, its type, its configuration and its slots. Without the configuration:
+// The field of a cell has its number, its type, its configuration and its slots. Without the
+// configuration:
 const CELL_TAG: u8 = 2;
 
 const CELL_SIZE: u8 = 6;
@@ -62,7 +63,8 @@ const CONNECTOR_SIZE: u8 = 3;
 
 const CONNECTOR_LENGTH: usize = HEAD + CONNECTOR_SIZE as usize;
 
-// The number or the address comes first in a field, then the type; then a connector's source, or a cell's configuration, high byte first.
+// The number or the address comes first in a field, then the type; then a connector's source, or a
+// cell's configuration, high byte first.
 const KIND_AT: usize = HEAD + 1;
 
 const SOURCE_AT: usize = KIND_AT + 1;
@@ -168,7 +170,8 @@ fn put_cells(out: &mut [u8], width: usize, cells: [Cell; CELLS], n: u8)
     requires { ⌜ triggerLength + n * cellLength width ≤ length (now out) ⌝ }
     requires { ⌜ width ≤ configWidth ⌝ }
     requires { ⌜ n ≤ cellRoom ⌝ }
-    ensures { λ _. ⌜ now (out .exit) ≡ sets (now (out .entry)) triggerLength (fieldsFrom (cellField width) 0 (take n cells)) ⌝ }
+    ensures { λ _. ⌜ now (out .exit)
+        ≡ sets (now (out .entry)) triggerLength (fieldsFrom (cellField width) 0 (take n cells)) ⌝ }
     ensures { λ _. ⌜ length (fieldsFrom (cellField width) 0 (take n cells)) ≡ n * cellLength width ⌝ }
 {
     for i in 0..n {
@@ -196,7 +199,8 @@ fn put_connectors(out: &mut [u8], start: usize, connectors: [Connector; CONNECTO
     }
 }
 
-// The settings as bytes, in the form of a width, to the front of a buffer that has room; what stands behind them stays.
+// The settings as bytes, in the form of a width, to the front of a buffer that has room; what
+// stands behind them stays.
 pub fn encode_to(
     out: &mut [u8],
     width: usize,
@@ -331,7 +335,8 @@ fn connectors_in(
 
 // ---- the heads of fields
 
-// Whether a field of a tag and a size starts at a place, and a number comes behind its head: that of a cell, or the address of a connector.
+// Whether a field of a tag and a size starts at a place, and a number comes behind its head: that
+// of a cell, or the address of a connector.
 fn numbered_at(bytes: &[u8], at: usize, tag: u8, size: u8, number: u8) -> bool
     requires { ⌜ at + 4 ≤ length (now bytes) ⌝ }
     ensures { λ q. ⌜ q ≡ numberedAt (now (bytes .entry)) at tag size number ⌝ }
@@ -351,7 +356,8 @@ fn all_numbered(
     first: u8,
 ) -> bool
     requires { ⌜ (start + count * step ≤ length (now bytes)) × (4 ≤ step) × (count + first < 256) ⌝ }
-    ensures { λ q. ⌜ q ≡ everyBelow (λ i. numberedAt (now (bytes .entry)) (start + i * step) tag size (i + first)) count ⌝ }
+    ensures { λ q. ⌜ q
+        ≡ everyBelow (λ i. numberedAt (now (bytes .entry)) (start + i * step) tag size (i + first)) count ⌝ }
 {
     let mut ok = true;
     for i in 0..count {
@@ -362,7 +368,8 @@ fn all_numbered(
     ok
 }
 
-// Whether the bytes have the length of a record in the form of a width, and the heads of its fields. What the fields hold is another question.
+// Whether the bytes have the length of a record in the form of a width, and the heads of its
+// fields. What the fields hold is another question.
 fn is_headed(bytes: &[u8], width: usize, n: u8) -> bool
     requires { ⌜ n ≤ cellRoom ⌝ }
     requires { ⌜ width ≤ configWidth ⌝ }
@@ -396,8 +403,9 @@ fn is_headed(bytes: &[u8], width: usize, n: u8) -> bool
 
 // ---- load and save
 
-// A load of any bytes by one form. The card powers up with them, and every cell counts as edited; a refused load leaves it as it was. k is 0, 14
-// where these are not the bytes of a record, or 15 where its settings, constants above 1 made 1, are none that lines can set.
+// A load of any bytes by one form. The card powers up with them, and every cell counts as edited; a
+// refused load leaves it as it was. k is 0, 14 where these are not the bytes of a record, or 15
+// where its settings, constants above 1 made 1, are none that lines can set.
 fn load_as(card: Card, width: usize, bytes: &[u8], n: u8) -> Loaded
     requires { ⌜ n ≡ cellsFor (card .size) ⌝ }
     requires { ⌜ n ≤ cellRoom ⌝ }
@@ -443,7 +451,8 @@ pub fn load(card: Card, bytes: &[u8]) -> Loaded
     load_as(card, width, bytes, n)
 }
 
-// The record of a card to the front of a store, if it has room; what stands behind it stays. Else the store stays, and the answer is false.
+// The record of a card to the front of a store, if it has room; what stands behind it stays. Else
+// the store stays, and the answer is false.
 pub fn save(card: Card, store: &mut [u8]) -> bool
     ensures { λ r. ⌜ now (store .exit) ≡ savedTo (cellsFor (card .size)) configWidth card (now (store .entry)) ⌝ }
     ensures { λ r. ⌜ r ≡ not (ltb (length (now (store .entry))) (recordLength (cellsFor (card .size)) configWidth)) ⌝ }

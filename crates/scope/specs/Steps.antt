@@ -8,7 +8,8 @@ use Rattle.input.specs.Lines.{kept, blockLength}
 use Rattle.scope.specs.declared.Shown.{Shown}
 use Rattle.scope.specs.declared.Words.{Words}
 
--- the words of a tick: the levels, and "driven word ..., cell word (bit 0 cell 1), woken set (16 bits)", those of the cells 1 to 16
+-- the words of a tick: the levels, and "driven word ..., cell word (bit 0 cell 1), woken set (16
+-- bits)", those of the cells 1 to 16
 abbrev pub wordsOf : ℕ → Answer → Words
 wordsOf levels a = record { levels = levels; driven = a .driven; cells = a .cells % 65536; woken = a .woken % 65536 }
 

@@ -1,9 +1,10 @@
 // What the ticks of an input show, one after the other, for programs that make pictures of them.
 //
-// `step` is one line of input: it leaves the card and the store that a line of plrun leaves, and gives
-// what a tick showed in place of what it prints. `next` goes on to the next tick that ran. It takes
-// constant memory, whatever the input: what `input::next_line` asks for, and the store. No contract can
-// say which bytes are read. `notes` is what a picture says of lines that it does not show.
+// `step` is one line of input: it leaves the card and the store that a line of plrun leaves, and
+// gives what a tick showed in place of what it prints. `next` goes on to the next tick that ran. It
+// takes constant memory, whatever the input: what `input::next_line` asks for, and the store. No
+// contract can say which bytes are read. `notes` is what a picture says of lines that it does not
+// show.
 pub mod notes;
 
 ghost use mathlib.Core.Bool.{true};
@@ -34,8 +35,8 @@ pub const LINE: usize = input::LINE;
 
 pub const STORE: usize = RECORD_LENGTH;
 
-// The words of a tick: the levels, BNC1 first, what the card drove, the outputs of the cells 1 to 16,
-// and which of these woke.
+// The words of a tick: the levels, BNC1 first, what the card drove, the outputs of the cells 1 to
+// 16, and which of these woke.
 pub struct Words {
     pub levels: u16,
     pub driven: u16,
@@ -43,8 +44,8 @@ pub struct Words {
     pub woken: u16,
 }
 
-// What a line showed: nothing, unless it was a tick that ran. Then which kind of tick it was, what came
-// in with it, and its words.
+// What a line showed: nothing, unless it was a tick that ran. Then which kind of tick it was, what
+// came in with it, and its words.
 pub struct Shown {
     pub ran: bool,
     pub full: bool,
@@ -108,7 +109,8 @@ fn words_of(levels: u16, a: Answer) -> Words
     }
 }
 
-// The four words of a tick in one, 16 bits each, the levels lowest: a bit for each wire of a picture.
+// The four words of a tick in one, 16 bits each, the levels lowest: a bit for each wire of a
+// picture.
 pub fn packed(w: Words) -> u64
     ensures { λ r. ⌜ r ≡ Steps.packed w ⌝ }
 {
@@ -258,8 +260,8 @@ fn ended(feed: Feed) -> Feed
     f
 }
 
-// The input up to the next tick that ran, or to its end, where nothing is shown. The feed is what `start` or this function gave, with the same
-// input and buffers.
+// The input up to the next tick that ran, or to its end, where nothing is shown. The feed is what
+// `start` or this function gave, with the same input and buffers.
 pub fn next(
     feed: Feed,
     input: i32,

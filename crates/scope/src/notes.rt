@@ -1,6 +1,8 @@
-// What a picture says of its input: the lines that the card refused, and a last line that has not ended (`program::report`).
+// What a picture says of its input: the lines that the card refused, and a last line that has not
+// ended (`program::report`).
 //
-// What a line holds is shown byte by byte, so that it does not break the picture or the wave file: `Form` says where it stands.
+// What a line holds is shown byte by byte, so that it does not break the picture or the wave file:
+// `Form` says where it stands.
 use input::least;
 use program::report::Report;
 use program::report::Text;

@@ -6,7 +6,7 @@ use native.Mathlib.Omega.{arith}
 use lib.ListN.{length}
 use borrow.Author.Tests.{ne-eqb}
 use Rattle.card.specs.declared.card.Card.{Card}
-use Rattle.commands.specs.Grammar.{longestLine}
+use Rattle.grammar.specs.Grammar.{longestLine}
 use Rattle.lines.specs.Line.{shortestReply}
 use Rattle.lines.proofs.Long.{parse-long, outcome-same, reply-same, store-same}
 use Rattle.session.specs.Session.{tickLine, plainReply, byLine, entered}

@@ -1,4 +1,5 @@
--- Tick lines and what lines print, by computation, as tables: what each is read as and prints, beside what it should be.
+-- Tick lines and what lines print, by computation, as tables: what each is read as and prints,
+-- beside what it should be.
 use Prim.Native.Nat.{ℕ}
 use Prim.Native.String.{String}
 use mathlib.Core.Path.{_≡_, refl}

@@ -1,4 +1,5 @@
--- Document 01, "One run": the lines of an input (`takesAll` says which they are) are entered to one card, one after the other.
+-- Document 01, "One run": the lines of an input (`takesAll` says which they are) are entered to one
+-- card, one after the other.
 use Prim.Native.Nat.{ℕ, _+_, _-_, _*_, _≤_, _<_}
 use mathlib.Core.Path.{_≡_}
 use mathlib.Core.Bool.{true, _&&_}
@@ -18,7 +19,8 @@ use Rattle.session.specs.declared.run.Over.{Over}
 
 -- ---- what bytes of input do, to a card of its size
 
--- after some bytes of input: the card, the store and all that has been printed, and the line that has not ended
+-- after some bytes of input: the card, the store and all that has been printed, and the line that
+-- has not ended
 abbrev pub RunState : Type 0
 RunState = Taken Entry
 
@@ -34,7 +36,8 @@ enters d line =
 
 -- ---- what the program keeps
 
--- of a line that has not ended. A longer one is malformed, and cut to these bytes it still is (law `entered-cut`)
+-- of a line that has not ended. A longer one is malformed, and cut to these bytes it still is (law
+-- `entered-cut`)
 abbrev pub keptOf : RunState → RunState
 keptOf s = cutTo kept s
 
@@ -54,8 +57,8 @@ abbrev pub standing : Lines → (block store out : List ℕ) → RunState
 standing r block store out =
     record { done = record { card = r .card; store = store; printed = take (r .used) out }; line = part (r .start) (r .end) block }
 
--- where the lines of the first n bytes of a block stop: at their end, or at an LF, where the room that is left is too small for what some lines print.
--- Nothing is touched beyond what is printed
+-- where the lines of the first n bytes of a block stop: at their end, or at an LF, where the room
+-- that is left is too small for what some lines print. Nothing is touched beyond what is printed
 pub record Stopped (s : State) (r : Lines) (n : ℕ) (block before after : List ℕ) : Type 0 where
   pub order : r .start ≤ r .end
   pub behind : s .len ≤ r .end
@@ -76,16 +79,17 @@ pub record Counted (r : Run) : Type 0 where
   pub by-reads : r .taken + blockLength * r .left ≤ blockLength * mostReads
   pub by-bytes : r .printed ≤ longestPrint * r .taken
 
--- a run that has taken this input: as many bytes as its reads gave have brought card and line where they stand, and what they print is as long as what
--- was handed to write
+-- a run that has taken this input: as many bytes as its reads gave have brought card and line where
+-- they stand, and what they print is as long as what was handed to write
 pub record Ran (n : ℕ) (r : Run) (input : List ℕ) : Type 0 where
   pub taken : length input ≡ r .taken
   pub card : r .card ≡ takesAll enters (startState n) input .done .card
   pub len : r .len ≡ length (take kept (takesAll enters (startState n) input .line))
   pub printed : r .printed ≡ length (takesAll enters (startState n) input .done .printed)
 
--- a run over lent bytes: those that it took have brought the card where it stands, and what they print, all of it and no more, stands at the front of
--- the output. It takes all, unless it stops at an LF, where the room that is left is too small for what some lines print
+-- a run over lent bytes: those that it took have brought the card where it stands, and what they
+-- print, all of it and no more, stands at the front of the output. It takes all, unless it stops at
+-- an LF, where the room that is left is too small for what some lines print
 pub record RanOver (n : ℕ) (r : Over) (input before after : List ℕ) : Type 0 where
   pub within : r .taken ≤ length input
   pub card : r .card ≡ takesAll enters (startState n) (take (r .taken) input) .done .card
@@ -94,7 +98,8 @@ pub record RanOver (n : ℕ) (r : Over) (input before after : List ℕ) : Type 0
   pub few : r .printed ≤ longestPrint * r .taken
   pub stops : r .taken < length input → (getD input (r .taken) 0 ≡ 10) × (length before < r .printed + longestPrint)
 
--- one read, and what its lines print: the bytes that it gave are taken on from an empty output, and the totals grow by what they are and print
+-- one read, and what its lines print: the bytes that it gave are taken on from an empty output, and
+-- the totals grow by what they are and print
 pub record Turned (run r : Run) (store line out : List ℕ) (block′ store′ line′ out′ : List ℕ) : Type 0 where
   pub few : r .got ≤ blockLength
   pub state : runStateOf r store′ line′ out′ ≡ keptOf
@@ -109,8 +114,9 @@ pub record Turned (run r : Run) (store line out : List ℕ) (block′ store′ l
   pub within : run .len + r .got ≤ length block′
   pub fits : r .used ≤ length out′
 
--- what ended a run: a read that gave no byte, since the input has ended or the read failed; a write that failed; or the last of its reads. It has read, and
--- every read but the last gave a byte or more
+-- what ended a run: a read that gave no byte, since the input has ended or the read failed; a write
+-- that failed; or the last of its reads. It has read, and every read but the last gave a byte or
+-- more
 pub record Ended (r : Run) : Type 0 where
   pub by : r .going ≡ (ltb 0 (r .got) && r .wrote)
   pub last : r .going ≡ true → r .left ≡ 0

@@ -1,4 +1,5 @@
--- Document 01, "One run": what one line of input does to the card, the store and the output. Bytes are written as numbers.
+-- Document 01, "One run": what one line of input does to the card, the store and the output. Bytes
+-- are written as numbers.
 use Prim.Native.Nat.{ℕ, _-_, _≤_}
 use mathlib.Core.Path.{_≡_, refl}
 use mathlib.Core.Bool.{Bool, true, false, _&&_, _||_, cond}
@@ -22,8 +23,9 @@ use Rattle.session.specs.declared.Entered.{Entered}
 
 -- ---- a tick
 
--- "`T c w F` or `T c w Q` (clock, one digit 0-9; sample, four hex digits, letters small ...; full or quick)"; document 02, 5: "T lines of the program
--- carry" what is attached "as four more hex digits after the sample"
+-- "`T c w F` or `T c w Q` (clock, one digit 0-9; sample, four hex digits, letters small ...; full
+-- or quick)"; document 02, 5: "T lines of the program carry" what is attached "as four more hex
+-- digits after the sample"
 abbrev pub tickHead : List ℕ → Bool
 tickHead t = (eqb (getD t 0 0) 84 && eqb (getD t 1 0) 32) && (isDigit (getD t 2 0) && eqb (getD t 3 0) 32)
 
@@ -121,7 +123,8 @@ entered n c t store = cond (tickLine t .ok) (byTick n c t store) (cond (isLoadLi
 
 -- ---- what happened
 
--- a tick with its kind, its input and its answer; a load with its number; a card line with its number
+-- a tick with its kind, its input and its answer; a load with its number; a card line with its
+-- number
 unfoldable pub eventOf : ℕ → Card → (text store : List ℕ) → Event
 eventOf n c t store =
     cond (tickLine t .ok)
@@ -134,7 +137,8 @@ refusalOf (Tick _) = 0
 refusalOf (Load k) = k
 refusalOf (Line k) = k
 
--- `r` is the answer to a line that leaves `e` by the event `v`; what the line prints is at the front of the output
+-- `r` is the answer to a line that leaves `e` by the event `v`; what the line prints is at the
+-- front of the output
 pub record Enters (e : Entry) (v : Event) (r : Entered) (held before after : List ℕ) : Type 0 where
   pub card : r .card ≡ e .card
   pub event : r .event ≡ v

@@ -123,8 +123,9 @@ fn given(feed: Feed, r: Reader, block: &[u8], store: &mut [u8; STORE]) -> Feed
     past(feed, r, text)
 }
 
-// The next line of an input. Where no further one comes, `reader.going` is false; a read that failed
-// is reported. The feed is what `start` or this function gave, with the same input and buffers.
+// The next line of an input. Where no further one comes, `reader.going` is false; a read that
+// failed is reported. The feed is what `start` or this function gave, with the same input and
+// buffers.
 pub fn next(
     feed: Feed,
     input: i32,

@@ -10,7 +10,8 @@ ghost use lib.Seq.{sets};
 ghost use Rattle.text.specs.Hex.{hex4};
 ghost use Rattle.card.specs.Address.{cellsFor};
 ghost use Rattle.ticks.specs.Tick.{tick};
-ghost use Rattle.session.specs.Session.{tickLine, cellDigits, tickText, isLoadLine, loadText, plainReply, longestPrint, byLine, entered, eventOf, refusalOf, Enters};
+ghost use Rattle.session.specs.Session.{tickLine, cellDigits, tickText, isLoadLine, loadText, plainReply};
+ghost use Rattle.session.specs.Session.{longestPrint, byLine, entered, eventOf, refusalOf, Enters};
 ghost use Rattle.lines.specs.Line.{shortestReply, lineOutcome};
 use card::card::Card;
 use card::limits::CellWord;
@@ -117,7 +118,8 @@ fn put_word(out: &mut [u8], at: usize, w: u16, byte: &[u8]) -> usize
 fn put_cells(out: &mut [u8], at: usize, w: CellWord, size: u8, byte: &[u8]) -> usize
     requires { ⌜ at + 9 ≤ length (now out) ⌝ }
     requires { ⌜ length (now byte) ≡ 1 ⌝ }
-    ensures { λ r. ⌜ (now (out .exit) ≡ sets (now (out .entry)) at (cellDigits (cellsFor size) w ++ now (byte .entry))) × (r ≡ at + length (cellDigits (cellsFor size) w ++ now (byte .entry))) ⌝ }
+    ensures { λ r. ⌜ (now (out .exit) ≡ sets (now (out .entry)) at (cellDigits (cellsFor size) w ++ now (byte .entry)))
+        × (r ≡ at + length (cellDigits (cellsFor size) w ++ now (byte .entry))) ⌝ }
     ensures { λ r. ⌜ r ≤ at + 9 ⌝ }
 {
     if size == LARGE {
@@ -221,8 +223,8 @@ fn enter_line(card: Card, text: &[u8], store: &mut [u8], out: &mut [u8]) -> Ente
     }
 }
 
-// One line of input, without its LF: a tick, a load of the store, or a card line. What it prints goes
-// to the front of `out`, which needs room for the longest print.
+// One line of input, without its LF: a tick, a load of the store, or a card line. What it prints
+// goes to the front of `out`, which needs room for the longest print.
 pub fn enter(card: Card, text: &[u8], store: &mut [u8], out: &mut [u8]) -> Entered
     requires { ⌜ longestPrint ≤ length (now out) ⌝ }
     ensures { λ r. ⌜ Enters (entered (cellsFor (card .size)) card (now (text .entry)) (now (store .entry)))

@@ -20,7 +20,8 @@ ghost use Rattle.card.specs.Address.{cellCount, cellsFor};
 ghost use Rattle.card.specs.Fresh.{fresh};
 ghost use Rattle.input.specs.Lines.{takesAll, part, kept, mostReads};
 ghost use Rattle.session.specs.Session.{longestPrint, entered};
-ghost use Rattle.session.specs.Run.{enters, keptOf, standing, Stopped, RanOver, outputLength, stateOf, Counted, Ran, Turned, Ended};
+ghost use Rattle.session.specs.Run.{enters, keptOf, standing, Stopped, RanOver, outputLength, stateOf, Counted};
+ghost use Rattle.session.specs.Run.{Ran, Turned, Ended};
 use crate::LONGEST_PRINT;
 use card::card::Card;
 use input::BLOCK;
@@ -79,7 +80,8 @@ pub struct Lines {
     pub used: usize,
 }
 
-// A run over lent bytes: the card that it leaves, the bytes that it took, and those that it printed.
+// A run over lent bytes: the card that it leaves, the bytes that it took, and those that it
+// printed.
 pub struct Over {
     pub card: Card,
     pub taken: usize,
@@ -95,9 +97,13 @@ pub struct Written {
 // A line has ended: it is entered, and what it prints goes behind what is printed already.
 fn enter(state: State, text: &[u8], store: &mut [u8], out: &mut [u8]) -> State
     requires { ⌜ state .used + longestPrint ≤ length (now out) ⌝ }
-    ensures { λ r. ⌜ r .card ≡ entered (cellsFor (state .card .size)) (state .card) (now (text .entry)) (now (store .entry)) .card ⌝ }
-    ensures { λ r. ⌜ now (store .exit) ≡ entered (cellsFor (state .card .size)) (state .card) (now (text .entry)) (now (store .entry)) .store ⌝ }
-    ensures { λ r. ⌜ take (r .used) (now (out .exit)) ≡ take (state .used) (now (out .entry)) ++ entered (cellsFor (state .card .size)) (state .card) (now (text .entry)) (now (store .entry)) .printed ⌝ }
+    ensures { λ r. ⌜ r .card
+        ≡ entered (cellsFor (state .card .size)) (state .card) (now (text .entry)) (now (store .entry)) .card ⌝ }
+    ensures { λ r. ⌜ now (store .exit)
+        ≡ entered (cellsFor (state .card .size)) (state .card) (now (text .entry)) (now (store .entry)) .store ⌝ }
+    ensures { λ r. ⌜ take (r .used) (now (out .exit))
+        ≡ take (state .used) (now (out .entry)) ++ entered (cellsFor (state .card .size)) (state .card)
+        (now (text .entry)) (now (store .entry)) .printed ⌝ }
     ensures { λ r. ⌜ r .used ≤ state .used + longestPrint ⌝ }
     ensures { λ r. ⌜ state .used ≤ r .used ⌝ }
     ensures { λ r. ⌜ drop (r .used) (now (out .exit)) ≡ drop (r .used) (now (out .entry)) ⌝ }
@@ -119,7 +125,9 @@ fn take_lines(state: State, block: &[u8], n: usize, store: &mut [u8], out: &mut 
     requires { ⌜ state .len ≤ n ⌝ }
     requires { ⌜ n ≤ length (now block) ⌝ }
     requires { ⌜ state .used ≤ length (now out) ⌝ }
-    ensures { λ r. ⌜ standing r (now (block .entry)) (now (store .exit)) (now (out .exit)) ≡ takesAll enters (stateOf state (now (store .entry)) (now (block .entry)) (now (out .entry))) (part (state .len) (r .end) (now (block .entry))) ⌝ }
+    ensures { λ r. ⌜ standing r (now (block .entry)) (now (store .exit)) (now (out .exit))
+        ≡ takesAll enters (stateOf state (now (store .entry)) (now (block .entry)) (now (out .entry)))
+        (part (state .len) (r .end) (now (block .entry))) ⌝ }
     ensures { λ r. ⌜ Stopped state r n (now (block .entry)) (now (out .entry)) (now (out .exit)) ⌝ }
 {
     let mut s = state;
@@ -151,7 +159,9 @@ fn take_block(
     requires { ⌜ state .len ≤ n ⌝ }
     requires { ⌜ n ≤ length (now block) ⌝ }
     requires { ⌜ state .used + longestPrint * (n - state .len) ≤ outputLength ⌝ }
-    ensures { λ r. ⌜ stateOf r (now (store .exit)) (now (line .exit)) (now (out .exit)) ≡ keptOf (takesAll enters (stateOf state (now (store .entry)) (now (block .entry)) (now (out .entry))) (part (state .len) n (now (block .entry)))) ⌝ }
+    ensures { λ r. ⌜ stateOf r (now (store .exit)) (now (line .exit)) (now (out .exit))
+        ≡ keptOf (takesAll enters (stateOf state (now (store .entry)) (now (block .entry)) (now (out .entry)))
+        (part (state .len) n (now (block .entry)))) ⌝ }
     ensures { λ r. ⌜ r .len ≤ kept ⌝ }
     ensures { λ r. ⌜ length (now (line .exit)) ≡ kept ⌝ }
     ensures { λ r. ⌜ r .used ≤ state .used + longestPrint * (n - state .len) ⌝ }

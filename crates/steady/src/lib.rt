@@ -1,5 +1,5 @@
-// Many ticks at once. Where a quick tick changes nothing but counts, the ticks after it with the same
-// input do the same again until a count comes to its end. So they are made in one step, and a
+// Many ticks at once. Where a quick tick changes nothing but counts, the ticks after it with the
+// same input do the same again until a count comes to its end. So they are made in one step, and a
 // processor may sleep until then, or until an input changes.
 ghost use mathlib.Core.Path.{_≡_};
 ghost use mathlib.Core.Bool.{_&&_};
@@ -9,7 +9,8 @@ ghost use Rattle.cells.specs.Work.{largestCount};
 ghost use Rattle.card.specs.Address.{cellRoom, cellsFor};
 ghost use Rattle.ticks.specs.Rest.{totalAfter};
 ghost use Rattle.steady.specs.Steady;
-ghost use Rattle.steady.specs.Steady.{countHolds, cellHolds, leastHolds, sameWords, sameOutputs, steadyFrom, steadyFor, countThrough, cellThrough, cellsThrough};
+ghost use Rattle.steady.specs.Steady.{countHolds, cellHolds, leastHolds, sameWords, sameOutputs, steadyFrom};
+ghost use Rattle.steady.specs.Steady.{steadyFor, countThrough, cellThrough, cellsThrough};
 ghost use Rattle.steady.specs.Steady.{countedFor, talliedFor, cardThrough, madeOf, advanced};
 use card::card::Card;
 use card::card::Memory;
@@ -107,8 +108,8 @@ fn same_memory(a: Memory, b: Memory) -> bool
         & (((a.outputs == b.outputs) & (a.outputs2 == b.outputs2)) & (a.outputs3 == b.outputs3))
 }
 
-// Of a card and the card after one tick: for how many ticks, that one among them, nothing but counts
-// changes.
+// Of a card and the card after one tick: for how many ticks, that one among them, nothing but
+// counts changes.
 fn steady_from(c: Card, d: Card, n: u8) -> u32
     requires { ⌜ n ≤ cellRoom ⌝ }
     ensures { λ r. ⌜ r ≡ steadyFrom n c d ⌝ }
@@ -124,8 +125,8 @@ fn steady_from(c: Card, d: Card, n: u8) -> u32
     }
 }
 
-// For how many quick ticks with the input nothing but counts changes, and no count comes to its end.
-// A card at rest is steady for ever.
+// For how many quick ticks with the input nothing but counts changes, and no count comes to its
+// end. A card at rest is steady for ever.
 pub fn steady_for(card: Card, input: Input) -> u32
     ensures { λ r. ⌜ r ≡ steadyFor (cellsFor (card .size)) card input ⌝ }
 {
@@ -251,8 +252,8 @@ fn made_of(k: u32, steady: u32) -> u32
     }
 }
 
-// Up to k quick ticks with one input: the first of them, and the others as long as nothing but counts
-// changes.
+// Up to k quick ticks with one input: the first of them, and the others as long as nothing but
+// counts changes.
 pub fn advance(card: Card, input: Input, k: u32) -> Advanced
     ensures { λ a. ⌜ a ≡ advanced (cellsFor (card .size)) card input k ⌝ }
 {

@@ -29,8 +29,8 @@ use ticks::view::sees;
 // The number for a place that is no connector's.
 const NO_PLACE: u8 = 5;
 
-// What a survey gives: 0, or 5 for a place that is no connector's, and what depends on the connector, as a word with a bit for each cell and a word in
-// the sample's order.
+// What a survey gives: 0, or 5 for a place that is no connector's, and what depends on the
+// connector, as a word with a bit for each cell and a word in the sample's order.
 #[repr(C)]
 pub struct Surveyed {
     pub k: u8,
@@ -114,7 +114,8 @@ fn start(c: Connector, k: u32) -> u16
     1 << k
 }
 
-// The set of connector k of sixteen on n cells. It is grown until nothing is added: every round but the last adds a cell or a connector.
+// The set of connector k of sixteen on n cells. It is grown until nothing is added: every round but
+// the last adds a cell or a connector.
 fn reach(cells: [Cell; CELLS], connectors: Connectors, k: u32, n: u8) -> Found
     requires { ⌜ k < connectorCount ⌝ }
     requires { ⌜ n ≤ cellRoom ⌝ }
@@ -137,7 +138,8 @@ fn reach(cells: [Cell; CELLS], connectors: Connectors, k: u32, n: u8) -> Found
     }
 }
 
-// What depends on the connector at a place: 33 to 48, BNC1-8 and TTL0-7. It goes by the settings alone, and any card has an answer.
+// What depends on the connector at a place: 33 to 48, BNC1-8 and TTL0-7. It goes by the settings
+// alone, and any card has an answer.
 pub fn dependents(card: Card, place: Number) -> Surveyed
     ensures { λ r. ⌜ Survey (cellsFor (card .size)) card place r ⌝ }
 {

@@ -75,8 +75,9 @@ fn digits_value(text: &[u8], at: usize, n: usize) -> u64
     v
 }
 
-// The number at a place of a text, and where the text goes on behind its digits. Where there is no digit, or too many, or a leading zero, ok is
-// false and the value 0; the digits are passed over all the same.
+// The number at a place of a text, and where the text goes on behind its digits. Where there is no
+// digit, or too many, or a leading zero, ok is false and the value 0; the digits are passed over
+// all the same.
 pub fn number_at(text: &[u8], at: usize) -> Number
     requires { ⌜ at ≤ length (now text) ⌝ }
     ensures { λ r. ⌜ r ≡ numberAt (now (text .entry)) at ⌝ }
@@ -99,7 +100,8 @@ pub fn number_at(text: &[u8], at: usize) -> Number
     }
 }
 
-// Writes the bytes at `at`, and returns the place behind them. The caller sees to it that they have room; nothing else of `out` changes.
+// Writes the bytes at `at`, and returns the place behind them. The caller sees to it that they have
+// room; nothing else of `out` changes.
 pub fn copy(out: &mut [u8], at: usize, bytes: &[u8]) -> usize
     requires { ⌜ at + length (now bytes) ≤ length (now out) ⌝ }
     ensures { λ _. ⌜ now (out .exit) ≡ sets (now (out .entry)) at (now (bytes .entry)) ⌝ }
@@ -113,7 +115,8 @@ pub fn copy(out: &mut [u8], at: usize, bytes: &[u8]) -> usize
     at + i
 }
 
-// Writes n in decimal at `at`, the higher digits first, and returns the place behind it. There must be room for the most digits, however many n has.
+// Writes n in decimal at `at`, the higher digits first, and returns the place behind it. There must
+// be room for the most digits, however many n has.
 pub fn put_decimal(out: &mut [u8], at: usize, n: u32) -> usize
     requires { ⌜ n < 10 ^ maxDigits ⌝ }
     requires { ⌜ at + maxDigits ≤ length (now out) ⌝ }
@@ -132,7 +135,8 @@ pub fn put_decimal(out: &mut [u8], at: usize, n: u32) -> usize
 pub fn put_numbered(out: &mut [u8], word: &[u8], n: u32, ending: &[u8]) -> usize
     requires { ⌜ n < 10 ^ maxDigits ⌝ }
     requires { ⌜ length (now word) + maxDigits + length (now ending) ≤ length (now out) ⌝ }
-    ensures { λ _. ⌜ now (out .exit) ≡ sets (now (out .entry)) 0 (now (word .entry) ++ (decimal n ++ now (ending .entry))) ⌝ }
+    ensures { λ _. ⌜ now (out .exit)
+        ≡ sets (now (out .entry)) 0 (now (word .entry) ++ (decimal n ++ now (ending .entry))) ⌝ }
     ensures { λ r. ⌜ r ≡ length (now (word .entry) ++ (decimal n ++ now (ending .entry))) ⌝ }
     ensures { λ r. ⌜ r ≤ length (now (word .entry)) + maxDigits + length (now (ending .entry)) ⌝ }
 {
@@ -152,7 +156,8 @@ pub fn hex_digit(d: u16) -> u8
     87 + (d as u8)
 }
 
-// Writes w as four hexadecimal digits at `at`, leading zeros too, and returns the place behind them.
+// Writes w as four hexadecimal digits at `at`, leading zeros too, and returns the place behind
+// them.
 pub fn put_hex4(out: &mut [u8], at: usize, w: u16) -> usize
     requires { ⌜ at + 4 ≤ length (now out) ⌝ }
     ensures { λ _. ⌜ now (out .exit) ≡ sets (now (out .entry)) at (hex4 w) ⌝ }
@@ -194,7 +199,8 @@ pub fn hex_value(b: u8) -> u16
     (b - 87) as u16
 }
 
-// The word that the four bytes at a place of a text say; where one of them is no digit, ok is false and the value 0.
+// The word that the four bytes at a place of a text say; where one of them is no digit, ok is false
+// and the value 0.
 pub fn hex4_at(text: &[u8], at: usize) -> Hex
     requires { ⌜ at + 4 ≤ length (now text) ⌝ }
     ensures { λ r. ⌜ r ≡ hexAt (now (text .entry)) at ⌝ }

@@ -152,7 +152,8 @@ fn noted(named: EditedSet, i: u32, is: bool) -> EditedSet
 
 // The connectors, driven from the last tick's words, and the levels of what comes in.
 pub fn lines_in(connectors: Connectors, m: Memory, input: Input) -> Lines
-    ensures { λ l. ⌜ ((n : ℕ) → n ≤ cellRoom → FitsMemory n m → l ≡ linesIn n m connectors (effectiveSample (input .sample) (input .attached))) ⌝ }
+    ensures { λ l. ⌜ ((n : ℕ) → n ≤ cellRoom → FitsMemory n m
+        → l ≡ linesIn n m connectors (effectiveSample (input .sample) (input .attached))) ⌝ }
 {
     let now = sees(0, m.outputs, m.outputs, m.levels);
     let before = sees(0, m.outputs2, m.outputs2, m.levels2);
@@ -170,7 +171,8 @@ fn ran_with(
     named: CellWord,
     woken: CellWord,
 ) -> Ticked
-    ensures { λ r. ⌜ ((n : ℕ) → n ≤ cellRoom → named < 2 ^ n → r ≡ ranWith n m card l (turnedTo (card .cells) outputs named woken)) ⌝ }
+    ensures { λ r. ⌜ ((n : ℕ) → n ≤ cellRoom → named < 2 ^ n
+        → r ≡ ranWith n m card l (turnedTo (card .cells) outputs named woken)) ⌝ }
 {
     let memory = Memory {
         driven: l.driven,
@@ -348,7 +350,8 @@ pub fn turned_on(full: bool, card: Card, l: Lines) -> Ticked
 
 // The lines of a card by itself, by what they depend on.
 pub fn lines_by(memory: Memory, connectors: Connectors, size: u8, input: Input) -> Lines
-    ensures { λ l. ⌜ l ≡ linesIn (cellsFor size) memory connectors (effectiveSample (input .sample) (input .attached)) ⌝ }
+    ensures { λ l. ⌜ l
+        ≡ linesIn (cellsFor size) memory connectors (effectiveSample (input .sample) (input .attached)) ⌝ }
 {
     let n = cells_for(size);
     let m = seen_memory(memory, n);

@@ -49,7 +49,8 @@ pub fn wires_of(m: Memory, levels: u16) -> Wires
 // of `others`.
 pub fn sees(i: u32, below: CellWord, others: CellWord, levels: u16) -> u64
     requires { ⌜ i < 64 ⌝ }
-    ensures { λ w. ⌜ ((n : ℕ) → n ≤ cellRoom → below < 2 ^ n → others < 2 ^ n → w ≡ wordOf (view n i below others levels) 64) ⌝ }
+    ensures { λ w. ⌜ ((n : ℕ) → n ≤ cellRoom → below < 2 ^ n → others < 2 ^ n
+        → w ≡ wordOf (view n i below others levels) 64) ⌝ }
 {
     let mask = (1 << i) - 1;
     let outside = others as u64;
@@ -79,7 +80,8 @@ fn differing(a: [u64; QUARTERS], b: [u64; QUARTERS]) -> [u64; QUARTERS]
 // What a reader in position i reads in this tick, below which this tick's outputs are known.
 pub fn words_now(i: u32, below: CellWord, w: Wires) -> [u64; QUARTERS]
     requires { ⌜ i < 64 ⌝ }
-    ensures { λ q. ⌜ ((n : ℕ) → n ≤ cellRoom → below < 2 ^ n → Fits n w → ReadsAs q (seesNow n i w below) (sawLast n i w)) ⌝ }
+    ensures { λ q. ⌜ ((n : ℕ) → n ≤ cellRoom → below < 2 ^ n → Fits n w
+        → ReadsAs q (seesNow n i w below) (sawLast n i w)) ⌝ }
 {
     let now = sees(i, below, w.outputs, w.levels);
     let before = sees(i, w.outputs, w.outputs2, w.levels2);
@@ -99,7 +101,8 @@ pub fn words_last(i: u32, w: Wires) -> [u64; QUARTERS]
 // The addresses that it reads otherwise than in the last tick that ran.
 pub fn words_moved(i: u32, below: CellWord, w: Wires) -> [u64; QUARTERS]
     requires { ⌜ i < 64 ⌝ }
-    ensures { λ d. ⌜ ((n : ℕ) → n ≤ cellRoom → below < 2 ^ n → Fits n w → MovesAs d (seesNow n i w below) (sawLast n i w) (sawEarlier n i w)) ⌝ }
+    ensures { λ d. ⌜ ((n : ℕ) → n ≤ cellRoom → below < 2 ^ n → Fits n w
+        → MovesAs d (seesNow n i w below) (sawLast n i w) (sawEarlier n i w)) ⌝ }
 {
     let now = words_now(i, below, w);
     let last = words_last(i, w);

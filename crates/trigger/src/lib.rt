@@ -1,4 +1,5 @@
-// The card for programs in C and Rust: a static library whose calls take and give the card by value.
+// The card for programs in C and Rust: a static library whose calls take and give the card by
+// value.
 ghost use mathlib.Core.Bool.{true, false};
 ghost use mathlib.Core.Path.{_≡_};
 ghost use Prim.Native.Nat.{_≤_};
@@ -10,7 +11,7 @@ ghost use Rattle.ticks.specs.Tick.{tick};
 ghost use Rattle.saved.specs.Record.{loadNumber, loaded};
 ghost use Rattle.convert.specs.Convert.{convertNumber, convertLength, convertedTo};
 ghost use Rattle.lines.specs.Line.{shortestReply, lineResult, resultOf};
-ghost use Rattle.printed.specs.Print.{printNumber, printLength, printedTo};
+ghost use Rattle.wiring.specs.Print.{printNumber, printLength, printedTo};
 ghost use Rattle.survey.specs.Survey.{Survey};
 ghost use Rattle.steady.specs.Steady.{steadyFor, advanced};
 use card::card::Card;
@@ -19,7 +20,6 @@ use card::limits::Number;
 use card::tallies::Tallies;
 use convert::Converted;
 use lines::line::Answered;
-use printed::print::Printed;
 use saved::record::Loaded;
 use steady::Advanced;
 use survey::Surveyed;
@@ -30,6 +30,7 @@ use ticks::tick::Ticked;
 use ticks::tick::lines_by;
 use ticks::tick::turned_on;
 use ticks::view::Input;
+use wiring::print::Printed;
 
 // A card of sixteen cells as it powers up.
 #[no_mangle]
@@ -66,11 +67,12 @@ pub extern "C" fn trigger_quick_tick(card: Card, input: Input) -> Ticked
 // ---- the card where it sits: proved by a walk of the code. A tick of another clock is answered before
 // anything is copied.
 
-// The same as `trigger_quick_tick`, of a card that is lent. Where every cell sleeps the memory and the
-// tick total are all that is written.
+// The same as `trigger_quick_tick`, of a card that is lent. Where every cell sleeps the memory and
+// the tick total are all that is written.
 #[no_mangle]
 pub extern "C" fn trigger_quick_tick_in(card: &mut Card, input: Input) -> Answer
-    ensures { λ r. ⌜ (r ≡ tick (cellsFor (now (card .entry) .size)) false (now (card .entry)) input .answer) × (now (card .exit) ≡ tick (cellsFor (now (card .entry) .size)) false (now (card .entry)) input .card) ⌝ }
+    ensures { λ r. ⌜ (r ≡ tick (cellsFor (now (card .entry) .size)) false (now (card .entry)) input .answer)
+        × (now (card .exit) ≡ tick (cellsFor (now (card .entry) .size)) false (now (card .entry)) input .card) ⌝ }
 {
     if input.code != card.trigger {
         return no_answer();
@@ -89,7 +91,8 @@ pub extern "C" fn trigger_quick_tick_in(card: &mut Card, input: Input) -> Answer
 // The same as `trigger_full_tick`, of a card that is lent.
 #[no_mangle]
 pub extern "C" fn trigger_full_tick_in(card: &mut Card, input: Input) -> Answer
-    ensures { λ r. ⌜ (r ≡ tick (cellsFor (now (card .entry) .size)) true (now (card .entry)) input .answer) × (now (card .exit) ≡ tick (cellsFor (now (card .entry) .size)) true (now (card .entry)) input .card) ⌝ }
+    ensures { λ r. ⌜ (r ≡ tick (cellsFor (now (card .entry) .size)) true (now (card .entry)) input .answer)
+        × (now (card .exit) ≡ tick (cellsFor (now (card .entry) .size)) true (now (card .entry)) input .card) ⌝ }
 {
     if input.code != card.trigger {
         return no_answer();
@@ -100,8 +103,8 @@ pub extern "C" fn trigger_full_tick_in(card: &mut Card, input: Input) -> Answer
     t.answer
 }
 
-// Whether a quick tick with the input would name no cell and leave the card as it is but for the tick total. Then every tick with it does, and the clock may
-// stop.
+// Whether a quick tick with the input would name no cell and leave the card as it is but for the
+// tick total. Then every tick with it does, and the clock may stop.
 #[no_mangle]
 pub extern "C" fn trigger_at_rest(card: Card, input: Input) -> bool
     ensures { λ q. ⌜ Decides q (AtRest (cellsFor (card .size)) card input) ⌝ }
@@ -145,13 +148,15 @@ pub extern "C" fn trigger_line(
     reply: &mut [u8],
     store: &mut [u8],
 ) -> Answered
-    ensures { λ r. ⌜ resultOf r (now (reply .exit)) (now (store .exit)) ≡ lineResult (cellsFor (card .size)) card (now (text .entry)) (now (reply .entry)) (now (store .entry)) ⌝ }
+    ensures { λ r. ⌜ resultOf r (now (reply .exit)) (now (store .exit))
+        ≡ lineResult (cellsFor (card .size)) card (now (text .entry)) (now (reply .entry)) (now (store .entry)) ⌝ }
     ensures { λ r. ⌜ r .len ≤ shortestReply ⌝ }
 {
     lines::line::line(card, text, reply, store)
 }
 
-// The settings of a card as lines, each ended by LF, written to the front of the buffer. Any card prints; 16 where the text is longer than the buffer.
+// The settings of a card as lines, each ended by LF, written to the front of the buffer. Any card
+// prints; 16 where the text is longer than the buffer.
 #[no_mangle]
 pub extern "C" fn trigger_print(card: Card, buffer: &mut [u8]) -> Printed
     ensures { λ r. ⌜ r .k ≡ printNumber (cellsFor (card .size)) card (length (now (buffer .entry))) ⌝ }
@@ -159,10 +164,11 @@ pub extern "C" fn trigger_print(card: Card, buffer: &mut [u8]) -> Printed
     ensures { λ _. ⌜ now (buffer .exit) ≡ printedTo (cellsFor (card .size)) card (now (buffer .entry)) ⌝ }
     ensures { λ r. ⌜ r .len ≤ length (now (buffer .exit)) ⌝ }
 {
-    printed::print::print(card, buffer)
+    wiring::print::print(card, buffer)
 }
 
-// A record in the other of its two forms, written to the front of the buffer. The record's length picks the way; a refusal writes nothing.
+// A record in the other of its two forms, written to the front of the buffer. The record's length
+// picks the way; a refusal writes nothing.
 #[no_mangle]
 pub extern "C" fn trigger_convert(bytes: &[u8], buffer: &mut [u8]) -> Converted
     ensures { λ r. ⌜ r .k ≡ convertNumber cellCount (length (now (buffer .entry))) (now (bytes .entry)) ⌝ }
@@ -173,7 +179,8 @@ pub extern "C" fn trigger_convert(bytes: &[u8], buffer: &mut [u8]) -> Converted
     convert::convert(bytes, buffer)
 }
 
-// What depends on the connector at a place, 33 to 48: the smallest set of cells and connectors that a change of its line can reach. 5 for another place.
+// What depends on the connector at a place, 33 to 48: the smallest set of cells and connectors that
+// a change of its line can reach. 5 for another place.
 #[no_mangle]
 pub extern "C" fn trigger_survey(card: Card, place: Number) -> Surveyed
     ensures { λ r. ⌜ Survey (cellsFor (card .size)) card place r ⌝ }

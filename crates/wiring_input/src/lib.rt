@@ -1,8 +1,8 @@
 // The wiring that an input holds, for programs that answer about it or hand it on.
 //
 // A wiring with a refused line is not the one that was written, so there is none, unless the user
-// asks for it all the same. Each refused line is reported with the rule that refused it. An input of
-// a form that no card takes is reported, and nothing more is read.
+// asks for it all the same. Each refused line is reported with the rule that refused it. An input
+// of a form that no card takes is reported, and nothing more is read.
 pub mod refused;
 
 ghost use Prim.Native.Nat.{_<_};
@@ -21,7 +21,8 @@ use session::feed::next;
 use session::feed::start;
 use session::refusal_of;
 
-// The card that the lines leave, and whether it is the one that was written, or is taken all the same.
+// The card that the lines leave, and whether it is the one that was written, or is taken all the
+// same.
 pub struct Wiring {
     pub card: Card,
     pub ok: bool,
@@ -33,8 +34,8 @@ struct Reading {
     wrong: bool,
 }
 
-// A line that was given, in a block: whether it shows that the input is of a form that no card takes.
-// Where the card refused it, that is reported.
+// A line that was given, in a block: whether it shows that the input is of a form that no card
+// takes. Where the card refused it, that is reported.
 fn looked_at(f: Feed, block: &[u8]) -> bool {
     let r = f.reader;
     if !r.going {
@@ -102,14 +103,23 @@ pub fn wiring_from(given: Arguments) -> Wiring {
     let reader = feed.reader;
     program::report::say_rest(report.rest);
     if s.wrong | reader.failed {
-        return Wiring { card: card, ok: false };
+        return Wiring {
+            card: card,
+            ok: false,
+        };
     }
     if (report.refused != 0) & !given.anyway {
         io::write_all(
             STDERR_FILENO,
             b"A wiring with a refused line is not the one that was written, so nothing is answered. --anyway takes it all the same.\n",
         );
-        return Wiring { card: card, ok: false };
+        return Wiring {
+            card: card,
+            ok: false,
+        };
     }
-    Wiring { card: card, ok: true }
+    Wiring {
+        card: card,
+        ok: true,
+    }
 }

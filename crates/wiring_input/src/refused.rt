@@ -1,7 +1,7 @@
 // A line of a wiring that the card refuses, as it is reported on the error output.
 use card::card::Card;
 use card::context::context_of;
-use commands::grammar::parse_line;
+use grammar::grammar::parse_line;
 use libc::STDERR_FILENO;
 use phrases::out::Page;
 use phrases::out::put;

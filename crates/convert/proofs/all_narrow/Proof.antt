@@ -21,18 +21,6 @@ loop-holds : tie.Need-loop-holds Inv-loop μ-loop
 unfolding every
 loop-holds c = (zero-le, refl)
 
-mul-cell : tie.Need-mul-cell Inv-loop μ-loop
-mul-cell c = search needs
-
-array-copy-out-cell : tie.Need-array-copy-out-cell Inv-loop μ-loop
-array-copy-out-cell c = search needs
-
-add-i : tie.Need-add-i Inv-loop μ-loop
-add-i c = search needs
-
-loop-less : tie.Need-loop-less Inv-loop μ-loop
-loop-less c = search needs
-
 loop-again : tie.Need-loop-again Inv-loop μ-loop
 unfolding narrowCell
 loop-again c =
@@ -54,9 +42,9 @@ all-narrow-spec =
     Inv-loop
     μ-loop
     loop-holds
-    mul-cell
-    array-copy-out-cell
-    add-i
-    loop-less
+    (λ c. search needs)
+    (λ c. search needs)
+    (λ c. search needs)
+    (λ c. search needs)
     loop-again
     returns)

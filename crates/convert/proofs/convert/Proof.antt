@@ -120,9 +120,6 @@ returns c =
     let r = refused-as cellCount 14 bytes buffer number refl in
     (r .0, (r .1, (r .2, zero-le)))
 
-other-form-requires : tie.Need-other-form-requires
-other-form-requires c κs = search needs
-
 returns-2 : tie.Need-returns-2
 returns-2 c =
     let e = c .before .before .before in
@@ -134,15 +131,6 @@ returns-2 c =
     let number = number-is cellCount (length buffer) bytes false true _ _ _ (known e) short refl refl refl in
     let r = refused-as cellCount 1 bytes buffer number refl in
     (r .0, (r .1, (r .2, zero-le)))
-
-cells-of-requires : tie.Need-cells-of-requires
-cells-of-requires c κs = search needs
-
-fresh-of-requires : tie.Need-fresh-of-requires
-fresh-of-requires c κs = search needs
-
-load-requires : tie.Need-load-requires
-load-requires c κs = search needs
 
 returns-3 : tie.Need-returns-3
 returns-3 c =
@@ -156,12 +144,6 @@ returns-3 c =
     let r = refused-as cellCount k bytes buffer number other in
     (r .0, (r .1, (r .2, zero-le)))
 
-cast-all-narrow : tie.Need-cast-all-narrow
-cast-all-narrow c = search needs
-
-all-narrow-requires : tie.Need-all-narrow-requires
-all-narrow-requires c κs = search needs
-
 returns-4 : tie.Need-returns-4
 returns-4 c =
     let e = c .before .before .before .before .before .before in
@@ -173,21 +155,6 @@ returns-4 c =
     let number = number-is cellCount (length buffer) bytes false false true _ 0 (known (room .before .before .before)) (enough room) (taken e) long refl in
     let r = refused-as cellCount 17 bytes buffer number refl in
     (r .0, (r .1, (r .2, zero-le)))
-
-sub-all-blank : tie.Need-sub-all-blank
-sub-all-blank c = search needs
-
-cast-all-blank : tie.Need-cast-all-blank
-cast-all-blank c = search needs
-
-each-of-requires : tie.Need-each-of-requires
-each-of-requires c κs = search needs
-
-all-blank-requires : tie.Need-all-blank-requires
-all-blank-requires c κs = search needs
-
-valid-settings-requires : tie.Need-valid-settings-requires
-valid-settings-requires c κs = search needs
 
 returns-5 : tie.Need-returns-5
 returns-5 c =
@@ -202,12 +169,6 @@ returns-5 c =
     let number = number-is cellCount (length buffer) bytes false false false true 0 (known (room .before .before .before)) (enough room) (taken e) long above in
     let r = refused-as cellCount 18 bytes buffer number refl in
     (r .0, (r .1, (r .2, zero-le)))
-
-encode-to-requires : tie.Need-encode-to-requires
-encode-to-requires c κs = search needs
-
-same-length : tie.Need-same-length
-same-length c = search needs
 
 returns-6 : tie.Need-returns-6
 unfolding recordOf
@@ -245,21 +206,21 @@ convert-spec =
     tie.close
     (tie.spec
     returns
-    other-form-requires
+    (λ c κs. search needs)
     returns-2
-    cells-of-requires
-    fresh-of-requires
-    load-requires
+    (λ c κs. search needs)
+    (λ c κs. search needs)
+    (λ c κs. search needs)
     returns-3
-    cast-all-narrow
-    all-narrow-requires
+    (λ c. search needs)
+    (λ c κs. search needs)
     returns-4
-    each-of-requires
-    sub-all-blank
-    cast-all-blank
-    all-blank-requires
-    valid-settings-requires
+    (λ c κs. search needs)
+    (λ c. search needs)
+    (λ c. search needs)
+    (λ c κs. search needs)
+    (λ c κs. search needs)
     returns-5
-    encode-to-requires
-    same-length
+    (λ c κs. search needs)
+    (λ c. search needs)
     returns-6)

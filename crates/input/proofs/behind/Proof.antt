@@ -6,18 +6,6 @@ use borrow.Author.Needs.{needs}
 use Rattle.input.proofs.behind.Statement.{statement}
 use Rattle.input.proofs.behind.Tie as tie
 
-add-least : tie.Need-add-least
-add-least c = search needs
-
-least-requires : tie.Need-least-requires
-least-requires c κs = search needs
-
-line-end-requires : tie.Need-line-end-requires
-line-end-requires c κs = search needs
-
-sub-t7 : tie.Need-sub-t7
-sub-t7 c = search needs
-
 returns : tie.Need-returns
 returns c =
     let e = c .before .before in
@@ -39,4 +27,4 @@ returns c =
     }
 
 pub behind-spec : {M : Type 1} → statement M
-behind-spec = tie.close (tie.spec add-least least-requires line-end-requires sub-t7 returns)
+behind-spec = tie.close (tie.spec (λ c. search needs) (λ c κs. search needs) (λ c κs. search needs) (λ c. search needs) returns)

@@ -16,9 +16,6 @@ Inv-loop input block₀ line₀ q₀ block line q = Underway (length line₀) q�
 abbrev μ-loop : tie.MeasureT-loop
 μ-loop input block₀ line₀ q₀ block line q = q .left
 
-behind-requires : tie.Need-behind-requires Inv-loop μ-loop
-behind-requires c κs = search needs
-
 loop-holds : tie.Need-loop-holds Inv-loop μ-loop
 loop-holds c = (underway-first _ (c .behind .result) _ (c .behind .ensures .ends), refl, refl)
 
@@ -44,12 +41,6 @@ loop-again c =
     let filled = subst (λ (room : ℕ). Refilled room (l .q) q (l .block) after) (l .inv .2) (w .refilled .ensures) in
     (underway-again _ _ (l .q) q _ (l .block) _ (l .inv .0) over filled, search needs, search needs)
 
-same-length : tie.Need-same-length Inv-loop μ-loop
-same-length c = search needs
-
-same-length-2 : tie.Need-same-length-2 Inv-loop μ-loop
-same-length-2 c = search needs
-
 returns : tie.Need-returns Inv-loop μ-loop
 returns c =
     let l = c .before .before .before .loop in
@@ -67,11 +58,11 @@ next-line-spec =
     (tie.spec
     Inv-loop
     μ-loop
-    behind-requires
+    (λ c κs. search needs)
     loop-holds
     refilled-requires
     loop-less
     loop-again
-    same-length
-    same-length-2
+    (λ c. search needs)
+    (λ c. search needs)
     returns)

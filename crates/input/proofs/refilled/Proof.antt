@@ -7,36 +7,6 @@ use borrow.Author.Needs.{needs}
 use Rattle.input.proofs.refilled.Statement.{statement}
 use Rattle.input.proofs.refilled.Tie as tie
 
-sub-keep : tie.Need-sub-keep
-sub-keep c = search needs
-
-part-keep-start : tie.Need-part-keep-start
-part-keep-start c = search needs
-
-part-keep-end : tie.Need-part-keep-end
-part-keep-end c = search needs
-
-keep-requires : tie.Need-keep-requires
-keep-requires c κs = search needs
-
-read-behind-requires : tie.Need-read-behind-requires
-read-behind-requires c κs = search needs
-
-add-all : tie.Need-add-all
-add-all c = search needs
-
-line-end-requires : tie.Need-line-end-requires
-line-end-requires c κs = search needs
-
-sub-t26 : tie.Need-sub-t26
-sub-t26 c = search needs
-
-same-length : tie.Need-same-length
-same-length c = search needs
-
-same-length-2 : tie.Need-same-length-2
-same-length-2 c = search needs
-
 returns : tie.Need-returns
 returns c =
     let e = c .before .before .before in
@@ -66,14 +36,14 @@ pub refilled-spec : {M : Type 1} → statement M
 refilled-spec =
     tie.close
     (tie.spec
-    sub-keep
-    part-keep-start
-    part-keep-end
-    keep-requires
-    read-behind-requires
-    add-all
-    line-end-requires
-    sub-t26
-    same-length
-    same-length-2
+    (λ c. search needs)
+    (λ c. search needs)
+    (λ c. search needs)
+    (λ c κs. search needs)
+    (λ c κs. search needs)
+    (λ c. search needs)
+    (λ c κs. search needs)
+    (λ c. search needs)
+    (λ c. search needs)
+    (λ c. search needs)
     returns)

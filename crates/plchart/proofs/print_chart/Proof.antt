@@ -10,35 +10,20 @@ use borrow.Author.Needs.{needs}
 use Rattle.plchart.proofs.print_chart.Statement.{statement}
 use Rattle.plchart.proofs.print_chart.Tie as tie
 
-put-chart-requires : tie.Need-put-chart-requires
-put-chart-requires c κs = search needs
-
 -- the room is as it was
 whole : (c : tie.After-put-chart) → length (c .put-chart .last .0) ≡ textMost
 whole c = ap length (c .put-chart .ensures .0) ∙ length-sets _ 0 (chartText cellCount) ∙ length-replicate {A = ℕ} textMost 0
 
-sub-write-all : tie.Need-sub-write-all
-sub-write-all c = search needs
-
-part-write-all-start : tie.Need-part-write-all-start
-part-write-all-start c = search needs
-
 part-write-all-end : tie.Need-part-write-all-end
 part-write-all-end c = omega (arith, whole (c .before), c .before .put-chart .ensures .1 .1)
-
-write-all-requires : tie.Need-write-all-requires
-write-all-requires c κs = search needs
-
-returns : tie.Need-returns
-returns c = search needs
 
 pub print-chart-spec : {M : Type 1} → statement M
 print-chart-spec =
     tie.close
     (tie.spec
-    put-chart-requires
-    sub-write-all
-    part-write-all-start
+    (λ c κs. search needs)
+    (λ c. search needs)
+    (λ c. search needs)
     part-write-all-end
-    write-all-requires
-    returns)
+    (λ c κs. search needs)
+    (λ c. search needs))

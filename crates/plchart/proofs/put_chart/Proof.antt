@@ -17,29 +17,11 @@ Inv-loop out₀ c at₀ a₀ out at a = Written cellCount out₀ out at a
 abbrev μ-loop : tie.MeasureT-loop
 μ-loop out₀ c at₀ a₀ out at a = addressCount - a
 
-chart-requires : tie.Need-chart-requires Inv-loop μ-loop
-chart-requires c κs = search needs
-
 loop-holds : tie.Need-loop-holds Inv-loop μ-loop
 loop-holds c = written-none
 
-cast-entry-of : tie.Need-cast-entry-of Inv-loop μ-loop
-cast-entry-of c = search needs
-
-entry-of-requires : tie.Need-entry-of-requires Inv-loop μ-loop
-entry-of-requires c κs = search needs
-
-cast-put-row : tie.Need-cast-put-row Inv-loop μ-loop
-cast-put-row c = search needs
-
 put-row-requires : tie.Need-put-row-requires Inv-loop μ-loop
 put-row-requires c κs = omega (arith, c .before .before .before .before .loop .inv .within)
-
-add-a : tie.Need-add-a Inv-loop μ-loop
-add-a c = search needs
-
-loop-less : tie.Need-loop-less Inv-loop μ-loop
-loop-less c = search needs
 
 loop-again : tie.Need-loop-again Inv-loop μ-loop
 unfolding cellsFor
@@ -63,13 +45,13 @@ put-chart-spec =
     (tie.spec
     Inv-loop
     μ-loop
-    chart-requires
+    (λ c κs. search needs)
     loop-holds
-    cast-entry-of
-    entry-of-requires
-    cast-put-row
+    (λ c. search needs)
+    (λ c κs. search needs)
+    (λ c. search needs)
     put-row-requires
-    add-a
-    loop-less
+    (λ c. search needs)
+    (λ c. search needs)
     loop-again
     returns)

@@ -13,9 +13,6 @@ use borrow.Author.Needs.{needs}
 use Rattle.plchart.proofs.put_field.Statement.{statement}
 use Rattle.plchart.proofs.put_field.Tie as tie
 
-put-decimal-requires : tie.Need-put-decimal-requires
-put-decimal-requires c κs = search needs
-
 -- the digits leave room for it
 digits-end : (c : tie.After-put-decimal) → c .put-decimal .result + 1 ≤ c .before .before .args .at + fieldMost
 digits-end c =
@@ -38,4 +35,4 @@ returns c =
     (field .bytes, (field .at-end, digits-end c))
 
 pub put-field-spec : {M : Type 1} → statement M
-put-field-spec = tie.close (tie.spec put-decimal-requires element-write-out add-result returns)
+put-field-spec = tie.close (tie.spec (λ c κs. search needs) element-write-out add-result returns)

@@ -14,21 +14,6 @@ returns c =
     let a = c .before .before .args in
     rw (not-true (a .shown) (c .if1 .taken)) (refl, (sym (add-zero (a .at)), omega arith))
 
-digit-requires : tie.Need-digit-requires
-digit-requires c κs = search needs
-
-code-of-requires : tie.Need-code-of-requires
-code-of-requires c κs = search needs
-
-slice-aggregate-copy : tie.Need-slice-aggregate-copy
-slice-aggregate-copy c = search needs
-
-copy-requires : tie.Need-copy-requires
-copy-requires c κs = search needs
-
-same-length : tie.Need-same-length
-same-length c = search needs
-
 returns-2 : tie.Need-returns-2
 unfolding changeOf
 returns-2 c =
@@ -43,9 +28,9 @@ put-change-spec =
     tie.close
     (tie.spec
     returns
-    digit-requires
-    code-of-requires
-    slice-aggregate-copy
-    copy-requires
-    same-length
+    (λ c κs. search needs)
+    (λ c κs. search needs)
+    (λ c. search needs)
+    (λ c κs. search needs)
+    (λ c. search needs)
     returns-2)

@@ -20,21 +20,6 @@ loop-holds : tie.Need-loop-holds Inv-loop μ-loop
 unfolding changes
 loop-holds c = (omega arith, (omega arith, (refl, record { bytes = refl; at-end = refl })))
 
-bit-requires : tie.Need-bit-requires Inv-loop μ-loop
-bit-requires c κs = search needs
-
-bit-requires-2 : tie.Need-bit-requires-2 Inv-loop μ-loop
-bit-requires-2 c κs = search needs
-
-put-change-requires : tie.Need-put-change-requires Inv-loop μ-loop
-put-change-requires c κs = search needs
-
-add-i : tie.Need-add-i Inv-loop μ-loop
-add-i c = search needs
-
-loop-less : tie.Need-loop-less Inv-loop μ-loop
-loop-less c = search needs
-
 loop-again : tie.Need-loop-again Inv-loop μ-loop
 loop-again c =
     let put = c .before .before .put-change .ensures in
@@ -44,9 +29,6 @@ loop-again c =
     let inv = l .loop .inv in
     let next = stored-change (a .word) (a .set) (l .loop .i) (bits .before .bit .ensures) (bits .bit2 .ensures) (inv .1 .1 .1) (put .0, put .1 .0) in
     (search needs, (omega (arith, put .1 .1, inv .1 .0), (search needs, next)))
-
-same-length : tie.Need-same-length Inv-loop μ-loop
-same-length c = search needs
 
 returns : tie.Need-returns Inv-loop μ-loop
 returns c =
@@ -62,11 +44,11 @@ put-changes-spec =
     Inv-loop
     μ-loop
     loop-holds
-    bit-requires
-    bit-requires-2
-    put-change-requires
-    add-i
-    loop-less
+    (λ c κs. search needs)
+    (λ c κs. search needs)
+    (λ c κs. search needs)
+    (λ c. search needs)
+    (λ c. search needs)
     loop-again
-    same-length
+    (λ c. search needs)
     returns)

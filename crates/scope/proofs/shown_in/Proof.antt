@@ -5,17 +5,11 @@ use borrow.Author.Needs.{needs}
 use Rattle.scope.proofs.shown_in.Statement.{statement}
 use Rattle.scope.proofs.shown_in.Tie as tie
 
-nothing-requires : tie.Need-nothing-requires
-nothing-requires c κs = search needs
-
 returns : tie.Need-returns
 unfolding shownIn
 returns c =
     let t = c .before .before .before .before .args .t in
     rw (not-true (t .answer .ran) (c .before .if1 .taken)) (c .nothing .ensures)
-
-words-of-requires : tie.Need-words-of-requires
-words-of-requires c κs = search needs
 
 returns-2 : tie.Need-returns-2
 unfolding shownIn
@@ -25,4 +19,4 @@ returns-2 c =
     rw (not-false (t .answer .ran) (e .if1 .left), c .before .words-of .ensures)
 
 pub shown-in-spec : {M : Type 1} → statement M
-shown-in-spec = tie.close (tie.spec nothing-requires returns words-of-requires returns-2)
+shown-in-spec = tie.close (tie.spec (λ c κs. search needs) returns (λ c κs. search needs) returns-2)

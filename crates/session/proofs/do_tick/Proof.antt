@@ -4,12 +4,6 @@ use borrow.Author.Needs.{needs}
 use Rattle.session.proofs.do_tick.Statement.{statement}
 use Rattle.session.proofs.do_tick.Tie as tie
 
-full-tick-requires : tie.Need-full-tick-requires
-full-tick-requires c κs = search needs
-
-quick-tick-requires : tie.Need-quick-tick-requires
-quick-tick-requires c κs = search needs
-
 returns : tie.Need-returns
 returns c = (rw (c .before .if1 .taken) (c .full-tick .ensures), rw (c .full-tick .ensures) (count-small _ _ _))
 
@@ -17,4 +11,4 @@ returns-2 : tie.Need-returns-2
 returns-2 c = (rw (c .before .if1 .left) (c .quick-tick .ensures), rw (c .quick-tick .ensures) (count-small _ _ _))
 
 pub do-tick-spec : {M : Type 1} → statement M
-do-tick-spec = tie.close (tie.spec full-tick-requires quick-tick-requires returns returns-2)
+do-tick-spec = tie.close (tie.spec (λ c κs. search needs) (λ c κs. search needs) returns returns-2)

@@ -11,18 +11,6 @@ use borrow.Author.Needs.{needs}
 use Rattle.session.proofs.enter.Statement.{statement}
 use Rattle.session.proofs.enter.Tie as tie
 
-tick-line-requires : tie.Need-tick-line-requires
-tick-line-requires c κs = search needs
-
-do-tick-requires : tie.Need-do-tick-requires
-do-tick-requires c κs = search needs
-
-put-tick-requires : tie.Need-put-tick-requires
-put-tick-requires c κs = search needs
-
-same-length : tie.Need-same-length
-same-length c = search needs
-
 returns : tie.Need-returns
 unfolding entered eventOf
 returns c =
@@ -41,21 +29,6 @@ returns c =
       len = c .before .before .put-tick .ensures .1 .0 ∙ ap (λ (r : Ticked). length (tickText n (r .answer))) done;
       fits = c .before .before .put-tick .ensures .1 .1;
     })
-
-is-load-requires : tie.Need-is-load-requires
-is-load-requires c κs = search needs
-
-load-requires : tie.Need-load-requires
-load-requires c κs = search needs
-
-put-load-requires : tie.Need-put-load-requires
-put-load-requires c κs = search needs
-
-same-length-2 : tie.Need-same-length-2
-same-length-2 c = search needs
-
-same-length-3 : tie.Need-same-length-3
-same-length-3 c = search needs
 
 returns-2 : tie.Need-returns-2
 unfolding entered eventOf
@@ -78,15 +51,6 @@ returns-2 c =
       fits = c .before .before .put-load .ensures .1 .1;
     })
 
-enter-line-requires : tie.Need-enter-line-requires
-enter-line-requires c κs = search needs
-
-same-length-4 : tie.Need-same-length-4
-same-length-4 c = search needs
-
-same-length-5 : tie.Need-same-length-5
-same-length-5 c = search needs
-
 returns-3 : tie.Need-returns-3
 unfolding entered eventOf
 returns-3 c =
@@ -103,18 +67,18 @@ pub enter-spec : {M : Type 1} → statement M
 enter-spec =
     tie.close
     (tie.spec
-    tick-line-requires
-    do-tick-requires
-    put-tick-requires
-    same-length
+    (λ c κs. search needs)
+    (λ c κs. search needs)
+    (λ c κs. search needs)
+    (λ c. search needs)
     returns
-    is-load-requires
-    load-requires
-    put-load-requires
-    same-length-2
-    same-length-3
+    (λ c κs. search needs)
+    (λ c κs. search needs)
+    (λ c κs. search needs)
+    (λ c. search needs)
+    (λ c. search needs)
     returns-2
-    enter-line-requires
-    same-length-4
-    same-length-5
+    (λ c κs. search needs)
+    (λ c. search needs)
+    (λ c. search needs)
     returns-3)

@@ -14,30 +14,6 @@ use borrow.Author.Needs.{needs}
 use Rattle.session.proofs.enter_line.Statement.{statement}
 use Rattle.session.proofs.enter_line.Tie as tie
 
-slice-aggregate-line : tie.Need-slice-aggregate-line
-slice-aggregate-line c = search needs
-
-line-requires : tie.Need-line-requires
-line-requires c κs = search needs
-
-sub-put-plain : tie.Need-sub-put-plain
-sub-put-plain c = search needs
-
-part-put-plain-start : tie.Need-part-put-plain-start
-part-put-plain-start c = search needs
-
-part-put-plain-end : tie.Need-part-put-plain-end
-part-put-plain-end c = search needs
-
-put-plain-requires : tie.Need-put-plain-requires
-put-plain-requires c κs = search needs
-
-same-length : tie.Need-same-length
-same-length c = search needs
-
-same-length-2 : tie.Need-same-length-2
-same-length-2 c = search needs
-
 returns : tie.Need-returns
 unfolding lineReply storeAfter
 returns c =
@@ -64,12 +40,12 @@ pub enter-line-spec : {M : Type 1} → statement M
 enter-line-spec =
     tie.close
     (tie.spec
-    slice-aggregate-line
-    line-requires
-    sub-put-plain
-    part-put-plain-start
-    part-put-plain-end
-    put-plain-requires
-    same-length
-    same-length-2
+    (λ c. search needs)
+    (λ c κs. search needs)
+    (λ c. search needs)
+    (λ c. search needs)
+    (λ c. search needs)
+    (λ c κs. search needs)
+    (λ c. search needs)
+    (λ c. search needs)
     returns)

@@ -49,21 +49,6 @@ module _ (out byte : List ℕ) (at w size : ℕ) (one : length byte ≡ 1) where
       let fours = ap length (small-is size w e) ∙ hex-length 4 w in
       ((el ∙ ap (sets out at) digits, omega (arith, long, fours, er, one)), omega (arith, er))
 
-cast-put-hex4 : tie.Need-cast-put-hex4
-cast-put-hex4 c = search needs
-
-put-hex4-requires : tie.Need-put-hex4-requires
-put-hex4-requires c κs = search needs
-
-cast-put-word : tie.Need-cast-put-word
-cast-put-word c = search needs
-
-put-word-requires : tie.Need-put-word-requires
-put-word-requires c κs = search needs
-
-same-length : tie.Need-same-length
-same-length c = search needs
-
 returns : tie.Need-returns
 returns c =
     let d = c .before .before .before .before .before .before in
@@ -73,15 +58,6 @@ returns c =
     let put = c .before .before .put-word in
     large (a .out .now) (a .byte .now) (a .at) (a .w) (a .size) (start .pre .1) (i .if1 .taken) _ _ (d .put-hex4 .result) (put .result)
     (d .put-hex4 .ensures .0) (d .put-hex4 .ensures .1) (put .ensures .0) (put .ensures .1)
-
-cast-put-word-2 : tie.Need-cast-put-word-2
-cast-put-word-2 c = search needs
-
-put-word-requires-2 : tie.Need-put-word-requires-2
-put-word-requires-2 c κs = search needs
-
-same-length-2 : tie.Need-same-length-2
-same-length-2 c = search needs
 
 returns-2 : tie.Need-returns-2
 returns-2 c =
@@ -95,13 +71,13 @@ pub put-cells-spec : {M : Type 1} → statement M
 put-cells-spec =
     tie.close
     (tie.spec
-    cast-put-hex4
-    put-hex4-requires
-    cast-put-word
-    put-word-requires
-    same-length
+    (λ c. search needs)
+    (λ c κs. search needs)
+    (λ c. search needs)
+    (λ c κs. search needs)
+    (λ c. search needs)
     returns
-    cast-put-word-2
-    put-word-requires-2
-    same-length-2
+    (λ c. search needs)
+    (λ c κs. search needs)
+    (λ c. search needs)
     returns-2)

@@ -11,15 +11,6 @@ use borrow.Author.Needs.{needs}
 use Rattle.session.proofs.put_word.Statement.{statement}
 use Rattle.session.proofs.put_word.Tie as tie
 
-put-hex4-requires : tie.Need-put-hex4-requires
-put-hex4-requires c κs = search needs
-
-copy-requires : tie.Need-copy-requires
-copy-requires c κs = search needs
-
-same-length : tie.Need-same-length
-same-length c = search needs
-
 returns : tie.Need-returns
 returns c =
     let d = c .before .before .before .before .before .before in
@@ -34,4 +25,4 @@ returns c =
     )
 
 pub put-word-spec : {M : Type 1} → statement M
-put-word-spec = tie.close (tie.spec put-hex4-requires copy-requires same-length returns)
+put-word-spec = tie.close (tie.spec (λ c κs. search needs) (λ c κs. search needs) (λ c. search needs) returns)

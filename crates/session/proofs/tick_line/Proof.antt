@@ -15,36 +15,6 @@ returns : tie.Need-returns
 unfolding tickLine
 returns c = rw (ne-eqb _ _ (c .if1 .taken))
 
-shared-slice-read-code : tie.Need-shared-slice-read-code
-shared-slice-read-code c = search needs
-
-hex4-at-requires : tie.Need-hex4-at-requires
-hex4-at-requires c κs = search needs
-
-hex4-at-requires-2 : tie.Need-hex4-at-requires-2
-hex4-at-requires-2 c κs = search needs
-
-shared-slice-read-kind : tie.Need-shared-slice-read-kind
-shared-slice-read-kind c = search needs
-
-shared-slice-read-head : tie.Need-shared-slice-read-head
-shared-slice-read-head c = search needs
-
-shared-slice-read-head-2 : tie.Need-shared-slice-read-head-2
-shared-slice-read-head-2 c = search needs
-
-is-digit-requires : tie.Need-is-digit-requires
-is-digit-requires c κs = search needs
-
-shared-slice-read-head-3 : tie.Need-shared-slice-read-head-3
-shared-slice-read-head-3 c = search needs
-
-shared-slice-read-words : tie.Need-shared-slice-read-words
-shared-slice-read-words c = search needs
-
-shared-slice-read-words-2 : tie.Need-shared-slice-read-words-2
-shared-slice-read-words-2 c = search needs
-
 sub-t29 : tie.Need-sub-t29
 sub-t29 c =
     let digit = c .before .before .before .before .before .before in
@@ -89,16 +59,16 @@ tick-line-spec =
     tie.close
     (tie.spec
     returns
-    shared-slice-read-code
-    hex4-at-requires
-    hex4-at-requires-2
-    shared-slice-read-kind
-    shared-slice-read-head
-    shared-slice-read-head-2
-    is-digit-requires
-    shared-slice-read-head-3
-    shared-slice-read-words
-    shared-slice-read-words-2
+    (λ c. search needs)
+    (λ c κs. search needs)
+    (λ c κs. search needs)
+    (λ c. search needs)
+    (λ c. search needs)
+    (λ c. search needs)
+    (λ c κs. search needs)
+    (λ c. search needs)
+    (λ c. search needs)
+    (λ c. search needs)
     sub-t29
     returns-2
     returns-3)

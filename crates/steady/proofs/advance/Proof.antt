@@ -39,26 +39,11 @@ cells-long c = search (as-long, c .good)
 tallies-long : (c : tie.Start) → length (c .args .card .tallies .cells) ≡ cellRoom
 tallies-long c = search (as-long, c .good .0 .0 .1 .1 .1)
 
-idle-requires : tie.Need-idle-requires
-idle-requires c κs = search needs
-
 returns : tie.Need-returns
 returns c =
     let i = c .before .before in
     let a = i .before .before .args in
     made-none (cellsFor (a .card .size)) (a .card) (a .input) (a .k) (i .idle .result) (i .idle .ensures) (i .before .if1 .taken)
-
-cells-for-requires : tie.Need-cells-for-requires
-cells-for-requires c κs = search needs
-
-quick-tick-requires : tie.Need-quick-tick-requires
-quick-tick-requires c κs = search needs
-
-steady-from-requires : tie.Need-steady-from-requires
-steady-from-requires c κs = search needs
-
-made-of-requires : tie.Need-made-of-requires
-made-of-requires c κs = search needs
 
 returns-2 : tie.Need-returns-2
 returns-2 c =
@@ -98,12 +83,12 @@ pub advance-spec : {M : Type 1} → statement M
 advance-spec =
     tie.close
     (tie.spec
-    idle-requires
+    (λ c κs. search needs)
     returns
-    cells-for-requires
-    quick-tick-requires
-    steady-from-requires
-    made-of-requires
+    (λ c κs. search needs)
+    (λ c κs. search needs)
+    (λ c κs. search needs)
+    (λ c κs. search needs)
     returns-2
     card-through-requires
     returns-3)

@@ -7,12 +7,6 @@ use Rattle.steady.proofs.card_through.Lts as lts
 use Rattle.steady.proofs.cells_through.Reads as cells-through-reads
 use Rattle.steady.proofs.tallies_through.Reads as tallies-through-reads
 
-cells-through-requires : tie.Need-cells-through-requires
-cells-through-requires c κs = search needs
-
-tallies-through-requires : tie.Need-tallies-through-requires
-tallies-through-requires c κs = search needs
-
 returns : tie.Need-returns
 returns c =
     let i = c .before .before in
@@ -26,4 +20,4 @@ returns-2 c =
 
 pub card-through-spec : {M : Type 1} → statement M
 card-through-spec =
-    tie.close (tie.spec cells-through-requires tallies-through-requires returns returns-2)
+    tie.close (tie.spec (λ c κs. search needs) (λ c κs. search needs) returns returns-2)

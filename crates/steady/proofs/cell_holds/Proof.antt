@@ -5,9 +5,6 @@ use Rattle.steady.specs.Steady.{stateHolds}
 use Rattle.steady.proofs.cell_holds.Statement.{statement}
 use Rattle.steady.proofs.cell_holds.Tie as tie
 
-count-holds-requires : tie.Need-count-holds-requires
-count-holds-requires c κs = search needs
-
 returns : tie.Need-returns
 unfolding stateHolds
 returns c = rw (c .if1 .taken)
@@ -17,4 +14,4 @@ unfolding stateHolds
 returns-2 c = rw (c .before .if1 .left) (c .count-holds .ensures)
 
 pub cell-holds-spec : {M : Type 1} → statement M
-cell-holds-spec = tie.close (tie.spec count-holds-requires returns returns-2)
+cell-holds-spec = tie.close (tie.spec (λ c κs. search needs) returns returns-2)

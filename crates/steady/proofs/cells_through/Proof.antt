@@ -27,36 +27,12 @@ loop-holds : tie.Need-loop-holds Inv-loop μ-loop
 unfolding listed
 loop-holds c = (zero-le, refl)
 
-mul-cell-through : tie.Need-mul-cell-through Inv-loop μ-loop
-mul-cell-through c = search needs
-
-array-copy-out-cell-through : tie.Need-array-copy-out-cell-through Inv-loop μ-loop
-array-copy-out-cell-through c = search needs
-
-mul-cell-through-2 : tie.Need-mul-cell-through-2 Inv-loop μ-loop
-mul-cell-through-2 c = search needs
-
-array-copy-out-cell-through-2 : tie.Need-array-copy-out-cell-through-2 Inv-loop μ-loop
-array-copy-out-cell-through-2 c = search needs
-
 cell-through-requires : tie.Need-cell-through-requires Inv-loop μ-loop
 cell-through-requires c κs =
     let s = c .before .before .before .before in
     let l = c .before .before .before .loop in
     let here = least-at (s .args .n) (s .args .t1) (s .args .t2) (l .i) (search needs) in
     (s .pre .1 .0, omega (arith, s .pre .1 .1, here))
-
-mul-next : tie.Need-mul-next Inv-loop μ-loop
-mul-next c = search needs
-
-array-set-from-next : tie.Need-array-set-from-next Inv-loop μ-loop
-array-set-from-next c = search needs
-
-add-i : tie.Need-add-i Inv-loop μ-loop
-add-i c = search needs
-
-loop-less : tie.Need-loop-less Inv-loop μ-loop
-loop-less c = search needs
 
 loop-again : tie.Need-loop-again Inv-loop μ-loop
 loop-again c =
@@ -78,14 +54,14 @@ cells-through-spec =
     Inv-loop
     μ-loop
     loop-holds
-    mul-cell-through
-    array-copy-out-cell-through
-    mul-cell-through-2
-    array-copy-out-cell-through-2
+    (λ c. search needs)
+    (λ c. search needs)
+    (λ c. search needs)
+    (λ c. search needs)
     cell-through-requires
-    mul-next
-    array-set-from-next
-    add-i
-    loop-less
+    (λ c. search needs)
+    (λ c. search needs)
+    (λ c. search needs)
+    (λ c. search needs)
     loop-again
     returns)

@@ -6,15 +6,6 @@ use Rattle.steady.proofs.Cases.{holds-1, holds-2, holds-3, holds-4, hol
 use Rattle.steady.proofs.count_holds.Statement.{statement}
 use Rattle.steady.proofs.count_holds.Tie as tie
 
-add-if3 : tie.Need-add-if3
-add-if3 c = search needs
-
-add-if4 : tie.Need-add-if4
-add-if4 c = search needs
-
-room-requires : tie.Need-room-requires
-room-requires c κs = search needs
-
 returns : tie.Need-returns
 returns c = holds-1 _ _ _ (search needs)
 
@@ -33,4 +24,4 @@ returns-5 c = holds-5 _ _ _ (search needs) (search needs) (search needs) (search
 pub count-holds-spec : {M : Type 1} → statement M
 count-holds-spec =
     tie.close
-    (tie.spec returns returns-2 add-if3 returns-3 add-if4 room-requires returns-4 returns-5)
+    (tie.spec returns returns-2 (λ c. search needs) returns-3 (λ c. search needs) (λ c κs. search needs) returns-4 returns-5)

@@ -8,9 +8,6 @@ use Rattle.steady.proofs.Cases.{through-ended}
 use Rattle.steady.proofs.count_through.Statement.{statement}
 use Rattle.steady.proofs.count_through.Tie as tie
 
-sub-result : tie.Need-sub-result
-sub-result c = search needs
-
 add-result : tie.Need-add-result
 add-result c =
     let b = c .before .before in
@@ -32,4 +29,4 @@ returns-4 c = sym (through-same _ _ _ (omega arith))
 
 pub count-through-spec : {M : Type 1} → statement M
 count-through-spec =
-    tie.close (tie.spec sub-result add-result returns returns-2 returns-3 returns-4)
+    tie.close (tie.spec (λ c. search needs) add-result returns returns-2 returns-3 returns-4)

@@ -6,9 +6,6 @@ use Rattle.steady.specs.Steady.{countedFor}
 use Rattle.steady.proofs.counted_for.Statement.{statement}
 use Rattle.steady.proofs.counted_for.Tie as tie
 
-total-after-requires : tie.Need-total-after-requires
-total-after-requires c κs = search needs
-
 returns : tie.Need-returns
 unfolding countedFor
 returns c = rw (c .before .if1 .taken) (ap ticks (c .total-after .ensures))
@@ -18,4 +15,4 @@ unfolding countedFor
 returns-2 c = rw (c .if1 .left)
 
 pub counted-for-spec : {M : Type 1} → statement M
-counted-for-spec = tie.close (tie.spec total-after-requires returns returns-2)
+counted-for-spec = tie.close (tie.spec (λ c κs. search needs) returns returns-2)

@@ -18,30 +18,6 @@ loop-holds : tie.Need-loop-holds Inv-loop μ-loop
 unfolding leastHolds
 loop-holds c = (zero-le, refl)
 
-mul-cell-holds : tie.Need-mul-cell-holds Inv-loop μ-loop
-mul-cell-holds c = search needs
-
-array-copy-out-cell-holds : tie.Need-array-copy-out-cell-holds Inv-loop μ-loop
-array-copy-out-cell-holds c = search needs
-
-mul-cell-holds-2 : tie.Need-mul-cell-holds-2 Inv-loop μ-loop
-mul-cell-holds-2 c = search needs
-
-array-copy-out-cell-holds-2 : tie.Need-array-copy-out-cell-holds-2 Inv-loop μ-loop
-array-copy-out-cell-holds-2 c = search needs
-
-cell-holds-requires : tie.Need-cell-holds-requires Inv-loop μ-loop
-cell-holds-requires c κs = search needs
-
-least-requires : tie.Need-least-requires Inv-loop μ-loop
-least-requires c κs = search needs
-
-add-i : tie.Need-add-i Inv-loop μ-loop
-add-i c = search needs
-
-loop-less : tie.Need-loop-less Inv-loop μ-loop
-loop-less c = search needs
-
 loop-again : tie.Need-loop-again Inv-loop μ-loop
 loop-again c = (omega arith, c .least .ensures ∙ least-next _ _ _ _ _ (c .before .before .before .before .before .loop .inv .1) (c .before .cell-holds .ensures))
 
@@ -58,13 +34,13 @@ least-holds-spec =
     Inv-loop
     μ-loop
     loop-holds
-    mul-cell-holds
-    array-copy-out-cell-holds
-    mul-cell-holds-2
-    array-copy-out-cell-holds-2
-    cell-holds-requires
-    least-requires
-    add-i
-    loop-less
+    (λ c. search needs)
+    (λ c. search needs)
+    (λ c. search needs)
+    (λ c. search needs)
+    (λ c κs. search needs)
+    (λ c κs. search needs)
+    (λ c. search needs)
+    (λ c. search needs)
     loop-again
     returns)

@@ -7,12 +7,6 @@ use Rattle.steady.proofs.made_of.Reads as reads
 use Rattle.steady.proofs.made_of.Lts as lts
 use Rattle.steady.proofs.least.Reads as least-reads
 
-least-requires : tie.Need-least-requires
-least-requires c κs = search needs
-
-least-requires-2 : tie.Need-least-requires-2
-least-requires-2 c κs = search needs
-
 returns : tie.Need-returns
 returns c = c .least .ensures ∙ made-one _ _ (search needs)
 
@@ -20,4 +14,4 @@ returns-2 : tie.Need-returns-2
 returns-2 c = c .least2 .ensures ∙ made-more _ _ (search needs)
 
 pub made-of-spec : {M : Type 1} → statement M
-made-of-spec = tie.close (tie.spec least-requires least-requires-2 returns returns-2)
+made-of-spec = tie.close (tie.spec (λ c κs. search needs) (λ c κs. search needs) returns returns-2)

@@ -11,15 +11,6 @@ use Rattle.card.proofs.place.cells_for.Reads as cells-for-reads
 use Rattle.steady.proofs.steady_from.Reads as steady-from-reads
 use Rattle.ticks.proofs.tick.quick_tick.Reads as quick-tick-reads
 
-cells-for-requires : tie.Need-cells-for-requires
-cells-for-requires c κs = search needs
-
-quick-tick-requires : tie.Need-quick-tick-requires
-quick-tick-requires c κs = search needs
-
-steady-from-requires : tie.Need-steady-from-requires
-steady-from-requires c κs = search needs
-
 returns : tie.Need-returns
 unfolding steadyFor
 returns c =
@@ -31,4 +22,4 @@ returns c =
 
 pub steady-for-spec : {M : Type 1} → statement M
 steady-for-spec =
-    tie.close (tie.spec cells-for-requires quick-tick-requires steady-from-requires returns)
+    tie.close (tie.spec (λ c κs. search needs) (λ c κs. search needs) (λ c κs. search needs) returns)

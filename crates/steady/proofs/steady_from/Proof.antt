@@ -11,12 +11,6 @@ use Rattle.steady.proofs.steady_from.Lts as lts
 use Rattle.steady.proofs.least_holds.Reads as least-holds-reads
 use Rattle.steady.proofs.same_memory.Reads as same-memory-reads
 
-same-memory-requires : tie.Need-same-memory-requires
-same-memory-requires c κs = search needs
-
-least-holds-requires : tie.Need-least-holds-requires
-least-holds-requires c κs = search needs
-
 -- the test is that of the definition
 test : (s : tie.After-same-memory) (b : Bool) → let a = s .before .before .before .before .before .args in
     (eqb (a .c .edited) (a .d .edited) && s .same-memory .result) ≡ b → sameBut (a .c) (a .d) ≡ b
@@ -34,4 +28,4 @@ returns-2 : tie.Need-returns-2
 returns-2 c = steady-else _ _ _ (test (c .before) false (c .if1 .left))
 
 pub steady-from-spec : {M : Type 1} → statement M
-steady-from-spec = tie.close (tie.spec same-memory-requires least-holds-requires returns returns-2)
+steady-from-spec = tie.close (tie.spec (λ c κs. search needs) (λ c κs. search needs) returns returns-2)

@@ -28,9 +28,6 @@ Inv-loop named m n total d next₀ i₀ i-end next i = (i ≤ n) × ((next .cell
 abbrev μ-loop : tie.MeasureT-loop
 μ-loop named m n total d next₀ i₀ i-end next i = n - i
 
-total-after-requires : tie.Need-total-after-requires Inv-loop μ-loop
-total-after-requires c κs = search needs
-
 -- there are as many tallies as there is room for cells
 tallies-long : (c : tie.Start Inv-loop μ-loop) → length (c .args .t .cells) ≡ cellRoom
 tallies-long c = search (as-long, c .good)
@@ -41,33 +38,6 @@ sub-d c = subst (λ (x : ℕ). c .before .before .args .t .total .0 ≤ x) (sym 
 loop-holds : tie.Need-loop-holds Inv-loop μ-loop
 unfolding listed
 loop-holds c = (zero-le, (refl, refl))
-
-cast-at : tie.Need-cast-at Inv-loop μ-loop
-cast-at c = search needs
-
-bit-requires : tie.Need-bit-requires Inv-loop μ-loop
-bit-requires c κs = search needs
-
-mul-counted-for : tie.Need-mul-counted-for Inv-loop μ-loop
-mul-counted-for c = search needs
-
-element-copy-out-counted-for : tie.Need-element-copy-out-counted-for Inv-loop μ-loop
-element-copy-out-counted-for c = search needs
-
-counted-for-requires : tie.Need-counted-for-requires Inv-loop μ-loop
-counted-for-requires c κs = search needs
-
-mul-v : tie.Need-mul-v Inv-loop μ-loop
-mul-v c = search needs
-
-element-set-from-v : tie.Need-element-set-from-v Inv-loop μ-loop
-element-set-from-v c = search needs
-
-add-i : tie.Need-add-i Inv-loop μ-loop
-add-i c = search needs
-
-loop-less : tie.Need-loop-less Inv-loop μ-loop
-loop-less c = search needs
 
 loop-again : tie.Need-loop-again Inv-loop μ-loop
 loop-again c =
@@ -101,17 +71,17 @@ tallies-through-spec =
     (tie.spec
     Inv-loop
     μ-loop
-    total-after-requires
+    (λ c κs. search needs)
     sub-d
     loop-holds
-    cast-at
-    bit-requires
-    mul-counted-for
-    element-copy-out-counted-for
-    counted-for-requires
-    mul-v
-    element-set-from-v
-    add-i
-    loop-less
+    (λ c. search needs)
+    (λ c κs. search needs)
+    (λ c. search needs)
+    (λ c. search needs)
+    (λ c κs. search needs)
+    (λ c. search needs)
+    (λ c. search needs)
+    (λ c. search needs)
+    (λ c. search needs)
     loop-again
     returns)

@@ -4,15 +4,6 @@ use Rattle.steady.proofs.Cases.{total-1, total-2, total-3}
 use Rattle.steady.proofs.total_after.Statement.{statement}
 use Rattle.steady.proofs.total_after.Tie as tie
 
-add-sum : tie.Need-add-sum
-add-sum c = search needs
-
-cast-if2 : tie.Need-cast-if2
-cast-if2 c = search needs
-
-cast-result : tie.Need-cast-result
-cast-result c = search needs
-
 returns : tie.Need-returns
 returns c = total-1 _ _ (search needs) (search needs)
 
@@ -23,4 +14,4 @@ returns-3 : tie.Need-returns-3
 returns-3 c = total-3 _ _ (search needs)
 
 pub total-after-spec : {M : Type 1} → statement M
-total-after-spec = tie.close (tie.spec add-sum cast-if2 cast-result returns returns-2 returns-3)
+total-after-spec = tie.close (tie.spec (λ c. search needs) (λ c. search needs) (λ c. search needs) returns returns-2 returns-3)

@@ -11,19 +11,10 @@ use Rattle.survey.specs.Survey.{Smallest}
 use Rattle.survey.proofs.dependents.Statement.{statement}
 use Rattle.survey.proofs.dependents.Tie as tie
 
-is-connector-requires : tie.Need-is-connector-requires
-is-connector-requires c κs = search needs
-
 returns : tie.Need-returns
 returns c =
     let no = sym (c .before .is-connector .ensures) ∙ not-true _ (c .if1 .taken) in
     record { refused = λ _. refl; number = λ e. absurd (true≢false (sym e ∙ no)); smallest = λ e. absurd (true≢false (sym e ∙ no)) }
-
-cells-for-requires : tie.Need-cells-for-requires
-cells-for-requires c κs = search needs
-
-cast-reach : tie.Need-cast-reach
-cast-reach c = search needs
 
 -- the place is a connector's
 sub-reach : tie.Need-sub-reach
@@ -62,10 +53,10 @@ pub dependents-spec : {M : Type 1} → statement M
 dependents-spec =
     tie.close
     (tie.spec
-    is-connector-requires
+    (λ c κs. search needs)
     returns
-    cells-for-requires
-    cast-reach
+    (λ c κs. search needs)
+    (λ c. search needs)
     sub-reach
     cast-reach-2
     reach-requires

@@ -7,9 +7,6 @@ use borrow.Author.Needs.{needs}
 use Rattle.survey.proofs.driven_from.Statement.{statement}
 use Rattle.survey.proofs.driven_from.Tie as tie
 
-holds-requires : tie.Need-holds-requires
-holds-requires c κs = search needs
-
 returns : tie.Need-returns
 unfolding drivenFrom
 returns c =
@@ -17,4 +14,4 @@ returns c =
     ap (λ (b : Bool). isOutput (a .c .kind) && b) (c .before .before .holds .ensures)
 
 pub driven-from-spec : {M : Type 1} → statement M
-driven-from-spec = tie.close (tie.spec holds-requires returns)
+driven-from-spec = tie.close (tie.spec (λ c κs. search needs) returns)

@@ -22,20 +22,8 @@ loop-holds : tie.Need-loop-holds Inv-loop μ-loop
 unfolding wordOf
 loop-holds c = (zero-le, refl)
 
-connector-at-requires : tie.Need-connector-at-requires Inv-loop μ-loop
-connector-at-requires c κs = search needs
-
-driven-from-requires : tie.Need-driven-from-requires Inv-loop μ-loop
-driven-from-requires c κs = search needs
-
 pushed-requires : tie.Need-pushed-requires Inv-loop μ-loop
 pushed-requires c κs = (search needs, built-fits _ _ _ (c .before .before .before .loop .inv .1))
-
-add-j : tie.Need-add-j Inv-loop μ-loop
-add-j c = search needs
-
-loop-less : tie.Need-loop-less Inv-loop μ-loop
-loop-less c = search needs
 
 loop-again : tie.Need-loop-again Inv-loop μ-loop
 loop-again c =
@@ -66,11 +54,11 @@ followers-spec =
     Inv-loop
     μ-loop
     loop-holds
-    connector-at-requires
-    driven-from-requires
+    (λ c κs. search needs)
+    (λ c κs. search needs)
     pushed-requires
-    add-j
-    loop-less
+    (λ c. search needs)
+    (λ c. search needs)
     loop-again
     cast-result
     returns)

@@ -52,24 +52,9 @@ less x y x′ y′ hx hy fx fy e = go (eqb x′ x) refl e
         let lt : x < x′ = omega arith in
         omega arith
 
-connector-at-requires : tie.Need-connector-at-requires Inv-loop μ-loop
-connector-at-requires c κs = search needs
-
-start-requires : tie.Need-start-requires Inv-loop μ-loop
-start-requires c κs = search needs
-
 loop-holds : tie.Need-loop-holds Inv-loop μ-loop
 unfolding rounds
 loop-holds c = (zero, (refl, rw (c .before .connector-at .ensures) at (c .start .ensures)))
-
-sees-requires : tie.Need-sees-requires Inv-loop μ-loop
-sees-requires c κs = search needs
-
-readers-requires : tie.Need-readers-requires Inv-loop μ-loop
-readers-requires c κs = search needs
-
-followers-requires : tie.Need-followers-requires Inv-loop μ-loop
-followers-requires c κs = search needs
 
 returns : tie.Need-returns Inv-loop μ-loop
 returns c =
@@ -121,12 +106,12 @@ reach-spec =
     (tie.spec
     Inv-loop
     μ-loop
-    connector-at-requires
-    start-requires
+    (λ c κs. search needs)
+    (λ c κs. search needs)
     loop-holds
-    sees-requires
-    readers-requires
-    followers-requires
+    (λ c κs. search needs)
+    (λ c κs. search needs)
+    (λ c κs. search needs)
     returns
     loop-less
     loop-again)

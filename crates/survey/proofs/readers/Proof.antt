@@ -31,26 +31,8 @@ loop-holds : tie.Need-loop-holds Inv-loop μ-loop
 unfolding wordOf
 loop-holds c = (zero-le, refl)
 
-cast-reads-set : tie.Need-cast-reads-set Inv-loop μ-loop
-cast-reads-set c = search needs
-
-mul-reads-set : tie.Need-mul-reads-set Inv-loop μ-loop
-mul-reads-set c = search needs
-
-array-copy-out-reads-set : tie.Need-array-copy-out-reads-set Inv-loop μ-loop
-array-copy-out-reads-set c = search needs
-
-reads-set-requires : tie.Need-reads-set-requires Inv-loop μ-loop
-reads-set-requires c κs = search needs
-
 pushed-requires : tie.Need-pushed-requires Inv-loop μ-loop
 pushed-requires c κs = (search needs, built-fits _ _ _ (c .before .before .before .loop .inv .1))
-
-add-i : tie.Need-add-i Inv-loop μ-loop
-add-i c = search needs
-
-loop-less : tie.Need-loop-less Inv-loop μ-loop
-loop-less c = search needs
 
 loop-again : tie.Need-loop-again Inv-loop μ-loop
 loop-again c =
@@ -77,13 +59,13 @@ readers-spec =
     Inv-loop
     μ-loop
     loop-holds
-    cast-reads-set
-    mul-reads-set
-    array-copy-out-reads-set
-    reads-set-requires
+    (λ c. search needs)
+    (λ c. search needs)
+    (λ c. search needs)
+    (λ c κs. search needs)
     pushed-requires
-    add-i
-    loop-less
+    (λ c. search needs)
+    (λ c. search needs)
     loop-again
     cast-result
     returns)

@@ -7,36 +7,6 @@ use borrow.Author.Needs.{needs}
 use Rattle.survey.proofs.reads_set.Statement.{statement}
 use Rattle.survey.proofs.reads_set.Tie as tie
 
-used-of-requires : tie.Need-used-of-requires
-used-of-requires c κs = search needs
-
-unpacked-requires : tie.Need-unpacked-requires
-unpacked-requires c κs = search needs
-
-array-read-holds : tie.Need-array-read-holds
-array-read-holds c = search needs
-
-holds-requires : tie.Need-holds-requires
-holds-requires c κs = search needs
-
-array-read-holds-2 : tie.Need-array-read-holds-2
-array-read-holds-2 c = search needs
-
-holds-requires-2 : tie.Need-holds-requires-2
-holds-requires-2 c κs = search needs
-
-array-read-holds-3 : tie.Need-array-read-holds-3
-array-read-holds-3 c = search needs
-
-holds-requires-3 : tie.Need-holds-requires-3
-holds-requires-3 c κs = search needs
-
-array-read-holds-4 : tie.Need-array-read-holds-4
-array-read-holds-4 c = search needs
-
-holds-requires-4 : tie.Need-holds-requires-4
-holds-requires-4 c κs = search needs
-
 returns : tie.Need-returns
 unfolding readsSet
 returns c =
@@ -51,14 +21,14 @@ pub reads-set-spec : {M : Type 1} → statement M
 reads-set-spec =
     tie.close
     (tie.spec
-    used-of-requires
-    unpacked-requires
-    array-read-holds
-    holds-requires
-    array-read-holds-2
-    holds-requires-2
-    array-read-holds-3
-    holds-requires-3
-    array-read-holds-4
-    holds-requires-4
+    (λ c κs. search needs)
+    (λ c κs. search needs)
+    (λ c. search needs)
+    (λ c κs. search needs)
+    (λ c. search needs)
+    (λ c κs. search needs)
+    (λ c. search needs)
+    (λ c κs. search needs)
+    (λ c. search needs)
+    (λ c κs. search needs)
     returns)

@@ -15,12 +15,6 @@ returns : tie.Need-returns
 unfolding startOf
 returns c = rw (eq-eqb _ _ (c .if1 .taken))
 
-cast-result : tie.Need-cast-result
-cast-result c = search needs
-
-shl-result : tie.Need-shl-result
-shl-result c = search needs
-
 returns-2 : tie.Need-returns-2
 unfolding startOf
 returns-2 c =
@@ -29,4 +23,4 @@ returns-2 c =
     rw (ne-eqb _ _ (c .if1 .left)) (shifted 16 k true (search needs) ∙ one)
 
 pub start-spec : {M : Type 1} → statement M
-start-spec = tie.close (tie.spec returns cast-result shl-result returns-2)
+start-spec = tie.close (tie.spec returns (λ c. search needs) (λ c. search needs) returns-2)

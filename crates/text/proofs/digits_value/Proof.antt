@@ -53,12 +53,6 @@ add-v-2 c =
     let l = c .before .before in
     omega (arith, room l (digitValue (Byte l)) (digit-small (Byte l) (is-digit (c .before))) (omega arith))
 
-add-i : tie.Need-add-i Inv-loop μ-loop
-add-i c = search needs
-
-loop-less : tie.Need-loop-less Inv-loop μ-loop
-loop-less c = search needs
-
 loop-again : tie.Need-loop-again Inv-loop μ-loop
 loop-again c =
     let l = c .before .before in
@@ -89,7 +83,7 @@ digits-value-spec =
     sub-v
     cast-v
     add-v-2
-    add-i
-    loop-less
+    (λ c. search needs)
+    (λ c. search needs)
     loop-again
     returns)

@@ -17,14 +17,8 @@ is-digit c = sym (c .before .is-digit .ensures) ∙ c .if1 .taken
 no-digit : (c : tie.Else1) → isDigit (c .before .before .args .b) ≡ false
 no-digit c = sym (c .before .is-digit .ensures) ∙ c .if1 .left
 
-is-digit-requires : tie.Need-is-digit-requires
-is-digit-requires c κs = search needs
-
 sub-result : tie.Need-sub-result
 sub-result c = digit-low (c .before .before .args .b) (is-digit c)
-
-cast-result : tie.Need-cast-result
-cast-result c = search needs
 
 returns : tie.Need-returns
 unfolding hexValue
@@ -32,9 +26,6 @@ returns c = rw (is-digit c)
 
 sub-result-2 : tie.Need-sub-result-2
 sub-result-2 c = omega (arith, hex-letter (c .before .before .args .b) (c .before .before .pre) (no-digit c))
-
-cast-result-2 : tie.Need-cast-result-2
-cast-result-2 c = search needs
 
 returns-2 : tie.Need-returns-2
 unfolding hexValue
@@ -44,10 +35,10 @@ pub hex-value-spec : {M : Type 1} → statement M
 hex-value-spec =
     tie.close
     (tie.spec
-    is-digit-requires
+    (λ c κs. search needs)
     sub-result
-    cast-result
+    (λ c. search needs)
     returns
     sub-result-2
-    cast-result-2
+    (λ c. search needs)
     returns-2)

@@ -5,9 +5,6 @@ use borrow.Author.Needs.{needs}
 use Rattle.text.proofs.is_hex.Statement.{statement}
 use Rattle.text.proofs.is_hex.Tie as tie
 
-is-digit-requires : tie.Need-is-digit-requires
-is-digit-requires c κs = search needs
-
 returns : tie.Need-returns
 unfolding isHex
 returns c = rw (← c .before .is-digit .ensures, c .if1 .taken)
@@ -21,4 +18,4 @@ unfolding isHex
 returns-3 c = rw (← c .before .before .is-digit .ensures, c .before .if1 .left, le-leb 97 (c .before .before .before .args .b) (c .if2 .left))
 
 pub is-hex-spec : {M : Type 1} → statement M
-is-hex-spec = tie.close (tie.spec is-digit-requires returns returns-2 returns-3)
+is-hex-spec = tie.close (tie.spec (λ c κs. search needs) returns returns-2 returns-3)

@@ -14,15 +14,6 @@ use Rattle.text.proofs.number_at.Tie as tie
 abbrev Ds : tie.Start → List ℕ
 Ds c = digitsOf (drop (c .args .at) (c .args .text .now))
 
-digits-end-requires : tie.Need-digits-end-requires
-digits-end-requires c κs = search needs
-
-sub-n : tie.Need-sub-n
-sub-n c = search needs
-
-is-plain-requires : tie.Need-is-plain-requires
-is-plain-requires c κs = search needs
-
 digits-value-requires : tie.Need-digits-value-requires
 digits-value-requires c κs =
     (search needs, omega (arith, plain-few (Ds (c .before .before .before .before)) (sym (c .before .is-plain .ensures) ∙ c .if1 .taken)))
@@ -42,4 +33,4 @@ returns-2 c =
 pub number-at-spec : {M : Type 1} → statement M
 number-at-spec =
     tie.close
-    (tie.spec digits-end-requires sub-n is-plain-requires digits-value-requires returns returns-2)
+    (tie.spec (λ c κs. search needs) (λ c. search needs) (λ c κs. search needs) digits-value-requires returns returns-2)

@@ -10,12 +10,6 @@ use borrow.Author.Needs.{needs}
 use Rattle.text.proofs.put_numbered.Statement.{statement}
 use Rattle.text.proofs.put_numbered.Tie as tie
 
-copy-requires : tie.Need-copy-requires
-copy-requires c κs = search needs
-
-put-decimal-requires : tie.Need-put-decimal-requires
-put-decimal-requires c κs = search needs
-
 copy-requires-2 : tie.Need-copy-requires-2
 copy-requires-2 c κs =
     let d = c .before .before .before in
@@ -30,9 +24,6 @@ copy-requires-2 c κs =
       w .copy .kept .0,
       s .pre,
     )
-
-same-length : tie.Need-same-length
-same-length c = search needs
 
 returns : tie.Need-returns
 returns c =
@@ -53,8 +44,8 @@ pub put-numbered-spec : {M : Type 1} → statement M
 put-numbered-spec =
     tie.close
     (tie.spec
-    copy-requires
-    put-decimal-requires
+    (λ c κs. search needs)
+    (λ c κs. search needs)
     copy-requires-2
-    same-length
+    (λ c. search needs)
     returns)

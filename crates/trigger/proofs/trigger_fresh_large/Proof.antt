@@ -4,12 +4,9 @@ use Rattle.card.specs.Address.{cellsFor}
 use Rattle.trigger.proofs.trigger_fresh_large.Statement.{statement}
 use Rattle.trigger.proofs.trigger_fresh_large.Tie as tie
 
-fresh-of-requires : tie.Need-fresh-of-requires
-fresh-of-requires c κs = search needs
-
 returns : tie.Need-returns
 unfolding cellsFor
 returns c = c .fresh-of .ensures
 
 pub trigger-fresh-large-spec : {M : Type 1} → statement M
-trigger-fresh-large-spec = tie.close (tie.spec fresh-of-requires returns)
+trigger-fresh-large-spec = tie.close (tie.spec (λ c κs. search needs) returns)

@@ -8,12 +8,9 @@ use borrow.Author.Needs.{needs}
 use Rattle.words.proofs.bit.Statement.{statement}
 use Rattle.words.proofs.bit.Tie as tie
 
-shr-result : tie.Need-shr-result
-shr-result c = search needs
-
 returns : tie.Need-returns
 unfolding bitAt
 returns c = ap (λ (x : ℕ). eqb x 1) (and-mask (c .args .w / 2 ^ c .args .i) 1)
 
 pub bit-spec : {M : Type 1} → statement M
-bit-spec = tie.close (tie.spec shr-result returns)
+bit-spec = tie.close (tie.spec (λ c. search needs) returns)

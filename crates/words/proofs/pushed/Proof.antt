@@ -9,12 +9,6 @@ use borrow.Author.Needs.{needs}
 use Rattle.words.proofs.pushed.Statement.{statement}
 use Rattle.words.proofs.pushed.Tie as tie
 
-cast-result : tie.Need-cast-result
-cast-result c = search needs
-
-shl-result : tie.Need-shl-result
-shl-result c = search needs
-
 returns : tie.Need-returns
 returns c =
     let top = bitNumber (c .args .b) in
@@ -22,4 +16,4 @@ returns c =
     ∙ or-shifted-r top (c .args .i) (c .args .w) (search needs) ∙ add-comm (top * 2 ^ c .args .i) (c .args .w)
 
 pub pushed-spec : {M : Type 1} → statement M
-pushed-spec = tie.close (tie.spec cast-result shl-result returns)
+pushed-spec = tie.close (tie.spec (λ c. search needs) (λ c. search needs) returns)

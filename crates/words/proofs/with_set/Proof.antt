@@ -7,13 +7,10 @@ use borrow.Author.Needs.{needs}
 use Rattle.words.proofs.with_set.Statement.{statement}
 use Rattle.words.proofs.with_set.Tie as tie
 
-shl-result : tie.Need-shl-result
-shl-result c = search needs
-
 returns : tie.Need-returns
 returns c =
     ap (bitOr (c .args .w)) (shifted 64 (c .args .i) true (search needs))
     ∙ set-bit (c .args .w) 64 (c .args .i) (search needs) (search needs)
 
 pub with-set-spec : {M : Type 1} → statement M
-with-set-spec = tie.close (tie.spec shl-result returns)
+with-set-spec = tie.close (tie.spec (λ c. search needs) returns)

@@ -5,12 +5,9 @@ use Rattle.card.specs.Fresh
 use Rattle.card.proofs.card.fresh.Statement.{statement}
 use Rattle.card.proofs.card.fresh.Tie as tie
 
-fresh-of-requires : tie.Need-fresh-of-requires
-fresh-of-requires c κs = search needs
-
 returns : tie.Need-returns
 unfolding Fresh.fresh cellsFor
 returns c = c .fresh-of .ensures
 
 pub fresh-spec : {M : Type 1} → statement M
-fresh-spec = tie.close (tie.spec fresh-of-requires returns)
+fresh-spec = tie.close (tie.spec (λ c κs. search needs) returns)

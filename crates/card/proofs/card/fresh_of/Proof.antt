@@ -21,12 +21,6 @@ filled size x = go (eqb size cellRoom)
     go true = refl
     go false = refl
 
-cells-for-requires : tie.Need-cells-for-requires
-cells-for-requires c κs = search needs
-
-started-requires : tie.Need-started-requires
-started-requires c κs = search needs
-
 returns : tie.Need-returns
 returns c =
     let size = c .before .before .args .size in
@@ -34,4 +28,4 @@ returns c =
     ∙ ap₂ (λ (n : ℕ) (cells : List Cell). Fresh.started n 0 cells Fresh.freshConnectors 0) (c .before .cells-for .ensures .0) (filled size Fresh.freshCell)
 
 pub fresh-of-spec : {M : Type 1} → statement M
-fresh-of-spec = tie.close (tie.spec cells-for-requires started-requires returns)
+fresh-of-spec = tie.close (tie.spec (λ c κs. search needs) (λ c κs. search needs) returns)

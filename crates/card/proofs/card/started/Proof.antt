@@ -3,11 +3,8 @@ use borrow.Author.Needs.{needs}
 use Rattle.card.proofs.card.started.Statement.{statement}
 use Rattle.card.proofs.card.started.Tie as tie
 
-no-tallies-requires : tie.Need-no-tallies-requires
-no-tallies-requires c κs = search needs
-
 returns : tie.Need-returns
 returns c = rw (c .no-tallies .ensures)
 
 pub started-spec : {M : Type 1} → statement M
-started-spec = tie.close (tie.spec no-tallies-requires returns)
+started-spec = tie.close (tie.spec (λ c κs. search needs) returns)

@@ -7,66 +7,6 @@ use Rattle.card.proofs.change.apply.Tie as tie
 enum-told : tie.Need-enum-told
 enum-told c = search needs
 
-enum-known-change : tie.Need-enum-known-change
-enum-known-change c = search needs
-
-move-to-requires : tie.Need-move-to-requires
-move-to-requires c κs = search needs
-
-enum-known-change-2 : tie.Need-enum-known-change-2
-enum-known-change-2 c = search needs
-
-set-trigger-requires : tie.Need-set-trigger-requires
-set-trigger-requires c κs = search needs
-
-enum-told-2 : tie.Need-enum-told-2
-enum-told-2 c = search needs
-
-home-requires : tie.Need-home-requires
-home-requires c κs = search needs
-
-enum-known-change-3 : tie.Need-enum-known-change-3
-enum-known-change-3 c = search needs
-
-apply-preset-requires : tie.Need-apply-preset-requires
-apply-preset-requires c κs = search needs
-
-enum-known-change-4 : tie.Need-enum-known-change-4
-enum-known-change-4 c = search needs
-
-set-type-requires : tie.Need-set-type-requires
-set-type-requires c κs = search needs
-
-enum-known-change-5 : tie.Need-enum-known-change-5
-enum-known-change-5 c = search needs
-
-set-config-requires : tie.Need-set-config-requires
-set-config-requires c κs = search needs
-
-enum-known-change-6 : tie.Need-enum-known-change-6
-enum-known-change-6 c = search needs
-
-set-state-requires : tie.Need-set-state-requires
-set-state-requires c κs = search needs
-
-enum-known-change-7 : tie.Need-enum-known-change-7
-enum-known-change-7 c = search needs
-
-set-slots-requires : tie.Need-set-slots-requires
-set-slots-requires c κs = search needs
-
-enum-known-change-8 : tie.Need-enum-known-change-8
-enum-known-change-8 c = search needs
-
-set-connector-type-requires : tie.Need-set-connector-type-requires
-set-connector-type-requires c κs = search needs
-
-enum-known-change-9 : tie.Need-enum-known-change-9
-enum-known-change-9 c = search needs
-
-set-source-requires : tie.Need-set-source-requires
-set-source-requires c κs = search needs
-
 returns : tie.Need-returns
 unfolding changed
 returns c = rw (c .enum-told .given .1)
@@ -116,26 +56,26 @@ apply-spec =
     tie.close
     (tie.spec
     enum-told
-    enum-known-change
-    move-to-requires
-    enum-known-change-2
-    set-trigger-requires
-    enum-told-2
-    home-requires
-    enum-known-change-3
-    apply-preset-requires
-    enum-known-change-4
-    set-type-requires
-    enum-known-change-5
-    set-config-requires
-    enum-known-change-6
-    set-state-requires
-    enum-known-change-7
-    set-slots-requires
-    enum-known-change-8
-    set-connector-type-requires
-    enum-known-change-9
-    set-source-requires
+    (λ c. search needs)
+    (λ c κs. search needs)
+    (λ c. search needs)
+    (λ c κs. search needs)
+    (λ c. search needs)
+    (λ c κs. search needs)
+    (λ c. search needs)
+    (λ c κs. search needs)
+    (λ c. search needs)
+    (λ c κs. search needs)
+    (λ c. search needs)
+    (λ c κs. search needs)
+    (λ c. search needs)
+    (λ c κs. search needs)
+    (λ c. search needs)
+    (λ c κs. search needs)
+    (λ c. search needs)
+    (λ c κs. search needs)
+    (λ c. search needs)
+    (λ c κs. search needs)
     returns
     returns-2
     returns-3

@@ -5,21 +5,9 @@ use borrow.Author.Needs.{needs}
 use Rattle.card.proofs.chart.entry_in.Statement.{statement}
 use Rattle.card.proofs.chart.entry_in.Tie as tie
 
-cast-t4 : tie.Need-cast-t4
-cast-t4 c = search needs
-
-bit-requires : tie.Need-bit-requires
-bit-requires c κs = search needs
-
-bit-requires-2 : tie.Need-bit-requires-2
-bit-requires-2 c κs = search needs
-
-bit-requires-3 : tie.Need-bit-requires-3
-bit-requires-3 c κs = search needs
-
 returns : tie.Need-returns
 unfolding entryIn
 returns c = rw (c .before .before .bit .ensures, c .before .bit2 .ensures, c .bit3 .ensures)
 
 pub entry-in-spec : {M : Type 1} → statement M
-entry-in-spec = tie.close (tie.spec cast-t4 bit-requires bit-requires-2 bit-requires-3 returns)
+entry-in-spec = tie.close (tie.spec (λ c. search needs) (λ c κs. search needs) (λ c κs. search needs) (λ c κs. search needs) returns)

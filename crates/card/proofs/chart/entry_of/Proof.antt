@@ -10,18 +10,6 @@ use Rattle.card.proofs.ChartLaws.{entry-at, bases-for}
 use Rattle.card.proofs.chart.entry_of.Statement.{statement}
 use Rattle.card.proofs.chart.entry_of.Tie as tie
 
-mul-entry-in : tie.Need-mul-entry-in
-mul-entry-in c = search needs
-
-element-copy-out-entry-in : tie.Need-element-copy-out-entry-in
-element-copy-out-entry-in c = search needs
-
-entry-in-requires : tie.Need-entry-in-requires
-entry-in-requires c κs = search needs
-
-is-upper-requires : tie.Need-is-upper-requires
-is-upper-requires c κs = search needs
-
 returns : tie.Need-returns
 returns c =
     let e = c .before .before in
@@ -35,4 +23,4 @@ returns c =
 
 pub entry-of-spec : {M : Type 1} → statement M
 entry-of-spec =
-    tie.close (tie.spec mul-entry-in element-copy-out-entry-in entry-in-requires is-upper-requires returns)
+    tie.close (tie.spec (λ c. search needs) (λ c. search needs) (λ c κs. search needs) (λ c κs. search needs) returns)

@@ -4,15 +4,9 @@ use borrow.Author.Needs.{needs}
 use Rattle.card.proofs.connectors.connector_at.Statement.{statement}
 use Rattle.card.proofs.connectors.connector_at.Tie as tie
 
-kind-at-requires : tie.Need-kind-at-requires
-kind-at-requires c κs = search needs
-
-array-read-t8 : tie.Need-array-read-t8
-array-read-t8 c = search needs
-
 returns : tie.Need-returns
 unfolding sourceAt
 returns c = rw (c .kind-at .ensures)
 
 pub connector-at-spec : {M : Type 1} → statement M
-connector-at-spec = tie.close (tie.spec kind-at-requires array-read-t8 returns)
+connector-at-spec = tie.close (tie.spec (λ c κs. search needs) (λ c. search needs) returns)

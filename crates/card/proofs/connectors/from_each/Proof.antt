@@ -39,32 +39,11 @@ loop-holds : tie.Need-loop-holds Inv-loop μ-loop
 unfolding listed wordOf
 loop-holds c = (zero-le, refl, refl, refl)
 
-cast-c : tie.Need-cast-c Inv-loop μ-loop
-cast-c c = search needs
-
-mul-c : tie.Need-mul-c Inv-loop μ-loop
-mul-c c = search needs
-
-array-copy-out-c : tie.Need-array-copy-out-c Inv-loop μ-loop
-array-copy-out-c c = search needs
-
-cast-sources : tie.Need-cast-sources Inv-loop μ-loop
-cast-sources c = search needs
-
-array-write-sources : tie.Need-array-write-sources Inv-loop μ-loop
-array-write-sources c = search needs
-
 pushed-requires : tie.Need-pushed-requires Inv-loop μ-loop
 pushed-requires c κs = (search needs, built-fits _ _ _ (c .before .before .before .loop .inv .2))
 
 pushed-requires-2 : tie.Need-pushed-requires-2 Inv-loop μ-loop
 pushed-requires-2 c κs = (search needs, built-fits _ _ _ (c .before .before .before .before .before .loop .inv .3))
-
-add-k : tie.Need-add-k Inv-loop μ-loop
-add-k c = search needs
-
-loop-less : tie.Need-loop-less Inv-loop μ-loop
-loop-less c = search needs
 
 loop-again : tie.Need-loop-again Inv-loop μ-loop
 loop-again c =
@@ -108,15 +87,15 @@ from-each-spec =
     Inv-loop
     μ-loop
     loop-holds
-    cast-c
-    mul-c
-    array-copy-out-c
-    cast-sources
-    array-write-sources
+    (λ c. search needs)
+    (λ c. search needs)
+    (λ c. search needs)
+    (λ c. search needs)
+    (λ c. search needs)
     pushed-requires
     pushed-requires-2
-    add-k
-    loop-less
+    (λ c. search needs)
+    (λ c. search needs)
     loop-again
     cast-t17
     cast-t18

@@ -25,12 +25,6 @@ flipped w n k fits h =
     (λ j ne. bit-xor (withBit w k true) lone j
     ∙ ap₂ (λ (x y : Bool). not (Bool·beq x y)) (bit-with-other w k j true ne) (bit-with-other 0 k j true ne ∙ bit-zero j) ∙ flip-low (bitAt w j))
 
-cast-lone : tie.Need-cast-lone
-cast-lone c = search needs
-
-shl-lone : tie.Need-shl-lone
-shl-lone c = search needs
-
 returns : tie.Need-returns
 returns c =
     let a = c .before .args in
@@ -46,4 +40,4 @@ returns-2 c =
     ∙ flipped (a .w) connectorCount (a .k) (search needs) (search needs) ∙ ap (withBit (a .w) (a .k)) (sym (c .if1 .left))
 
 pub with-bit-spec : {M : Type 1} → statement M
-with-bit-spec = tie.close (tie.spec cast-lone shl-lone returns returns-2)
+with-bit-spec = tie.close (tie.spec (λ c. search needs) (λ c. search needs) returns returns-2)

@@ -5,12 +5,9 @@ use borrow.Author.Needs.{needs}
 use Rattle.card.proofs.connectors.with_source.Statement.{statement}
 use Rattle.card.proofs.connectors.with_source.Tie as tie
 
-array-write-sources : tie.Need-array-write-sources
-array-write-sources c = search needs
-
 returns : tie.Need-returns
 unfolding withSource
 returns c = refl
 
 pub with-source-spec : {M : Type 1} → statement M
-with-source-spec = tie.close (tie.spec array-write-sources returns)
+with-source-spec = tie.close (tie.spec (λ c. search needs) returns)

@@ -8,12 +8,6 @@ use borrow.Author.Needs.{needs}
 use Rattle.card.proofs.context.config_shown.Statement.{statement}
 use Rattle.card.proofs.context.config_shown.Tie as tie
 
-row-of-requires : tie.Need-row-of-requires
-row-of-requires c κs = search needs
-
-is-counted-requires : tie.Need-is-counted-requires
-is-counted-requires c κs = search needs
-
 returns : tie.Need-returns
 unfolding configShown
 returns c =
@@ -31,4 +25,4 @@ returns-2 c =
     rw other
 
 pub config-shown-spec : {M : Type 1} → statement M
-config-shown-spec = tie.close (tie.spec row-of-requires is-counted-requires returns returns-2)
+config-shown-spec = tie.close (tie.spec (λ c κs. search needs) (λ c κs. search needs) returns returns-2)

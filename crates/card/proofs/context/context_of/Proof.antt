@@ -3,15 +3,6 @@ use borrow.Author.Needs.{needs}
 use Rattle.card.proofs.context.context_of.Statement.{statement}
 use Rattle.card.proofs.context.context_of.Tie as tie
 
-current-cell-requires : tie.Need-current-cell-requires
-current-cell-requires c κs = search needs
-
-current-connector-requires : tie.Need-current-connector-requires
-current-connector-requires c κs = search needs
-
-at-cell-requires : tie.Need-at-cell-requires
-at-cell-requires c κs = search needs
-
 returns : tie.Need-returns
 returns c =
     let connector = c .before .before in
@@ -19,4 +10,4 @@ returns c =
 
 pub context-of-spec : {M : Type 1} → statement M
 context-of-spec =
-    tie.close (tie.spec current-cell-requires current-connector-requires at-cell-requires returns)
+    tie.close (tie.spec (λ c κs. search needs) (λ c κs. search needs) (λ c κs. search needs) returns)

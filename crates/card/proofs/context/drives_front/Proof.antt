@@ -3,11 +3,8 @@ use borrow.Author.Needs.{needs}
 use Rattle.card.proofs.context.drives_front.Statement.{statement}
 use Rattle.card.proofs.context.drives_front.Tie as tie
 
-front-driven-requires : tie.Need-front-driven-requires
-front-driven-requires c κs = search needs
-
 returns : tie.Need-returns
 returns c = rw (c .front-driven .ensures)
 
 pub drives-front-spec : {M : Type 1} → statement M
-drives-front-spec = tie.close (tie.spec front-driven-requires returns)
+drives-front-spec = tie.close (tie.spec (λ c κs. search needs) returns)

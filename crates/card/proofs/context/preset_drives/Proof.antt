@@ -3,11 +3,8 @@ use borrow.Author.Needs.{needs}
 use Rattle.card.proofs.context.preset_drives.Statement.{statement}
 use Rattle.card.proofs.context.preset_drives.Tie as tie
 
-sets-front-requires : tie.Need-sets-front-requires
-sets-front-requires c κs = search needs
-
 returns : tie.Need-returns
 returns c = rw (c .before .sets-front .ensures)
 
 pub preset-drives-spec : {M : Type 1} → statement M
-preset-drives-spec = tie.close (tie.spec sets-front-requires returns)
+preset-drives-spec = tie.close (tie.spec (λ c κs. search needs) returns)

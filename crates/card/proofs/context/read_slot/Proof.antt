@@ -4,12 +4,6 @@ use borrow.Author.Needs.{needs}
 use Rattle.card.proofs.context.read_slot.Statement.{statement}
 use Rattle.card.proofs.context.read_slot.Tie as tie
 
-array-read-result : tie.Need-array-read-result
-array-read-result c = search needs
-
-cast-result : tie.Need-cast-result
-cast-result c = search needs
-
 returns : tie.Need-returns
 returns c = rw (lt-ltb (c .before .before .before .args .i) 4 (c .if1 .taken))
 
@@ -17,4 +11,4 @@ returns-2 : tie.Need-returns-2
 returns-2 c = rw (le-ltb (c .before .before .before .args .i) 4 (c .if1 .left))
 
 pub read-slot-spec : {M : Type 1} → statement M
-read-slot-spec = tie.close (tie.spec array-read-result cast-result returns returns-2)
+read-slot-spec = tie.close (tie.spec (λ c. search needs) (λ c. search needs) returns returns-2)

@@ -12,12 +12,6 @@ use Rattle.card.proofs.edits.all_edited.Tie as tie
 one-shifted : (n : ℕ) → n ≤ cellRoom → 1 * 2 ^ n % 2 ^ 64 ≡ 2 ^ n
 one-shifted n h = let l : n < 64 = omega arith in rw one-mul (mod-eq-of-lt (pow-lt l))
 
-cast-result : tie.Need-cast-result
-cast-result c = search needs
-
-shl-result : tie.Need-shl-result
-shl-result c = search needs
-
 sub-result : tie.Need-sub-result
 sub-result c = rw (one-shifted (c .args .n) (search needs)) (pow-pos (c .args .n))
 
@@ -25,4 +19,4 @@ returns : tie.Need-returns
 returns c = ap (λ (m : ℕ). m - 1) (one-shifted (c .args .n) (search needs))
 
 pub all-edited-spec : {M : Type 1} → statement M
-all-edited-spec = tie.close (tie.spec cast-result shl-result sub-result returns)
+all-edited-spec = tie.close (tie.spec (λ c. search needs) (λ c. search needs) sub-result returns)

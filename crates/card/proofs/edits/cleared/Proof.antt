@@ -31,27 +31,6 @@ abbrev μ-loop : tie.MeasureT-loop
 loop-holds : tie.Need-loop-holds Inv-loop μ-loop
 loop-holds c = (zero-le, refl)
 
-mul-cleared-cell : tie.Need-mul-cleared-cell Inv-loop μ-loop
-mul-cleared-cell c = search needs
-
-array-copy-out-cleared-cell : tie.Need-array-copy-out-cleared-cell Inv-loop μ-loop
-array-copy-out-cleared-cell c = search needs
-
-cleared-cell-requires : tie.Need-cleared-cell-requires Inv-loop μ-loop
-cleared-cell-requires c κs = search needs
-
-mul-next : tie.Need-mul-next Inv-loop μ-loop
-mul-next c = search needs
-
-array-set-from-next : tie.Need-array-set-from-next Inv-loop μ-loop
-array-set-from-next c = search needs
-
-add-i : tie.Need-add-i Inv-loop μ-loop
-add-i c = search needs
-
-loop-less : tie.Need-loop-less Inv-loop μ-loop
-loop-less c = search needs
-
 loop-again : tie.Need-loop-again Inv-loop μ-loop
 loop-again c =
     let a = c .before .before .before .before .args in
@@ -71,12 +50,12 @@ cleared-spec =
     Inv-loop
     μ-loop
     loop-holds
-    mul-cleared-cell
-    array-copy-out-cleared-cell
-    cleared-cell-requires
-    mul-next
-    array-set-from-next
-    add-i
-    loop-less
+    (λ c. search needs)
+    (λ c. search needs)
+    (λ c κs. search needs)
+    (λ c. search needs)
+    (λ c. search needs)
+    (λ c. search needs)
+    (λ c. search needs)
     loop-again
     returns)

@@ -8,20 +8,8 @@ use borrow.Author.Needs.{needs}
 use Rattle.card.proofs.edits.current_cell.Statement.{statement}
 use Rattle.card.proofs.edits.current_cell.Tie as tie
 
-cast-is-cell : tie.Need-cast-is-cell
-cast-is-cell c = search needs
-
-is-cell-requires : tie.Need-is-cell-requires
-is-cell-requires c κs = search needs
-
 sub-at : tie.Need-sub-at
 sub-at c = among-bounds firstCell _ _ (sym (c .before .is-cell .ensures) ∙ c .if1 .taken) .0
-
-cast-at : tie.Need-cast-at
-cast-at c = search needs
-
-mul-result : tie.Need-mul-result
-mul-result c = search needs
 
 element-copy-out-result : tie.Need-element-copy-out-result
 element-copy-out-result c =
@@ -38,4 +26,4 @@ returns-2 c = rw (sym (c .before .is-cell .ensures) ∙ c .if1 .left)
 
 pub current-cell-spec : {M : Type 1} → statement M
 current-cell-spec =
-    tie.close (tie.spec cast-is-cell is-cell-requires sub-at cast-at mul-result element-copy-out-result returns returns-2)
+    tie.close (tie.spec (λ c. search needs) (λ c κs. search needs) sub-at (λ c. search needs) (λ c. search needs) element-copy-out-result returns returns-2)

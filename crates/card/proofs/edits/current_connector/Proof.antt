@@ -8,17 +8,8 @@ use borrow.Author.Needs.{needs}
 use Rattle.card.proofs.edits.current_connector.Statement.{statement}
 use Rattle.card.proofs.edits.current_connector.Tie as tie
 
-cast-is-connector : tie.Need-cast-is-connector
-cast-is-connector c = search needs
-
-is-connector-requires : tie.Need-is-connector-requires
-is-connector-requires c κs = search needs
-
 sub-connector-at : tie.Need-sub-connector-at
 sub-connector-at c = among-bounds firstConnector connectorCount _ (sym (c .before .before .is-connector .ensures) ∙ c .before .if1 .taken) .0
-
-cast-connector-at : tie.Need-cast-connector-at
-cast-connector-at c = search needs
 
 connector-at-requires : tie.Need-connector-at-requires
 connector-at-requires c κs =
@@ -37,10 +28,10 @@ pub current-connector-spec : {M : Type 1} → statement M
 current-connector-spec =
     tie.close
     (tie.spec
-    cast-is-connector
-    is-connector-requires
+    (λ c. search needs)
+    (λ c κs. search needs)
     sub-connector-at
-    cast-connector-at
+    (λ c. search needs)
     connector-at-requires
     returns
     returns-2)

@@ -8,23 +8,8 @@ use borrow.Author.Needs.{needs}
 use Rattle.card.proofs.edits.put_cell.Statement.{statement}
 use Rattle.card.proofs.edits.put_cell.Tie as tie
 
-cast-is-cell : tie.Need-cast-is-cell
-cast-is-cell c = search needs
-
-is-cell-requires : tie.Need-is-cell-requires
-is-cell-requires c κs = search needs
-
 sub-i : tie.Need-sub-i
 sub-i c = among-bounds firstCell _ _ (sym (c .before .is-cell .ensures) ∙ c .if1 .taken) .0
-
-cast-i : tie.Need-cast-i
-cast-i c = search needs
-
-cast-at : tie.Need-cast-at
-cast-at c = search needs
-
-mul-cell : tie.Need-mul-cell
-mul-cell c = search needs
 
 element-set-from-cell : tie.Need-element-set-from-cell
 element-set-from-cell c =
@@ -48,12 +33,12 @@ pub put-cell-spec : {M : Type 1} → statement M
 put-cell-spec =
     tie.close
     (tie.spec
-    cast-is-cell
-    is-cell-requires
+    (λ c. search needs)
+    (λ c κs. search needs)
     sub-i
-    cast-i
-    cast-at
-    mul-cell
+    (λ c. search needs)
+    (λ c. search needs)
+    (λ c. search needs)
     element-set-from-cell
     with-set-requires
     returns

@@ -8,17 +8,8 @@ use borrow.Author.Needs.{needs}
 use Rattle.card.proofs.edits.set_connector_type.Statement.{statement}
 use Rattle.card.proofs.edits.set_connector_type.Tie as tie
 
-cast-is-connector : tie.Need-cast-is-connector
-cast-is-connector c = search needs
-
-is-connector-requires : tie.Need-is-connector-requires
-is-connector-requires c κs = search needs
-
 sub-with-kind : tie.Need-sub-with-kind
 sub-with-kind c = among-bounds firstConnector connectorCount _ (sym (c .before .before .is-connector .ensures) ∙ c .before .if1 .taken) .0
-
-cast-with-kind : tie.Need-cast-with-kind
-cast-with-kind c = search needs
 
 with-kind-requires : tie.Need-with-kind-requires
 with-kind-requires c κs =
@@ -37,10 +28,10 @@ pub set-connector-type-spec : {M : Type 1} → statement M
 set-connector-type-spec =
     tie.close
     (tie.spec
-    cast-is-connector
-    is-connector-requires
+    (λ c. search needs)
+    (λ c κs. search needs)
     sub-with-kind
-    cast-with-kind
+    (λ c. search needs)
     with-kind-requires
     returns
     returns-2)

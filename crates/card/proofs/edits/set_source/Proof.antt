@@ -8,17 +8,8 @@ use borrow.Author.Needs.{needs}
 use Rattle.card.proofs.edits.set_source.Statement.{statement}
 use Rattle.card.proofs.edits.set_source.Tie as tie
 
-cast-is-connector : tie.Need-cast-is-connector
-cast-is-connector c = search needs
-
-is-connector-requires : tie.Need-is-connector-requires
-is-connector-requires c κs = search needs
-
 sub-with-source : tie.Need-sub-with-source
 sub-with-source c = among-bounds firstConnector connectorCount _ (sym (c .before .before .is-connector .ensures) ∙ c .before .if1 .taken) .0
-
-cast-with-source : tie.Need-cast-with-source
-cast-with-source c = search needs
 
 with-source-requires : tie.Need-with-source-requires
 with-source-requires c κs =
@@ -37,10 +28,10 @@ pub set-source-spec : {M : Type 1} → statement M
 set-source-spec =
     tie.close
     (tie.spec
-    cast-is-connector
-    is-connector-requires
+    (λ c. search needs)
+    (λ c κs. search needs)
     sub-with-source
-    cast-with-source
+    (λ c. search needs)
     with-source-requires
     returns
     returns-2)

@@ -5,9 +5,6 @@ use borrow.Author.Needs.{needs}
 use Rattle.card.proofs.edits.set_trigger.Statement.{statement}
 use Rattle.card.proofs.edits.set_trigger.Tie as tie
 
-with-kind-requires : tie.Need-with-kind-requires
-with-kind-requires c κs = search needs
-
 returns : tie.Need-returns
 unfolding setTrigger
 returns c = rw (eq-eqb _ _ (c .before .before .if1 .taken), c .with-kind .ensures)
@@ -17,4 +14,4 @@ unfolding setTrigger
 returns-2 c = rw (ne-eqb _ _ (c .if1 .left))
 
 pub set-trigger-spec : {M : Type 1} → statement M
-set-trigger-spec = tie.close (tie.spec with-kind-requires returns returns-2)
+set-trigger-spec = tie.close (tie.spec (λ c κs. search needs) returns returns-2)

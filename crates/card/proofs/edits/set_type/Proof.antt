@@ -4,15 +4,9 @@ use borrow.Author.Needs.{needs}
 use Rattle.card.proofs.edits.set_type.Statement.{statement}
 use Rattle.card.proofs.edits.set_type.Tie as tie
 
-typed-requires : tie.Need-typed-requires
-typed-requires c κs = search needs
-
-put-cell-requires : tie.Need-put-cell-requires
-put-cell-requires c κs = search needs
-
 returns : tie.Need-returns
 unfolding setType
 returns c = rw (c .put-cell .ensures, c .before .typed .ensures)
 
 pub set-type-spec : {M : Type 1} → statement M
-set-type-spec = tie.close (tie.spec typed-requires put-cell-requires returns)
+set-type-spec = tie.close (tie.spec (λ c κs. search needs) (λ c κs. search needs) returns)

@@ -7,24 +7,6 @@ use Rattle.card.proofs.edits.stated_as.Tie as tie
 enum-told : tie.Need-enum-told
 enum-told c = search needs
 
-enum-told-2 : tie.Need-enum-told-2
-enum-told-2 c = search needs
-
-with-bit-requires : tie.Need-with-bit-requires
-with-bit-requires c κs = search needs
-
-enum-told-3 : tie.Need-enum-told-3
-enum-told-3 c = search needs
-
-with-count-requires : tie.Need-with-count-requires
-with-count-requires c κs = search needs
-
-enum-told-4 : tie.Need-enum-told-4
-enum-told-4 c = search needs
-
-recounted-requires : tie.Need-recounted-requires
-recounted-requires c κs = search needs
-
 returns : tie.Need-returns
 unfolding statedAs
 returns c = rw (c .enum-told .given .1)
@@ -46,12 +28,12 @@ stated-as-spec =
     tie.close
     (tie.spec
     enum-told
-    enum-told-2
-    with-bit-requires
-    enum-told-3
-    with-count-requires
-    enum-told-4
-    recounted-requires
+    (λ c. search needs)
+    (λ c κs. search needs)
+    (λ c. search needs)
+    (λ c κs. search needs)
+    (λ c. search needs)
+    (λ c κs. search needs)
     returns
     returns-2
     returns-3

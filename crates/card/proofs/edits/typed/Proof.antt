@@ -4,21 +4,6 @@ use borrow.Author.Needs.{needs}
 use Rattle.card.proofs.edits.typed.Statement.{statement}
 use Rattle.card.proofs.edits.typed.Tie as tie
 
-row-of-requires : tie.Need-row-of-requires
-row-of-requires c κs = search needs
-
-blank-slot-requires : tie.Need-blank-slot-requires
-blank-slot-requires c κs = search needs
-
-blank-slot-requires-2 : tie.Need-blank-slot-requires-2
-blank-slot-requires-2 c κs = search needs
-
-blank-slot-requires-3 : tie.Need-blank-slot-requires-3
-blank-slot-requires-3 c κs = search needs
-
-blank-slot-requires-4 : tie.Need-blank-slot-requires-4
-blank-slot-requires-4 c κs = search needs
-
 returns : tie.Need-returns
 unfolding typed
 returns c =
@@ -34,9 +19,9 @@ pub typed-spec : {M : Type 1} → statement M
 typed-spec =
     tie.close
     (tie.spec
-    row-of-requires
-    blank-slot-requires
-    blank-slot-requires-2
-    blank-slot-requires-3
-    blank-slot-requires-4
+    (λ c κs. search needs)
+    (λ c κs. search needs)
+    (λ c κs. search needs)
+    (λ c κs. search needs)
+    (λ c κs. search needs)
     returns)

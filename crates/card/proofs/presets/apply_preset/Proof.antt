@@ -24,33 +24,6 @@ use Rattle.card.proofs.PresetRows.{has-cell}
 use Rattle.card.proofs.presets.apply_preset.Statement.{statement}
 use Rattle.card.proofs.presets.apply_preset.Tie as tie
 
-cell-row-requires : tie.Need-cell-row-requires
-cell-row-requires c κs = search needs
-
-cells-for-requires : tie.Need-cells-for-requires
-cells-for-requires c κs = search needs
-
-cast-n : tie.Need-cast-n
-cast-n c = search needs
-
-cells-under-requires : tie.Need-cells-under-requires
-cells-under-requires c κs = search needs
-
-source-row-requires : tie.Need-source-row-requires
-source-row-requires c κs = search needs
-
-each-of-requires : tie.Need-each-of-requires
-each-of-requires c κs = search needs
-
-connectors-under-requires : tie.Need-connectors-under-requires
-connectors-under-requires c κs = search needs
-
-from-each-requires : tie.Need-from-each-requires
-from-each-requires c κs = search needs
-
-edited-under-requires : tie.Need-edited-under-requires
-edited-under-requires c κs = search needs
-
 returns : tie.Need-returns
 unfolding preset
 returns c =
@@ -85,13 +58,13 @@ pub apply-preset-spec : {M : Type 1} → statement M
 apply-preset-spec =
     tie.close
     (tie.spec
-    cell-row-requires
-    cells-for-requires
-    cast-n
-    cells-under-requires
-    source-row-requires
-    each-of-requires
-    connectors-under-requires
-    from-each-requires
-    edited-under-requires
+    (λ c κs. search needs)
+    (λ c κs. search needs)
+    (λ c. search needs)
+    (λ c κs. search needs)
+    (λ c κs. search needs)
+    (λ c κs. search needs)
+    (λ c κs. search needs)
+    (λ c κs. search needs)
+    (λ c κs. search needs)
     returns)

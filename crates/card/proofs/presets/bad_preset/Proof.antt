@@ -10,18 +10,9 @@ use Rattle.card.proofs.PresetRows.{listed-agree, past-offered, small-of
 use Rattle.card.proofs.presets.bad_preset.Statement.{statement}
 use Rattle.card.proofs.presets.bad_preset.Tie as tie
 
-is-large-requires : tie.Need-is-large-requires
-is-large-requires c κs = search needs
-
 returns : tie.Need-returns
 unfolding offered
 returns c = rw (sym (c .before .is-large .ensures) ∙ c .if1 .taken)
-
-cast-bit : tie.Need-cast-bit
-cast-bit c = search needs
-
-bit-requires : tie.Need-bit-requires
-bit-requires c κs = search needs
 
 returns-2 : tie.Need-returns-2
 unfolding bitAt listed presetTable settingOf offered
@@ -38,4 +29,4 @@ returns-3 c =
     ap not (sym (small-offered (cellsFor (a .size)) (a .v) (sym (i .before .is-large .ensures) ∙ i .if1 .left) ∙ past-offered (a .v) (search needs)))
 
 pub bad-preset-spec : {M : Type 1} → statement M
-bad-preset-spec = tie.close (tie.spec is-large-requires returns cast-bit bit-requires returns-2 returns-3)
+bad-preset-spec = tie.close (tie.spec (λ c κs. search needs) returns (λ c. search needs) (λ c κs. search needs) returns-2 returns-3)

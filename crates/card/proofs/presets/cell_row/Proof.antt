@@ -10,30 +10,6 @@ use Rattle.card.proofs.PresetRows.{row-at, past-cell, zero-row}
 use Rattle.card.proofs.presets.cell_row.Statement.{statement}
 use Rattle.card.proofs.presets.cell_row.Tie as tie
 
-cell-rows-requires : tie.Need-cell-rows-requires
-cell-rows-requires c κs = search needs
-
-mul-t7 : tie.Need-mul-t7
-mul-t7 c = search needs
-
-mul-t8 : tie.Need-mul-t8
-mul-t8 c = search needs
-
-array-read-t11 : tie.Need-array-read-t11
-array-read-t11 c = search needs
-
-mul-t12 : tie.Need-mul-t12
-mul-t12 c = search needs
-
-add-t13 : tie.Need-add-t13
-add-t13 c = search needs
-
-mul-t14 : tie.Need-mul-t14
-mul-t14 c = search needs
-
-array-read-t17 : tie.Need-array-read-t17
-array-read-t17 c = search needs
-
 returns : tie.Need-returns
 unfolding CellRows
 returns c =
@@ -48,13 +24,13 @@ pub cell-row-spec : {M : Type 1} → statement M
 cell-row-spec =
     tie.close
     (tie.spec
-    cell-rows-requires
-    mul-t7
-    mul-t8
-    array-read-t11
-    mul-t12
-    add-t13
-    mul-t14
-    array-read-t17
+    (λ c κs. search needs)
+    (λ c. search needs)
+    (λ c. search needs)
+    (λ c. search needs)
+    (λ c. search needs)
+    (λ c. search needs)
+    (λ c. search needs)
+    (λ c. search needs)
     returns
     returns-2)

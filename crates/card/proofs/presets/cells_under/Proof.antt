@@ -28,30 +28,6 @@ loop-holds : tie.Need-loop-holds Inv-loop μ-loop
 unfolding listed
 loop-holds c = (zero-le, refl)
 
-cast-at : tie.Need-cast-at Inv-loop μ-loop
-cast-at c = search needs
-
-mul-cell-under : tie.Need-mul-cell-under Inv-loop μ-loop
-mul-cell-under c = search needs
-
-array-copy-out-cell-under : tie.Need-array-copy-out-cell-under Inv-loop μ-loop
-array-copy-out-cell-under c = search needs
-
-cell-under-requires : tie.Need-cell-under-requires Inv-loop μ-loop
-cell-under-requires c κs = search needs
-
-mul-next : tie.Need-mul-next Inv-loop μ-loop
-mul-next c = search needs
-
-array-set-from-next : tie.Need-array-set-from-next Inv-loop μ-loop
-array-set-from-next c = search needs
-
-add-i : tie.Need-add-i Inv-loop μ-loop
-add-i c = search needs
-
-loop-less : tie.Need-loop-less Inv-loop μ-loop
-loop-less c = search needs
-
 loop-again : tie.Need-loop-again Inv-loop μ-loop
 loop-again c =
     let a = c .before .before .before .before .args in
@@ -73,13 +49,13 @@ cells-under-spec =
     Inv-loop
     μ-loop
     loop-holds
-    cast-at
-    mul-cell-under
-    array-copy-out-cell-under
-    cell-under-requires
-    mul-next
-    array-set-from-next
-    add-i
-    loop-less
+    (λ c. search needs)
+    (λ c. search needs)
+    (λ c. search needs)
+    (λ c κs. search needs)
+    (λ c. search needs)
+    (λ c. search needs)
+    (λ c. search needs)
+    (λ c. search needs)
     loop-again
     returns)

@@ -29,30 +29,6 @@ loop-holds : tie.Need-loop-holds Inv-loop μ-loop
 unfolding listed
 loop-holds c = (zero-le, refl)
 
-cast-at : tie.Need-cast-at Inv-loop μ-loop
-cast-at c = search needs
-
-mul-connector-under : tie.Need-mul-connector-under Inv-loop μ-loop
-mul-connector-under c = search needs
-
-array-copy-out-connector-under : tie.Need-array-copy-out-connector-under Inv-loop μ-loop
-array-copy-out-connector-under c = search needs
-
-connector-under-requires : tie.Need-connector-under-requires Inv-loop μ-loop
-connector-under-requires c κs = search needs
-
-mul-next : tie.Need-mul-next Inv-loop μ-loop
-mul-next c = search needs
-
-array-set-from-next : tie.Need-array-set-from-next Inv-loop μ-loop
-array-set-from-next c = search needs
-
-add-k : tie.Need-add-k Inv-loop μ-loop
-add-k c = search needs
-
-loop-less : tie.Need-loop-less Inv-loop μ-loop
-loop-less c = search needs
-
 loop-again : tie.Need-loop-again Inv-loop μ-loop
 loop-again c =
     let a = c .before .before .before .before .args in
@@ -75,13 +51,13 @@ connectors-under-spec =
     Inv-loop
     μ-loop
     loop-holds
-    cast-at
-    mul-connector-under
-    array-copy-out-connector-under
-    connector-under-requires
-    mul-next
-    array-set-from-next
-    add-k
-    loop-less
+    (λ c. search needs)
+    (λ c. search needs)
+    (λ c. search needs)
+    (λ c κs. search needs)
+    (λ c. search needs)
+    (λ c. search needs)
+    (λ c. search needs)
+    (λ c. search needs)
     loop-again
     returns)

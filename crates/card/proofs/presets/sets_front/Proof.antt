@@ -8,12 +8,6 @@ use Rattle.card.proofs.PresetRows.{has-source}
 use Rattle.card.proofs.presets.sets_front.Statement.{statement}
 use Rattle.card.proofs.presets.sets_front.Tie as tie
 
-source-row-requires : tie.Need-source-row-requires
-source-row-requires c κs = search needs
-
-bit-requires : tie.Need-bit-requires
-bit-requires c κs = search needs
-
 returns : tie.Need-returns
 unfolding setsFront
 returns c =
@@ -21,4 +15,4 @@ returns c =
     c .bit .ensures ∙ sym (has-source (row .result) 0) ∙ ap (λ (o : Option ℕ). has o) (row .ensures 0 (search needs))
 
 pub sets-front-spec : {M : Type 1} → statement M
-sets-front-spec = tie.close (tie.spec source-row-requires bit-requires returns)
+sets-front-spec = tie.close (tie.spec (λ c κs. search needs) (λ c κs. search needs) returns)

@@ -11,15 +11,6 @@ use Rattle.card.proofs.PresetRows.{row-at, past-source}
 use Rattle.card.proofs.presets.small_row.Statement.{statement}
 use Rattle.card.proofs.presets.small_row.Tie as tie
 
-source-rows-requires : tie.Need-source-rows-requires
-source-rows-requires c κs = search needs
-
-mul-result : tie.Need-mul-result
-mul-result c = search needs
-
-array-read-result : tie.Need-array-read-result
-array-read-result c = search needs
-
 returns : tie.Need-returns
 unfolding SourceRows
 returns c =
@@ -32,4 +23,4 @@ returns-2 c k h = rw (bit-zero (32 + k)) (sym (past-source (c .before .before .a
 
 pub small-row-spec : {M : Type 1} → statement M
 small-row-spec =
-    tie.close (tie.spec source-rows-requires mul-result array-read-result returns returns-2)
+    tie.close (tie.spec (λ c κs. search needs) (λ c. search needs) (λ c. search needs) returns returns-2)

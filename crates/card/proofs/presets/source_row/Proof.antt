@@ -8,12 +8,6 @@ use Rattle.card.proofs.PresetRows.{listed-agree, small-source, large-so
 use Rattle.card.proofs.presets.source_row.Statement.{statement}
 use Rattle.card.proofs.presets.source_row.Tie as tie
 
-is-large-requires : tie.Need-is-large-requires
-is-large-requires c κs = search needs
-
-large-row-requires : tie.Need-large-row-requires
-large-row-requires c κs = search needs
-
 returns : tie.Need-returns
 unfolding LargeRow
 returns c k h =
@@ -22,9 +16,6 @@ returns c k h =
     listed-agree (sourceUnder (c .large-row .result)) (presetSource cellRoom largePreset) connectorCount k (c .large-row .ensures) h
     ∙ sym (large-source (cellsFor (a .size)) (a .v) k (sym (i .before .is-large .ensures) ∙ i .if1 .taken))
 
-small-row-requires : tie.Need-small-row-requires
-small-row-requires c κs = search needs
-
 returns-2 : tie.Need-returns-2
 returns-2 c k h =
     let i = c .before in
@@ -32,4 +23,4 @@ returns-2 c k h =
     c .small-row .ensures k h ∙ sym (small-source (cellsFor (a .size)) (a .v) k (sym (i .before .is-large .ensures) ∙ i .if1 .left))
 
 pub source-row-spec : {M : Type 1} → statement M
-source-row-spec = tie.close (tie.spec is-large-requires large-row-requires returns small-row-requires returns-2)
+source-row-spec = tie.close (tie.spec (λ c κs. search needs) (λ c κs. search needs) returns (λ c κs. search needs) returns-2)

@@ -7,9 +7,6 @@ use Rattle.card.specs.Tally.{standstill}
 use Rattle.card.proofs.tallies.counted.Statement.{statement}
 use Rattle.card.proofs.tallies.counted.Tie as tie
 
-add-t4 : tie.Need-add-t4
-add-t4 c = search needs
-
 returns : tie.Need-returns
 unfolding Tally.counted
 returns c = rw (lt-ltb _ standstill (c .before .if1 .taken))
@@ -19,4 +16,4 @@ unfolding Tally.counted
 returns-2 c = rw (le-ltb (c .before .before .args .v .0) standstill (omega (arith, c .if1 .left)))
 
 pub counted-spec : {M : Type 1} → statement M
-counted-spec = tie.close (tie.spec add-t4 returns returns-2)
+counted-spec = tie.close (tie.spec (λ c. search needs) returns returns-2)

@@ -6,9 +6,6 @@ use Rattle.card.specs.Tally.{standstill}
 use Rattle.card.proofs.tallies.counting.Statement.{statement}
 use Rattle.card.proofs.tallies.counting.Tie as tie
 
-add-t5 : tie.Need-add-t5
-add-t5 c = search needs
-
 returns : tie.Need-returns
 returns c =
     let below = lt-ltb _ standstill (c .before .if1 .taken) in
@@ -20,4 +17,4 @@ returns-2 c =
     (rw above, (rw above, omega arith))
 
 pub counting-spec : {M : Type 1} → statement M
-counting-spec = tie.close (tie.spec add-t5 returns returns-2)
+counting-spec = tie.close (tie.spec (λ c. search needs) returns returns-2)

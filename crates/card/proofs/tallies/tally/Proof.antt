@@ -35,51 +35,18 @@ here c =
     let at = c .before .before in
     next-within _ _ (fits at) (room at) _ _ _ _ (at .loop .inv .0) (c .lowest .ensures .0)
 
-counting-requires : tie.Need-counting-requires Inv-loop μ-loop
-counting-requires c κs = search needs
-
 loop-holds : tie.Need-loop-holds Inv-loop μ-loop
 unfolding listed
 loop-holds c = (record { within = zero-le; rest = sym (div-one _); so-far = refl }, refl)
 
-lowest-requires : tie.Need-lowest-requires Inv-loop μ-loop
-lowest-requires c κs = search needs
-
-add-at : tie.Need-add-at Inv-loop μ-loop
-add-at c = search needs
-
-cast-at : tie.Need-cast-at Inv-loop μ-loop
-cast-at c = search needs
-
-mul-counted : tie.Need-mul-counted Inv-loop μ-loop
-mul-counted c = search needs
-
 element-copy-out-counted : tie.Need-element-copy-out-counted Inv-loop μ-loop
 element-copy-out-counted c = search (needs, here c)
-
-counted-requires : tie.Need-counted-requires Inv-loop μ-loop
-counted-requires c κs = search needs
-
-mul-v : tie.Need-mul-v Inv-loop μ-loop
-mul-v c = search needs
 
 element-set-from-v : tie.Need-element-set-from-v Inv-loop μ-loop
 element-set-from-v c = search (needs, here (c .before .before))
 
-add-left : tie.Need-add-left Inv-loop μ-loop
-add-left c = search needs
-
-cast-left : tie.Need-cast-left Inv-loop μ-loop
-cast-left c = search needs
-
 shr-left : tie.Need-shr-left Inv-loop μ-loop
 shr-left c = search (needs, here (c .before .before))
-
-add-i : tie.Need-add-i Inv-loop μ-loop
-add-i c = search needs
-
-add-i-2 : tie.Need-add-i-2 Inv-loop μ-loop
-add-i-2 c = search needs
 
 loop-less : tie.Need-loop-less Inv-loop μ-loop
 loop-less c = search (needs, here (c .before .before))
@@ -108,21 +75,21 @@ tally-spec =
     (tie.spec
     Inv-loop
     μ-loop
-    counting-requires
+    (λ c κs. search needs)
     loop-holds
-    lowest-requires
-    add-at
-    cast-at
-    mul-counted
+    (λ c κs. search needs)
+    (λ c. search needs)
+    (λ c. search needs)
+    (λ c. search needs)
     element-copy-out-counted
-    counted-requires
-    mul-v
+    (λ c κs. search needs)
+    (λ c. search needs)
     element-set-from-v
-    add-left
-    cast-left
+    (λ c. search needs)
+    (λ c. search needs)
     shr-left
-    add-i
-    add-i-2
+    (λ c. search needs)
+    (λ c. search needs)
     loop-less
     loop-again
     returns)

@@ -4,14 +4,8 @@ use borrow.Author.Needs.{needs}
 use Rattle.card.proofs.valid.bad_address.Statement.{statement}
 use Rattle.card.proofs.valid.bad_address.Tie as tie
 
-chart-requires : tie.Need-chart-requires
-chart-requires c κs = search needs
-
-refused-requires : tie.Need-refused-requires
-refused-requires c κs = search needs
-
 returns : tie.Need-returns
 returns c = c .refused .ensures
 
 pub bad-address-spec : {M : Type 1} → statement M
-bad-address-spec = tie.close (tie.spec chart-requires refused-requires returns)
+bad-address-spec = tie.close (tie.spec (λ c κs. search needs) (λ c κs. search needs) returns)

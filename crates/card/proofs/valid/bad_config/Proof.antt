@@ -4,15 +4,9 @@ use Rattle.card.specs.Valid.{badConfig}
 use Rattle.card.proofs.valid.bad_config.Statement.{statement}
 use Rattle.card.proofs.valid.bad_config.Tie as tie
 
-row-of-requires : tie.Need-row-of-requires
-row-of-requires c κs = search needs
-
-cast-result : tie.Need-cast-result
-cast-result c = search needs
-
 returns : tie.Need-returns
 unfolding badConfig
 returns c = rw (c .before .before .row-of .ensures)
 
 pub bad-config-spec : {M : Type 1} → statement M
-bad-config-spec = tie.close (tie.spec row-of-requires cast-result returns)
+bad-config-spec = tie.close (tie.spec (λ c κs. search needs) (λ c. search needs) returns)

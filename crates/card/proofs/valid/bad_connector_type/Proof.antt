@@ -5,12 +5,9 @@ use borrow.Author.Needs.{needs}
 use Rattle.card.proofs.valid.bad_connector_type.Statement.{statement}
 use Rattle.card.proofs.valid.bad_connector_type.Tie as tie
 
-cast-result : tie.Need-cast-result
-cast-result c = search needs
-
 returns : tie.Need-returns
 unfolding badConnectorType
 returns c = refl
 
 pub bad-connector-type-spec : {M : Type 1} → statement M
-bad-connector-type-spec = tie.close (tie.spec cast-result returns)
+bad-connector-type-spec = tie.close (tie.spec (λ c. search needs) returns)

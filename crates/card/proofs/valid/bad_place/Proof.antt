@@ -4,15 +4,9 @@ use Rattle.card.specs.Valid.{badPlace}
 use Rattle.card.proofs.valid.bad_place.Statement.{statement}
 use Rattle.card.proofs.valid.bad_place.Tie as tie
 
-is-cell-requires : tie.Need-is-cell-requires
-is-cell-requires c κs = search needs
-
-is-connector-requires : tie.Need-is-connector-requires
-is-connector-requires c κs = search needs
-
 returns : tie.Need-returns
 unfolding badPlace
 returns c = rw (c .before .is-cell .ensures, c .is-connector .ensures)
 
 pub bad-place-spec : {M : Type 1} → statement M
-bad-place-spec = tie.close (tie.spec is-cell-requires is-connector-requires returns)
+bad-place-spec = tie.close (tie.spec (λ c κs. search needs) (λ c κs. search needs) returns)

@@ -7,18 +7,6 @@ use Rattle.card.proofs.valid.bad_state_as.Tie as tie
 enum-told : tie.Need-enum-told
 enum-told c = search needs
 
-enum-told-2 : tie.Need-enum-told-2
-enum-told-2 c = search needs
-
-enum-told-3 : tie.Need-enum-told-3
-enum-told-3 c = search needs
-
-enum-told-4 : tie.Need-enum-told-4
-enum-told-4 c = search needs
-
-cast-result : tie.Need-cast-result
-cast-result c = search needs
-
 returns : tie.Need-returns
 unfolding badStateAs
 returns c = rw (c .enum-told .given .1)
@@ -37,4 +25,4 @@ returns-4 c = rw (c .enum-told4 .given .1)
 
 pub bad-state-as-spec : {M : Type 1} → statement M
 bad-state-as-spec =
-    tie.close (tie.spec enum-told enum-told-2 enum-told-3 enum-told-4 cast-result returns returns-2 returns-3 returns-4)
+    tie.close (tie.spec enum-told (λ c. search needs) (λ c. search needs) (λ c. search needs) (λ c. search needs) returns returns-2 returns-3 returns-4)

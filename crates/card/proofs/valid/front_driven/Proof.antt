@@ -5,15 +5,9 @@ use borrow.Author.Needs.{needs}
 use Rattle.card.proofs.valid.front_driven.Statement.{statement}
 use Rattle.card.proofs.valid.front_driven.Tie as tie
 
-cast-result : tie.Need-cast-result
-cast-result c = search needs
-
-cast-result-2 : tie.Need-cast-result-2
-cast-result-2 c = search needs
-
 returns : tie.Need-returns
 unfolding frontDriven
 returns c = refl
 
 pub front-driven-spec : {M : Type 1} → statement M
-front-driven-spec = tie.close (tie.spec cast-result cast-result-2 returns)
+front-driven-spec = tie.close (tie.spec (λ c. search needs) (λ c. search needs) returns)

@@ -4,12 +4,9 @@ use borrow.Author.Needs.{needs}
 use Rattle.card.proofs.valid.no_state.Statement.{statement}
 use Rattle.card.proofs.valid.no_state.Tie as tie
 
-bad-state-requires : tie.Need-bad-state-requires
-bad-state-requires c κs = search needs
-
 returns : tie.Need-returns
 unfolding noState
 returns c = c .bad-state .ensures
 
 pub no-state-spec : {M : Type 1} → statement M
-no-state-spec = tie.close (tie.spec bad-state-requires returns)
+no-state-spec = tie.close (tie.spec (λ c κs. search needs) returns)

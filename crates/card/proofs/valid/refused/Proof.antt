@@ -11,12 +11,6 @@ use borrow.Author.Needs.{needs}
 use Rattle.card.proofs.valid.refused.Statement.{statement}
 use Rattle.card.proofs.valid.refused.Tie as tie
 
-cast-entry-of : tie.Need-cast-entry-of
-cast-entry-of c = search needs
-
-entry-of-requires : tie.Need-entry-of-requires
-entry-of-requires c κs = search needs
-
 returns : tie.Need-returns
 unfolding badAddress
 returns c = rw (lt-ltb largestAddress (c .before .args .a) (c .if1 .taken))
@@ -28,4 +22,4 @@ returns-2 c =
     ∙ sym (entry-refused (cellsFor (e .before .before .args .size)) (e .before .before .args .a) (omega arith))
 
 pub refused-spec : {M : Type 1} → statement M
-refused-spec = tie.close (tie.spec returns cast-entry-of entry-of-requires returns-2)
+refused-spec = tie.close (tie.spec returns (λ c. search needs) (λ c κs. search needs) returns-2)

@@ -4,12 +4,9 @@ use Rattle.card.specs.Valid.{unusedSlot}
 use Rattle.card.proofs.valid.unused_slot.Statement.{statement}
 use Rattle.card.proofs.valid.unused_slot.Tie as tie
 
-row-of-requires : tie.Need-row-of-requires
-row-of-requires c κs = search needs
-
 returns : tie.Need-returns
 unfolding unusedSlot
 returns c = rw (c .before .before .before .before .before .before .before .before .before .row-of .ensures)
 
 pub unused-slot-spec : {M : Type 1} → statement M
-unused-slot-spec = tie.close (tie.spec row-of-requires returns)
+unused-slot-spec = tie.close (tie.spec (λ c κs. search needs) returns)

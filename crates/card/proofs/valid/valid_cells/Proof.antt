@@ -22,21 +22,6 @@ loop-holds : tie.Need-loop-holds Inv-loop μ-loop
 unfolding every
 loop-holds c = (zero-le, (zero-le, refl))
 
-mul-valid-cell : tie.Need-mul-valid-cell Inv-loop μ-loop
-mul-valid-cell c = search needs
-
-array-copy-out-valid-cell : tie.Need-array-copy-out-valid-cell Inv-loop μ-loop
-array-copy-out-valid-cell c = search needs
-
-valid-cell-requires : tie.Need-valid-cell-requires Inv-loop μ-loop
-valid-cell-requires c κs = search needs
-
-add-i : tie.Need-add-i Inv-loop μ-loop
-add-i c = search needs
-
-loop-less : tie.Need-loop-less Inv-loop μ-loop
-loop-less c = search needs
-
 loop-again : tie.Need-loop-again Inv-loop μ-loop
 loop-again c =
     let a = c .before .before .before .before .args in
@@ -58,10 +43,10 @@ valid-cells-spec =
     Inv-loop
     μ-loop
     loop-holds
-    mul-valid-cell
-    array-copy-out-valid-cell
-    valid-cell-requires
-    add-i
-    loop-less
+    (λ c. search needs)
+    (λ c. search needs)
+    (λ c κs. search needs)
+    (λ c. search needs)
+    (λ c. search needs)
     loop-again
     returns)

@@ -6,15 +6,6 @@ use borrow.Author.Needs.{needs}
 use Rattle.card.proofs.valid.valid_connector.Statement.{statement}
 use Rattle.card.proofs.valid.valid_connector.Tie as tie
 
-entry-of-requires : tie.Need-entry-of-requires
-entry-of-requires c κs = search needs
-
-cast-bad-connector-type : tie.Need-cast-bad-connector-type
-cast-bad-connector-type c = search needs
-
-bad-connector-type-requires : tie.Need-bad-connector-type-requires
-bad-connector-type-requires c κs = search needs
-
 returns : tie.Need-returns
 unfolding validConnector
 returns c =
@@ -24,4 +15,4 @@ returns c =
     rw (e .entry-of .ensures, k .bad-connector-type .ensures, entry-allowed (cellsFor (a .size)) (a .c .source) (search needs))
 
 pub valid-connector-spec : {M : Type 1} → statement M
-valid-connector-spec = tie.close (tie.spec entry-of-requires cast-bad-connector-type bad-connector-type-requires returns)
+valid-connector-spec = tie.close (tie.spec (λ c κs. search needs) (λ c. search needs) (λ c κs. search needs) returns)

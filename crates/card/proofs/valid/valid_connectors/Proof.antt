@@ -22,21 +22,6 @@ loop-holds : tie.Need-loop-holds Inv-loop μ-loop
 unfolding every
 loop-holds c = (zero-le, refl)
 
-mul-valid-connector : tie.Need-mul-valid-connector Inv-loop μ-loop
-mul-valid-connector c = search needs
-
-array-copy-out-valid-connector : tie.Need-array-copy-out-valid-connector Inv-loop μ-loop
-array-copy-out-valid-connector c = search needs
-
-valid-connector-requires : tie.Need-valid-connector-requires Inv-loop μ-loop
-valid-connector-requires c κs = search needs
-
-add-k : tie.Need-add-k Inv-loop μ-loop
-add-k c = search needs
-
-loop-less : tie.Need-loop-less Inv-loop μ-loop
-loop-less c = search needs
-
 loop-again : tie.Need-loop-again Inv-loop μ-loop
 loop-again c =
     let l = c .before .before .before .loop in
@@ -57,10 +42,10 @@ valid-connectors-spec =
     Inv-loop
     μ-loop
     loop-holds
-    mul-valid-connector
-    array-copy-out-valid-connector
-    valid-connector-requires
-    add-k
-    loop-less
+    (λ c. search needs)
+    (λ c. search needs)
+    (λ c κs. search needs)
+    (λ c. search needs)
+    (λ c. search needs)
     loop-again
     returns)

@@ -12,33 +12,6 @@ use Rattle.card.specs.Valid.{valid}
 use Rattle.card.proofs.valid.valid_settings.Statement.{statement}
 use Rattle.card.proofs.valid.valid_settings.Tie as tie
 
-array-copy-out-front : tie.Need-array-copy-out-front
-array-copy-out-front c = search needs
-
-bad-clock-requires : tie.Need-bad-clock-requires
-bad-clock-requires c κs = search needs
-
-cast-front-driven : tie.Need-cast-front-driven
-cast-front-driven c = search needs
-
-front-driven-requires : tie.Need-front-driven-requires
-front-driven-requires c κs = search needs
-
-chart-requires : tie.Need-chart-requires
-chart-requires c κs = search needs
-
-cells-for-requires : tie.Need-cells-for-requires
-cells-for-requires c κs = search needs
-
-cast-valid-cells : tie.Need-cast-valid-cells
-cast-valid-cells c = search needs
-
-valid-cells-requires : tie.Need-valid-cells-requires
-valid-cells-requires c κs = search needs
-
-valid-connectors-requires : tie.Need-valid-connectors-requires
-valid-connectors-requires c κs = search needs
-
 returns : tie.Need-returns
 unfolding valid
 returns c =
@@ -66,13 +39,13 @@ pub valid-settings-spec : {M : Type 1} → statement M
 valid-settings-spec =
     tie.close
     (tie.spec
-    array-copy-out-front
-    bad-clock-requires
-    cast-front-driven
-    front-driven-requires
-    cells-for-requires
-    chart-requires
-    cast-valid-cells
-    valid-cells-requires
-    valid-connectors-requires
+    (λ c. search needs)
+    (λ c κs. search needs)
+    (λ c. search needs)
+    (λ c κs. search needs)
+    (λ c κs. search needs)
+    (λ c κs. search needs)
+    (λ c. search needs)
+    (λ c κs. search needs)
+    (λ c κs. search needs)
     returns)

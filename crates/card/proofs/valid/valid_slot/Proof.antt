@@ -6,9 +6,6 @@ use borrow.Author.Needs.{needs}
 use Rattle.card.proofs.valid.valid_slot.Statement.{statement}
 use Rattle.card.proofs.valid.valid_slot.Tie as tie
 
-entry-of-requires : tie.Need-entry-of-requires
-entry-of-requires c κs = search needs
-
 returns : tie.Need-returns
 unfolding validSlot
 returns c =
@@ -21,4 +18,4 @@ unfolding validSlot
 returns-2 c = rw (c .if1 .left)
 
 pub valid-slot-spec : {M : Type 1} → statement M
-valid-slot-spec = tie.close (tie.spec entry-of-requires returns returns-2)
+valid-slot-spec = tie.close (tie.spec (λ c κs. search needs) returns returns-2)

@@ -12,61 +12,22 @@ Inv-loop file size form block₀ line₀ store₀ card₀ r₀ block line store 
 abbrev μ-loop : tie.MeasureT-loop
 μ-loop file size form block₀ line₀ store₀ card₀ r₀ block line store card r = r .left
 
-fresh-of-requires : tie.Need-fresh-of-requires Inv-loop μ-loop
-fresh-of-requires c κs = search needs
-
-start-requires : tie.Need-start-requires Inv-loop μ-loop
-start-requires c κs = search needs
-
-loop-holds : tie.Need-loop-holds Inv-loop μ-loop
-loop-holds c = search needs
-
-slice-aggregate-next-line : tie.Need-slice-aggregate-next-line Inv-loop μ-loop
-slice-aggregate-next-line c = search needs
-
-slice-aggregate-next-line-2 : tie.Need-slice-aggregate-next-line-2 Inv-loop μ-loop
-slice-aggregate-next-line-2 c = search needs
-
-next-line-requires : tie.Need-next-line-requires Inv-loop μ-loop
-next-line-requires c κs = search needs
-
-slice-aggregate-take-given : tie.Need-slice-aggregate-take-given Inv-loop μ-loop
-slice-aggregate-take-given c = search needs
-
-slice-aggregate-take-given-2 : tie.Need-slice-aggregate-take-given-2 Inv-loop μ-loop
-slice-aggregate-take-given-2 c = search needs
-
-take-given-requires : tie.Need-take-given-requires Inv-loop μ-loop
-take-given-requires c κs = search needs
-
-loop-less : tie.Need-loop-less Inv-loop μ-loop
-loop-less c = search needs
-
-loop-again : tie.Need-loop-again Inv-loop μ-loop
-loop-again c = search needs
-
-returns : tie.Need-returns Inv-loop μ-loop
-returns c = search needs
-
-returns-2 : tie.Need-returns-2 Inv-loop μ-loop
-returns-2 c = search needs
-
 pub run-spec : {M : Type 1} → statement M
 run-spec =
     tie.close
     (tie.spec
     Inv-loop
     μ-loop
-    fresh-of-requires
-    start-requires
-    loop-holds
-    slice-aggregate-next-line
-    slice-aggregate-next-line-2
-    next-line-requires
-    slice-aggregate-take-given
-    slice-aggregate-take-given-2
-    take-given-requires
-    loop-less
-    loop-again
-    returns
-    returns-2)
+    (λ c κs. search needs)
+    (λ c κs. search needs)
+    (λ c. search needs)
+    (λ c. search needs)
+    (λ c. search needs)
+    (λ c κs. search needs)
+    (λ c. search needs)
+    (λ c. search needs)
+    (λ c κs. search needs)
+    (λ c. search needs)
+    (λ c. search needs)
+    (λ c. search needs)
+    (λ c. search needs))

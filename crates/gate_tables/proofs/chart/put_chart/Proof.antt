@@ -11,25 +11,7 @@ Inv-loop kind₀ kind = kind ≤ typeCount
 abbrev μ-loop : tie.MeasureT-loop
 μ-loop kind₀ kind = typeCount - kind
 
-loop-holds : tie.Need-loop-holds Inv-loop μ-loop
-loop-holds c = search needs
-
-put-row-requires : tie.Need-put-row-requires Inv-loop μ-loop
-put-row-requires c κs = search needs
-
-add-kind : tie.Need-add-kind Inv-loop μ-loop
-add-kind c = search needs
-
-loop-less : tie.Need-loop-less Inv-loop μ-loop
-loop-less c = search needs
-
-loop-again : tie.Need-loop-again Inv-loop μ-loop
-loop-again c = search needs
-
-returns : tie.Need-returns Inv-loop μ-loop
-returns c = search needs
-
 pub put-chart-spec : {M : Type 1} → statement M
 put-chart-spec =
     tie.close
-    (tie.spec Inv-loop μ-loop loop-holds put-row-requires add-kind loop-less loop-again returns)
+    (tie.spec Inv-loop μ-loop (λ c. search needs) (λ c κs. search needs) (λ c. search needs) (λ c. search needs) (λ c. search needs) (λ c. search needs))

@@ -10,41 +10,17 @@ Inv-loop kind deciding n₀ n = n ≤ 16
 abbrev μ-loop : tie.MeasureT-loop
 μ-loop kind deciding n₀ n = 16 - n
 
-loop-holds : tie.Need-loop-holds Inv-loop μ-loop
-loop-holds c = search needs
-
-readings-requires : tie.Need-readings-requires Inv-loop μ-loop
-readings-requires c κs = search needs
-
-look-at-requires : tie.Need-look-at-requires Inv-loop μ-loop
-look-at-requires c κs = search needs
-
-put-look-requires : tie.Need-put-look-requires Inv-loop μ-loop
-put-look-requires c κs = search needs
-
-add-n : tie.Need-add-n Inv-loop μ-loop
-add-n c = search needs
-
-loop-less : tie.Need-loop-less Inv-loop μ-loop
-loop-less c = search needs
-
-loop-again : tie.Need-loop-again Inv-loop μ-loop
-loop-again c = search needs
-
-returns : tie.Need-returns Inv-loop μ-loop
-returns c = search needs
-
 pub put-looks-spec : {M : Type 1} → statement M
 put-looks-spec =
     tie.close
     (tie.spec
     Inv-loop
     μ-loop
-    loop-holds
-    readings-requires
-    look-at-requires
-    put-look-requires
-    add-n
-    loop-less
-    loop-again
-    returns)
+    (λ c. search needs)
+    (λ c κs. search needs)
+    (λ c κs. search needs)
+    (λ c κs. search needs)
+    (λ c. search needs)
+    (λ c. search needs)
+    (λ c. search needs)
+    (λ c. search needs))

@@ -10,131 +10,8 @@ use borrow.Author.Needs.{needs}
 use Rattle.lines.proofs.decision.decide.Statement.{statement}
 use Rattle.lines.proofs.decision.decide.Tie as tie
 
-enum-known-command : tie.Need-enum-known-command
-enum-known-command c = search needs
-
-to-place-requires : tie.Need-to-place-requires
-to-place-requires c κs = search needs
-
 enum-told : tie.Need-enum-told
 enum-told c = search needs
-
-cast-read : tie.Need-cast-read
-cast-read c = search needs
-
-read-requires : tie.Need-read-requires
-read-requires c κs = search needs
-
-enum-known-command-2 : tie.Need-enum-known-command-2
-enum-known-command-2 c = search needs
-
-to-trigger-requires : tie.Need-to-trigger-requires
-to-trigger-requires c κs = search needs
-
-enum-told-2 : tie.Need-enum-told-2
-enum-told-2 c = search needs
-
-write-requires : tie.Need-write-requires
-write-requires c κs = search needs
-
-enum-known-command-3 : tie.Need-enum-known-command-3
-enum-known-command-3 c = search needs
-
-to-preset-requires : tie.Need-to-preset-requires
-to-preset-requires c κs = search needs
-
-enum-known-command-4 : tie.Need-enum-known-command-4
-enum-known-command-4 c = search needs
-
-to-kind-requires : tie.Need-to-kind-requires
-to-kind-requires c κs = search needs
-
-enum-known-command-5 : tie.Need-enum-known-command-5
-enum-known-command-5 c = search needs
-
-to-config-requires : tie.Need-to-config-requires
-to-config-requires c κs = search needs
-
-enum-known-command-6 : tie.Need-enum-known-command-6
-enum-known-command-6 c = search needs
-
-to-state-requires : tie.Need-to-state-requires
-to-state-requires c κs = search needs
-
-enum-told-3 : tie.Need-enum-told-3
-enum-told-3 c = search needs
-
-read-type-requires : tie.Need-read-type-requires
-read-type-requires c κs = search needs
-
-read-requires-2 : tie.Need-read-requires-2
-read-requires-2 c κs = search needs
-
-enum-told-4 : tie.Need-enum-told-4
-enum-told-4 c = search needs
-
-config-requires : tie.Need-config-requires
-config-requires c κs = search needs
-
-enum-told-5 : tie.Need-enum-told-5
-enum-told-5 c = search needs
-
-state-requires : tie.Need-state-requires
-state-requires c κs = search needs
-
-enum-known-command-7 : tie.Need-enum-known-command-7
-enum-known-command-7 c = search needs
-
-to-slots-requires : tie.Need-to-slots-requires
-to-slots-requires c κs = search needs
-
-enum-known-command-8 : tie.Need-enum-known-command-8
-enum-known-command-8 c = search needs
-
-slot-requires : tie.Need-slot-requires
-slot-requires c κs = search needs
-
-enum-told-6 : tie.Need-enum-told-6
-enum-told-6 c = search needs
-
-read-front-requires : tie.Need-read-front-requires
-read-front-requires c κs = search needs
-
-read-requires-3 : tie.Need-read-requires-3
-read-requires-3 c κs = search needs
-
-enum-told-7 : tie.Need-enum-told-7
-enum-told-7 c = search needs
-
-read-back-requires : tie.Need-read-back-requires
-read-back-requires c κs = search needs
-
-read-requires-4 : tie.Need-read-requires-4
-read-requires-4 c κs = search needs
-
-enum-told-8 : tie.Need-enum-told-8
-enum-told-8 c = search needs
-
-read-lower-requires : tie.Need-read-lower-requires
-read-lower-requires c κs = search needs
-
-read-requires-5 : tie.Need-read-requires-5
-read-requires-5 c κs = search needs
-
-enum-told-9 : tie.Need-enum-told-9
-enum-told-9 c = search needs
-
-read-upper-requires : tie.Need-read-upper-requires
-read-upper-requires c κs = search needs
-
-read-requires-6 : tie.Need-read-requires-6
-read-requires-6 c κs = search needs
-
-enum-told-10 : tie.Need-enum-told-10
-enum-told-10 c = search needs
-
-save-requires : tie.Need-save-requires
-save-requires c κs = search needs
 
 returns : tie.Need-returns
 unfolding decision refusal changeFor responseTo
@@ -215,48 +92,48 @@ pub decide-spec : {M : Type 1} → statement M
 decide-spec =
     tie.close
     (tie.spec
-    enum-known-command
-    to-place-requires
+    (λ c. search needs)
+    (λ c κs. search needs)
     enum-told
-    cast-read
-    read-requires
-    enum-known-command-2
-    to-trigger-requires
-    enum-told-2
-    write-requires
-    enum-known-command-3
-    to-preset-requires
-    enum-known-command-4
-    to-kind-requires
-    enum-known-command-5
-    to-config-requires
-    enum-known-command-6
-    to-state-requires
-    enum-told-3
-    read-type-requires
-    read-requires-2
-    enum-told-4
-    config-requires
-    enum-told-5
-    state-requires
-    enum-known-command-7
-    to-slots-requires
-    enum-known-command-8
-    slot-requires
-    enum-told-6
-    read-front-requires
-    read-requires-3
-    enum-told-7
-    read-back-requires
-    read-requires-4
-    enum-told-8
-    read-lower-requires
-    read-requires-5
-    enum-told-9
-    read-upper-requires
-    read-requires-6
-    enum-told-10
-    save-requires
+    (λ c. search needs)
+    (λ c κs. search needs)
+    (λ c. search needs)
+    (λ c κs. search needs)
+    (λ c. search needs)
+    (λ c κs. search needs)
+    (λ c. search needs)
+    (λ c κs. search needs)
+    (λ c. search needs)
+    (λ c κs. search needs)
+    (λ c. search needs)
+    (λ c κs. search needs)
+    (λ c. search needs)
+    (λ c κs. search needs)
+    (λ c. search needs)
+    (λ c κs. search needs)
+    (λ c κs. search needs)
+    (λ c. search needs)
+    (λ c κs. search needs)
+    (λ c. search needs)
+    (λ c κs. search needs)
+    (λ c. search needs)
+    (λ c κs. search needs)
+    (λ c. search needs)
+    (λ c κs. search needs)
+    (λ c. search needs)
+    (λ c κs. search needs)
+    (λ c κs. search needs)
+    (λ c. search needs)
+    (λ c κs. search needs)
+    (λ c κs. search needs)
+    (λ c. search needs)
+    (λ c κs. search needs)
+    (λ c κs. search needs)
+    (λ c. search needs)
+    (λ c κs. search needs)
+    (λ c κs. search needs)
+    (λ c. search needs)
+    (λ c κs. search needs)
     returns
     returns-2
     returns-3

@@ -7,21 +7,6 @@ use Rattle.lines.proofs.decision.decide_for.Tie as tie
 enum-told : tie.Need-enum-told
 enum-told c = search needs
 
-refused-requires : tie.Need-refused-requires
-refused-requires c κs = search needs
-
-enum-told-2 : tie.Need-enum-told-2
-enum-told-2 c = search needs
-
-refused-requires-2 : tie.Need-refused-requires-2
-refused-requires-2 c κs = search needs
-
-enum-known-p : tie.Need-enum-known-p
-enum-known-p c = search needs
-
-decide-requires : tie.Need-decide-requires
-decide-requires c κs = search needs
-
 returns : tie.Need-returns
 unfolding decisionFor
 returns c = rw (c .before .enum-told .given .1) (c .refused .ensures)
@@ -39,11 +24,11 @@ decide-for-spec =
     tie.close
     (tie.spec
     enum-told
-    refused-requires
-    enum-told-2
-    refused-requires-2
-    enum-known-p
-    decide-requires
+    (λ c κs. search needs)
+    (λ c. search needs)
+    (λ c κs. search needs)
+    (λ c. search needs)
+    (λ c κs. search needs)
     returns
     returns-2
     returns-3)

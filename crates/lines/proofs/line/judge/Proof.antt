@@ -3,27 +3,15 @@ use mathlib.Core.Path.{ap₂, _∙_}
 use borrow.Author.Tests.{lt-ltb, le-ltb}
 use Rattle.card.specs.Address.{cellsFor}
 use Rattle.card.specs.declared.context.Context.{Context}
-use Rattle.commands.specs.declared.grammar.Parsed.{Parsed}
+use Rattle.grammar.specs.declared.grammar.Parsed.{Parsed}
 use Rattle.lines.specs.Line.{shortestReply, decisionFor, lineDecision}
 use borrow.Author.Needs.{needs}
 use Rattle.lines.proofs.line.judge.Statement.{statement}
 use Rattle.lines.proofs.line.judge.Tie as tie
 
-refused-requires : tie.Need-refused-requires
-refused-requires c κs = search needs
-
 returns : tie.Need-returns
 unfolding lineDecision
 returns c = rw (lt-ltb (c .before .before .before .args .reply) shortestReply (c .before .if1 .taken)) (c .refused .ensures)
-
-context-of-requires : tie.Need-context-of-requires
-context-of-requires c κs = search needs
-
-parse-line-requires : tie.Need-parse-line-requires
-parse-line-requires c κs = search needs
-
-decide-for-requires : tie.Need-decide-for-requires
-decide-for-requires c κs = search needs
 
 returns-2 : tie.Need-returns-2
 unfolding lineDecision
@@ -37,4 +25,4 @@ returns-2 c =
 
 pub judge-spec : {M : Type 1} → statement M
 judge-spec =
-    tie.close (tie.spec refused-requires returns context-of-requires parse-line-requires decide-for-requires returns-2)
+    tie.close (tie.spec (λ c κs. search needs) returns (λ c κs. search needs) (λ c κs. search needs) (λ c κs. search needs) returns-2)

@@ -7,24 +7,6 @@ use borrow.Author.Needs.{needs}
 use Rattle.lines.proofs.line.line.Statement.{statement}
 use Rattle.lines.proofs.line.line.Tie as tie
 
-judge-requires : tie.Need-judge-requires
-judge-requires c κs = search needs
-
-put-reply-if-requires : tie.Need-put-reply-if-requires
-put-reply-if-requires c κs = search needs
-
-save-if-requires : tie.Need-save-if-requires
-save-if-requires c κs = search needs
-
-apply-requires : tie.Need-apply-requires
-apply-requires c κs = search needs
-
-same-length : tie.Need-same-length
-same-length c = search needs
-
-same-length-2 : tie.Need-same-length-2
-same-length-2 c = search needs
-
 returns : tie.Need-returns
 unfolding lineOutcome
 returns c =
@@ -46,10 +28,10 @@ pub line-spec : {M : Type 1} → statement M
 line-spec =
     tie.close
     (tie.spec
-    judge-requires
-    put-reply-if-requires
-    save-if-requires
-    apply-requires
-    same-length
-    same-length-2
+    (λ c κs. search needs)
+    (λ c κs. search needs)
+    (λ c κs. search needs)
+    (λ c κs. search needs)
+    (λ c. search needs)
+    (λ c. search needs)
     returns)

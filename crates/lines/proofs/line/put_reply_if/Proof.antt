@@ -11,16 +11,10 @@ use Rattle.lines.proofs.line.put_reply_if.Tie as tie
 returns : tie.Need-returns
 returns c = rw (lt-ltb (length (c .before .before .args .reply .now)) shortestReply (c .if1 .taken)) (refl, (refl, zero-le))
 
-put-reply-requires : tie.Need-put-reply-requires
-put-reply-requires c κs = search needs
-
-same-length : tie.Need-same-length
-same-length c = search needs
-
 returns-2 : tie.Need-returns-2
 returns-2 c =
     let z = c .before .before .before .before in
     rw (le-ltb (length (z .before .before .args .reply .now)) shortestReply (z .if1 .left)) (c .before .before .put-reply .ensures)
 
 pub put-reply-if-spec : {M : Type 1} → statement M
-put-reply-if-spec = tie.close (tie.spec returns put-reply-requires same-length returns-2)
+put-reply-if-spec = tie.close (tie.spec returns (λ c κs. search needs) (λ c. search needs) returns-2)

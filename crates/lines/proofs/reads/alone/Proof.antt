@@ -5,11 +5,8 @@ use borrow.Author.Needs.{needs}
 use Rattle.lines.proofs.reads.alone.Statement.{statement}
 use Rattle.lines.proofs.reads.alone.Tie as tie
 
-slot-index-requires : tie.Need-slot-index-requires
-slot-index-requires c κs = search needs
-
 returns : tie.Need-returns
 returns c = rw (c .slot-index .ensures) (alone-index (c .before .args .s))
 
 pub alone-spec : {M : Type 1} → statement M
-alone-spec = tie.close (tie.spec slot-index-requires returns)
+alone-spec = tie.close (tie.spec (λ c κs. search needs) returns)

@@ -8,18 +8,6 @@ use borrow.Author.Needs.{needs}
 use Rattle.lines.proofs.reads.config.Statement.{statement}
 use Rattle.lines.proofs.reads.config.Tie as tie
 
-no-config-requires : tie.Need-no-config-requires
-no-config-requires c κs = search needs
-
-when-requires : tie.Need-when-requires
-when-requires c κs = search needs
-
-read-config-requires : tie.Need-read-config-requires
-read-config-requires c κs = search needs
-
-read-requires : tie.Need-read-requires
-read-requires c κs = search needs
-
 returns : tie.Need-returns
 unfolding decision refusal changeFor responseTo
 returns c = cc (either-same (eqb (c .before .before .when .result) 0) Nothing)
@@ -27,4 +15,4 @@ returns c = cc (either-same (eqb (c .before .before .when .result) 0) Nothing)
 pub config-spec : {M : Type 1} → statement M
 config-spec =
     tie.close
-    (tie.spec no-config-requires when-requires read-config-requires read-requires returns)
+    (tie.spec (λ c κs. search needs) (λ c κs. search needs) (λ c κs. search needs) (λ c κs. search needs) returns)

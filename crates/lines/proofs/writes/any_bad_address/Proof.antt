@@ -6,16 +6,10 @@ use borrow.Author.Needs.{needs}
 use Rattle.lines.proofs.writes.any_bad_address.Statement.{statement}
 use Rattle.lines.proofs.writes.any_bad_address.Tie as tie
 
-bad-addresses-requires : tie.Need-bad-addresses-requires
-bad-addresses-requires c κs = search needs
-
-any-given-requires : tie.Need-any-given-requires
-any-given-requires c κs = search needs
-
 returns : tie.Need-returns
 returns c =
     let p = c .before .before .args .p in
     c .any-given .ensures ∙ ap (λ (s : Slots). anyGiven (p .given) (s .x) (s .y) (s .z) (s .f)) (c .before .bad-addresses .ensures)
 
 pub any-bad-address-spec : {M : Type 1} → statement M
-any-bad-address-spec = tie.close (tie.spec bad-addresses-requires any-given-requires returns)
+any-bad-address-spec = tie.close (tie.spec (λ c κs. search needs) (λ c κs. search needs) returns)

@@ -11,18 +11,6 @@ use borrow.Author.Needs.{needs}
 use Rattle.lines.proofs.writes.to_config.Statement.{statement}
 use Rattle.lines.proofs.writes.to_config.Tie as tie
 
-bad-config-requires : tie.Need-bad-config-requires
-bad-config-requires c κs = search needs
-
-judged-requires : tie.Need-judged-requires
-judged-requires c κs = search needs
-
-low32-requires : tie.Need-low32-requires
-low32-requires c κs = search needs
-
-write-requires : tie.Need-write-requires
-write-requires c κs = search needs
-
 returns : tie.Need-returns
 unfolding decision refusal changeFor responseTo
 returns c =
@@ -31,18 +19,6 @@ returns c =
     let bad = badConfig (a .x .cell .kind) v in
     let fits : judged v bad 9 ≡ 0 → Config (v % 4294967296) ≡ Config v = λ z. ap Config (mod-eq-of-lt (number-fits v (judged-none v bad 8 z .0))) in
     rw (c .before .before .before .before .if1 .taken) (cc (same-decided (judged v bad 9) (Config (v % 4294967296)) (Config v) silent fits))
-
-bad-address-requires : tie.Need-bad-address-requires
-bad-address-requires c κs = search needs
-
-judged-requires-2 : tie.Need-judged-requires-2
-judged-requires-2 c κs = search needs
-
-low8-requires : tie.Need-low8-requires
-low8-requires c κs = search needs
-
-write-requires-2 : tie.Need-write-requires-2
-write-requires-2 c κs = search needs
 
 returns-2 : tie.Need-returns-2
 unfolding decision refusal changeFor responseTo
@@ -55,13 +31,13 @@ pub to-config-spec : {M : Type 1} → statement M
 to-config-spec =
     tie.close
     (tie.spec
-    bad-config-requires
-    judged-requires
-    low32-requires
-    write-requires
+    (λ c κs. search needs)
+    (λ c κs. search needs)
+    (λ c κs. search needs)
+    (λ c κs. search needs)
     returns
-    bad-address-requires
-    judged-requires-2
-    low8-requires
-    write-requires-2
+    (λ c κs. search needs)
+    (λ c κs. search needs)
+    (λ c κs. search needs)
+    (λ c κs. search needs)
     returns-2)

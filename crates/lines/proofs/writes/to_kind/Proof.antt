@@ -12,45 +12,12 @@ use borrow.Author.Needs.{needs}
 use Rattle.lines.proofs.writes.to_kind.Statement.{statement}
 use Rattle.lines.proofs.writes.to_kind.Tie as tie
 
-bad-cell-type-requires : tie.Need-bad-cell-type-requires
-bad-cell-type-requires c κs = search needs
-
-judged-requires : tie.Need-judged-requires
-judged-requires c κs = search needs
-
-low8-requires : tie.Need-low8-requires
-low8-requires c κs = search needs
-
-write-requires : tie.Need-write-requires
-write-requires c κs = search needs
-
 returns : tie.Need-returns
 unfolding decision refusal changeFor responseTo
 returns c =
     let v = c .before .before .before .before .before .args .v in
     rw (c .before .before .before .before .if1 .taken)
     (cc (same-decided _ (Kind _) (Kind v) silent (λ z. ap Kind (mod-eq-of-lt (kind-fits v (judged-none v _ 6 z .1))))))
-
-bad-connector-type-requires : tie.Need-bad-connector-type-requires
-bad-connector-type-requires c κs = search needs
-
-judged-requires-2 : tie.Need-judged-requires-2
-judged-requires-2 c κs = search needs
-
-drives-front-requires : tie.Need-drives-front-requires
-drives-front-requires c κs = search needs
-
-when-requires : tie.Need-when-requires
-when-requires c κs = search needs
-
-or-else-requires : tie.Need-or-else-requires
-or-else-requires c κs = search needs
-
-low8-requires-2 : tie.Need-low8-requires-2
-low8-requires-2 c κs = search needs
-
-write-requires-2 : tie.Need-write-requires-2
-write-requires-2 c κs = search needs
 
 returns-2 : tie.Need-returns-2
 unfolding decision refusal changeFor responseTo
@@ -67,16 +34,16 @@ pub to-kind-spec : {M : Type 1} → statement M
 to-kind-spec =
     tie.close
     (tie.spec
-    bad-cell-type-requires
-    judged-requires
-    low8-requires
-    write-requires
+    (λ c κs. search needs)
+    (λ c κs. search needs)
+    (λ c κs. search needs)
+    (λ c κs. search needs)
     returns
-    bad-connector-type-requires
-    judged-requires-2
-    drives-front-requires
-    when-requires
-    or-else-requires
-    low8-requires-2
-    write-requires-2
+    (λ c κs. search needs)
+    (λ c κs. search needs)
+    (λ c κs. search needs)
+    (λ c κs. search needs)
+    (λ c κs. search needs)
+    (λ c κs. search needs)
+    (λ c κs. search needs)
     returns-2)

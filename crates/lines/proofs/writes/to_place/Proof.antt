@@ -9,18 +9,6 @@ use borrow.Author.Needs.{needs}
 use Rattle.lines.proofs.writes.to_place.Statement.{statement}
 use Rattle.lines.proofs.writes.to_place.Tie as tie
 
-bad-place-requires : tie.Need-bad-place-requires
-bad-place-requires c κs = search needs
-
-judged-requires : tie.Need-judged-requires
-judged-requires c κs = search needs
-
-low8-requires : tie.Need-low8-requires
-low8-requires c κs = search needs
-
-write-requires : tie.Need-write-requires
-write-requires c κs = search needs
-
 returns : tie.Need-returns
 returns c =
     let v = c .before .before .before .before .args .v in
@@ -29,4 +17,4 @@ returns c =
 
 pub to-place-spec : {M : Type 1} → statement M
 to-place-spec =
-    tie.close (tie.spec bad-place-requires judged-requires low8-requires write-requires returns)
+    tie.close (tie.spec (λ c κs. search needs) (λ c κs. search needs) (λ c κs. search needs) (λ c κs. search needs) returns)

@@ -8,28 +8,10 @@ use Rattle.lines.proofs.Decisions.{last-none, none-of, same-decided, wi
 use mathlib.Core.Bool.{not}
 use Rattle.card.specs.Address.{cellsFor}
 use Rattle.card.specs.Valid.{unusedSlot}
-use Rattle.commands.specs.declared.grammar.Command.the-variants.{SetSlots}
+use Rattle.grammar.specs.declared.grammar.Command.the-variants.{SetSlots}
 use borrow.Author.Needs.{needs}
 use Rattle.lines.proofs.writes.to_slots.Statement.{statement}
 use Rattle.lines.proofs.writes.to_slots.Tie as tie
-
-wire-requires : tie.Need-wire-requires
-wire-requires c κs = search needs
-
-wire-requires-2 : tie.Need-wire-requires-2
-wire-requires-2 c κs = search needs
-
-wire-requires-3 : tie.Need-wire-requires-3
-wire-requires-3 c κs = search needs
-
-wire-requires-4 : tie.Need-wire-requires-4
-wire-requires-4 c κs = search needs
-
-slots-number-requires : tie.Need-slots-number-requires
-slots-number-requires c κs = search needs
-
-write-requires : tie.Need-write-requires
-write-requires c κs = search needs
 
 returns : tie.Need-returns
 unfolding decision refusal changeFor responseTo
@@ -47,10 +29,10 @@ pub to-slots-spec : {M : Type 1} → statement M
 to-slots-spec =
     tie.close
     (tie.spec
-    wire-requires
-    wire-requires-2
-    wire-requires-3
-    wire-requires-4
-    slots-number-requires
-    write-requires
+    (λ c κs. search needs)
+    (λ c κs. search needs)
+    (λ c κs. search needs)
+    (λ c κs. search needs)
+    (λ c κs. search needs)
+    (λ c κs. search needs)
     returns)

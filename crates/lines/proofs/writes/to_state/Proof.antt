@@ -12,24 +12,6 @@ use borrow.Author.Needs.{needs}
 use Rattle.lines.proofs.writes.to_state.Statement.{statement}
 use Rattle.lines.proofs.writes.to_state.Tie as tie
 
-judged-requires : tie.Need-judged-requires
-judged-requires c κs = search needs
-
-bad-state-requires : tie.Need-bad-state-requires
-bad-state-requires c κs = search needs
-
-when-requires : tie.Need-when-requires
-when-requires c κs = search needs
-
-or-else-requires : tie.Need-or-else-requires
-or-else-requires c κs = search needs
-
-low32-requires : tie.Need-low32-requires
-low32-requires c κs = search needs
-
-write-requires : tie.Need-write-requires
-write-requires c κs = search needs
-
 returns : tie.Need-returns
 unfolding decision refusal changeFor responseTo
 returns c =
@@ -45,10 +27,10 @@ pub to-state-spec : {M : Type 1} → statement M
 to-state-spec =
     tie.close
     (tie.spec
-    judged-requires
-    bad-state-requires
-    when-requires
-    or-else-requires
-    low32-requires
-    write-requires
+    (λ c κs. search needs)
+    (λ c κs. search needs)
+    (λ c κs. search needs)
+    (λ c κs. search needs)
+    (λ c κs. search needs)
+    (λ c κs. search needs)
     returns)

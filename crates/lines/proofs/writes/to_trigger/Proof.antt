@@ -8,18 +8,6 @@ use borrow.Author.Needs.{needs}
 use Rattle.lines.proofs.writes.to_trigger.Statement.{statement}
 use Rattle.lines.proofs.writes.to_trigger.Tie as tie
 
-bad-clock-requires : tie.Need-bad-clock-requires
-bad-clock-requires c κs = search needs
-
-judged-requires : tie.Need-judged-requires
-judged-requires c κs = search needs
-
-low8-requires : tie.Need-low8-requires
-low8-requires c κs = search needs
-
-write-requires : tie.Need-write-requires
-write-requires c κs = search needs
-
 returns : tie.Need-returns
 returns c =
     let v = c .before .before .before .before .args .v in
@@ -27,4 +15,4 @@ returns c =
 
 pub to-trigger-spec : {M : Type 1} → statement M
 to-trigger-spec =
-    tie.close (tie.spec bad-clock-requires judged-requires low8-requires write-requires returns)
+    tie.close (tie.spec (λ c κs. search needs) (λ c κs. search needs) (λ c κs. search needs) (λ c κs. search needs) returns)

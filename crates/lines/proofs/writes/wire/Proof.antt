@@ -3,9 +3,6 @@ use borrow.Author.Needs.{needs}
 use Rattle.lines.proofs.writes.wire.Statement.{statement}
 use Rattle.lines.proofs.writes.wire.Tie as tie
 
-low8-requires : tie.Need-low8-requires
-low8-requires c κs = search needs
-
 returns : tie.Need-returns
 returns c = rw (c .before .if1 .taken) (c .low8 .ensures)
 
@@ -13,4 +10,4 @@ returns-2 : tie.Need-returns-2
 returns-2 c = rw (c .if1 .left)
 
 pub wire-spec : {M : Type 1} → statement M
-wire-spec = tie.close (tie.spec low8-requires returns returns-2)
+wire-spec = tie.close (tie.spec (λ c κs. search needs) returns returns-2)

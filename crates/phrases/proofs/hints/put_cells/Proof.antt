@@ -11,23 +11,8 @@ Inv-loop out₀ at rows then card n₀ i₀ out n i = i ≤ 32
 abbrev μ-loop : tie.MeasureT-loop
 μ-loop out₀ at rows then card n₀ i₀ out n i = 32 - i
 
-loop-holds : tie.Need-loop-holds Inv-loop μ-loop
-loop-holds c = search needs
-
-put-of-cell-requires : tie.Need-put-of-cell-requires Inv-loop μ-loop
-put-of-cell-requires c κs = search needs
-
-add-i : tie.Need-add-i Inv-loop μ-loop
-add-i c = search needs
-
-loop-less : tie.Need-loop-less Inv-loop μ-loop
-loop-less c = search needs
-
 loop-again : tie.Need-loop-again Inv-loop μ-loop
 loop-again c = omega arith
-
-returns : tie.Need-returns Inv-loop μ-loop
-returns c = search needs
 
 pub put-cells-spec : {M : Type 1} → statement M
 put-cells-spec =
@@ -35,9 +20,9 @@ put-cells-spec =
     (tie.spec
     Inv-loop
     μ-loop
-    loop-holds
-    put-of-cell-requires
-    add-i
-    loop-less
+    (λ c. search needs)
+    (λ c κs. search needs)
+    (λ c. search needs)
+    (λ c. search needs)
     loop-again
-    returns)
+    (λ c. search needs))

@@ -11,23 +11,8 @@ Inv-loop out₀ at first rows then card n₀ k₀ out n k = k ≤ 16
 abbrev μ-loop : tie.MeasureT-loop
 μ-loop out₀ at first rows then card n₀ k₀ out n k = 16 - k
 
-loop-holds : tie.Need-loop-holds Inv-loop μ-loop
-loop-holds c = search needs
-
-put-of-connector-requires : tie.Need-put-of-connector-requires Inv-loop μ-loop
-put-of-connector-requires c κs = search needs
-
-add-k : tie.Need-add-k Inv-loop μ-loop
-add-k c = search needs
-
-loop-less : tie.Need-loop-less Inv-loop μ-loop
-loop-less c = search needs
-
 loop-again : tie.Need-loop-again Inv-loop μ-loop
 loop-again c = omega arith
-
-returns : tie.Need-returns Inv-loop μ-loop
-returns c = search needs
 
 pub put-connectors-spec : {M : Type 1} → statement M
 put-connectors-spec =
@@ -35,9 +20,9 @@ put-connectors-spec =
     (tie.spec
     Inv-loop
     μ-loop
-    loop-holds
-    put-of-connector-requires
-    add-k
-    loop-less
+    (λ c. search needs)
+    (λ c κs. search needs)
+    (λ c. search needs)
+    (λ c. search needs)
     loop-again
-    returns)
+    (λ c. search needs))

@@ -12,32 +12,8 @@ Inv-loop out₀ at attached drove drives before now connectors n₀ k₀ out n k
 abbrev μ-loop : tie.MeasureT-loop
 μ-loop out₀ at attached drove drives before now connectors n₀ k₀ out n k = connectorCount - k
 
-loop-holds : tie.Need-loop-holds Inv-loop μ-loop
-loop-holds c = search needs
-
-cast-i : tie.Need-cast-i Inv-loop μ-loop
-cast-i c = search needs
-
-mul-put-connector : tie.Need-mul-put-connector Inv-loop μ-loop
-mul-put-connector c = search needs
-
-array-copy-out-put-connector : tie.Need-array-copy-out-put-connector Inv-loop μ-loop
-array-copy-out-put-connector c = search needs
-
-put-connector-requires : tie.Need-put-connector-requires Inv-loop μ-loop
-put-connector-requires c κs = search needs
-
-add-k : tie.Need-add-k Inv-loop μ-loop
-add-k c = search needs
-
-loop-less : tie.Need-loop-less Inv-loop μ-loop
-loop-less c = search needs
-
 loop-again : tie.Need-loop-again Inv-loop μ-loop
 loop-again c = omega arith
-
-returns : tie.Need-returns Inv-loop μ-loop
-returns c = search needs
 
 pub put-connectors-spec : {M : Type 1} → statement M
 put-connectors-spec =
@@ -45,12 +21,12 @@ put-connectors-spec =
     (tie.spec
     Inv-loop
     μ-loop
-    loop-holds
-    cast-i
-    mul-put-connector
-    array-copy-out-put-connector
-    put-connector-requires
-    add-k
-    loop-less
+    (λ c. search needs)
+    (λ c. search needs)
+    (λ c. search needs)
+    (λ c. search needs)
+    (λ c κs. search needs)
+    (λ c. search needs)
+    (λ c. search needs)
     loop-again
-    returns)
+    (λ c. search needs))

@@ -12,38 +12,8 @@ Inv-loop out₀ at rows before after n₀ i₀ out n i = i ≤ cellRoom
 abbrev μ-loop : tie.MeasureT-loop
 μ-loop out₀ at rows before after n₀ i₀ out n i = cellRoom - i
 
-loop-holds : tie.Need-loop-holds Inv-loop μ-loop
-loop-holds c = search needs
-
-cast-k : tie.Need-cast-k Inv-loop μ-loop
-cast-k c = search needs
-
-mul-put-changed-cell : tie.Need-mul-put-changed-cell Inv-loop μ-loop
-mul-put-changed-cell c = search needs
-
-array-copy-out-put-changed-cell : tie.Need-array-copy-out-put-changed-cell Inv-loop μ-loop
-array-copy-out-put-changed-cell c = search needs
-
-mul-put-changed-cell-2 : tie.Need-mul-put-changed-cell-2 Inv-loop μ-loop
-mul-put-changed-cell-2 c = search needs
-
-array-copy-out-put-changed-cell-2 : tie.Need-array-copy-out-put-changed-cell-2 Inv-loop μ-loop
-array-copy-out-put-changed-cell-2 c = search needs
-
-put-changed-cell-requires : tie.Need-put-changed-cell-requires Inv-loop μ-loop
-put-changed-cell-requires c κs = search needs
-
-add-i : tie.Need-add-i Inv-loop μ-loop
-add-i c = search needs
-
-loop-less : tie.Need-loop-less Inv-loop μ-loop
-loop-less c = search needs
-
 loop-again : tie.Need-loop-again Inv-loop μ-loop
 loop-again c = omega arith
-
-returns : tie.Need-returns Inv-loop μ-loop
-returns c = search needs
 
 pub put-cells-spec : {M : Type 1} → statement M
 put-cells-spec =
@@ -51,14 +21,14 @@ put-cells-spec =
     (tie.spec
     Inv-loop
     μ-loop
-    loop-holds
-    cast-k
-    mul-put-changed-cell
-    array-copy-out-put-changed-cell
-    mul-put-changed-cell-2
-    array-copy-out-put-changed-cell-2
-    put-changed-cell-requires
-    add-i
-    loop-less
+    (λ c. search needs)
+    (λ c. search needs)
+    (λ c. search needs)
+    (λ c. search needs)
+    (λ c. search needs)
+    (λ c. search needs)
+    (λ c κs. search needs)
+    (λ c. search needs)
+    (λ c. search needs)
     loop-again
-    returns)
+    (λ c. search needs))

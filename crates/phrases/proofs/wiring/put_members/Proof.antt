@@ -12,25 +12,10 @@ Inv-loop out₀ at rows set n₀ i₀ out n i = i ≤ cellRoom
 abbrev μ-loop : tie.MeasureT-loop
 μ-loop out₀ at rows set n₀ i₀ out n i = cellRoom - i
 
-loop-holds : tie.Need-loop-holds Inv-loop μ-loop
-loop-holds c = search needs
-
-put-member-requires : tie.Need-put-member-requires Inv-loop μ-loop
-put-member-requires c κs = search needs
-
-add-i : tie.Need-add-i Inv-loop μ-loop
-add-i c = search needs
-
-loop-less : tie.Need-loop-less Inv-loop μ-loop
-loop-less c = search needs
-
 loop-again : tie.Need-loop-again Inv-loop μ-loop
 loop-again c = omega arith
-
-returns : tie.Need-returns Inv-loop μ-loop
-returns c = search needs
 
 pub put-members-spec : {M : Type 1} → statement M
 put-members-spec =
     tie.close
-    (tie.spec Inv-loop μ-loop loop-holds put-member-requires add-i loop-less loop-again returns)
+    (tie.spec Inv-loop μ-loop (λ c. search needs) (λ c κs. search needs) (λ c. search needs) (λ c. search needs) loop-again (λ c. search needs))

@@ -10,30 +10,6 @@ Inv-loop line ok₀ j₀ ok j = j ≤ 14
 abbrev μ-loop : tie.MeasureT-loop
 μ-loop line ok₀ j₀ ok j = 14 - j
 
-loop-holds : tie.Need-loop-holds Inv-loop μ-loop
-loop-holds c = search needs
-
-mul-front-at : tie.Need-mul-front-at Inv-loop μ-loop
-mul-front-at c = search needs
-
-add-front-at : tie.Need-add-front-at Inv-loop μ-loop
-add-front-at c = search needs
-
-front-at-requires : tie.Need-front-at-requires Inv-loop μ-loop
-front-at-requires c κs = search needs
-
-add-j : tie.Need-add-j Inv-loop μ-loop
-add-j c = search needs
-
-loop-less : tie.Need-loop-less Inv-loop μ-loop
-loop-less c = search needs
-
-loop-again : tie.Need-loop-again Inv-loop μ-loop
-loop-again c = search needs
-
-returns : tie.Need-returns Inv-loop μ-loop
-returns c = search needs
-
 pub others-ok-spec : {M : Type 1} → statement M
 others-ok-spec =
-    tie.close (tie.spec Inv-loop μ-loop loop-holds mul-front-at add-front-at front-at-requires add-j loop-less loop-again returns)
+    tie.close (tie.spec Inv-loop μ-loop (λ c. search needs) (λ c. search needs) (λ c. search needs) (λ c κs. search needs) (λ c. search needs) (λ c. search needs) (λ c. search needs) (λ c. search needs))

@@ -5,9 +5,6 @@ use borrow.Author.Needs.{needs}
 use Rattle.program.proofs.arguments.whole_number.Statement.{statement}
 use Rattle.program.proofs.arguments.whole_number.Tie as tie
 
-number-at-requires : tie.Need-number-at-requires
-number-at-requires c κs = search needs
-
 returns : tie.Need-returns
 unfolding wholeNumber
 returns c =
@@ -15,4 +12,4 @@ returns c =
     (rw (← n), rw n (number-small _ 0))
 
 pub whole-number-spec : {M : Type 1} → statement M
-whole-number-spec = tie.close (tie.spec number-at-requires returns)
+whole-number-spec = tie.close (tie.spec (λ c κs. search needs) returns)

@@ -5,9 +5,6 @@ use borrow.Author.Needs.{needs}
 use Rattle.program.proofs.report.after.Statement.{statement}
 use Rattle.program.proofs.report.after.Tie as tie
 
-one-more-requires : tie.Need-one-more-requires
-one-more-requires c κs = search needs
-
 returns : tie.Need-returns
 unfolding afterLine
 returns c =
@@ -16,18 +13,9 @@ returns c =
     rw (eq-eqb _ _ (c .before .if1 .taken))
     (λ i. record { lines = lines i; refused = r .refused; number = r .number; k = r .k; line = r .line; rest = r .rest })
 
-first-refused-requires : tie.Need-first-refused-requires
-first-refused-requires c κs = search needs
-
 returns-2 : tie.Need-returns-2
 unfolding afterLine
 returns-2 c = rw (ne-eqb _ _ (c .before .before .before .if1 .left), eq-eqb _ _ (c .before .if2 .taken)) (c .first-refused .ensures)
-
-one-more-requires-2 : tie.Need-one-more-requires-2
-one-more-requires-2 c κs = search needs
-
-one-more-requires-3 : tie.Need-one-more-requires-3
-one-more-requires-3 c κs = search needs
 
 returns-3 : tie.Need-returns-3
 unfolding afterLine
@@ -43,10 +31,10 @@ pub after-spec : {M : Type 1} → statement M
 after-spec =
     tie.close
     (tie.spec
-    one-more-requires
+    (λ c κs. search needs)
     returns
-    first-refused-requires
+    (λ c κs. search needs)
     returns-2
-    one-more-requires-2
-    one-more-requires-3
+    (λ c κs. search needs)
+    (λ c κs. search needs)
     returns-3)

@@ -3,9 +3,6 @@ use borrow.Author.Needs.{needs}
 use Rattle.program.proofs.report.at_end.Statement.{statement}
 use Rattle.program.proofs.report.at_end.Tie as tie
 
-text-of-requires : tie.Need-text-of-requires
-text-of-requires c κs = search needs
-
 returns : tie.Need-returns
 returns c =
     let t = c .before .text-of .ensures in
@@ -13,4 +10,4 @@ returns c =
     λ i. record { lines = r .lines; refused = r .refused; number = r .number; k = r .k; line = r .line; rest = t i }
 
 pub at-end-spec : {M : Type 1} → statement M
-at-end-spec = tie.close (tie.spec text-of-requires returns)
+at-end-spec = tie.close (tie.spec (λ c κs. search needs) returns)

@@ -3,15 +3,6 @@ use borrow.Author.Needs.{needs}
 use Rattle.program.proofs.report.first_refused.Statement.{statement}
 use Rattle.program.proofs.report.first_refused.Tie as tie
 
-text-of-requires : tie.Need-text-of-requires
-text-of-requires c κs = search needs
-
-one-more-requires : tie.Need-one-more-requires
-one-more-requires c κs = search needs
-
-one-more-requires-2 : tie.Need-one-more-requires-2
-one-more-requires-2 c κs = search needs
-
 returns : tie.Need-returns
 returns c =
     let text = c .before .before .before .text-of .ensures in
@@ -23,4 +14,4 @@ returns c =
 
 pub first-refused-spec : {M : Type 1} → statement M
 first-refused-spec =
-    tie.close (tie.spec text-of-requires one-more-requires one-more-requires-2 returns)
+    tie.close (tie.spec (λ c κs. search needs) (λ c κs. search needs) (λ c κs. search needs) returns)

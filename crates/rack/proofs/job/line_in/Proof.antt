@@ -16,21 +16,6 @@ use borrow.Author.Needs.{needs}
 use Rattle.rack.proofs.job.line_in.Statement.{statement}
 use Rattle.rack.proofs.job.line_in.Tie as tie
 
-judge-requires : tie.Need-judge-requires
-judge-requires c κs = search needs
-
-apply-requires : tie.Need-apply-requires
-apply-requires c κs = search needs
-
-refusal-in-requires : tie.Need-refusal-in-requires
-refusal-in-requires c κs = search needs
-
-put-reply-if-requires : tie.Need-put-reply-if-requires
-put-reply-if-requires c κs = search needs
-
-same-length : tie.Need-same-length
-same-length c = search needs
-
 -- the rack refuses it
 returns : tie.Need-returns
 unfolding lineOutcome
@@ -63,18 +48,6 @@ returns c =
       put .1 .1,
     )
 
-put-reply-if-requires-2 : tie.Need-put-reply-if-requires-2
-put-reply-if-requires-2 c κs = search needs
-
-save-if-requires : tie.Need-save-if-requires
-save-if-requires c κs = search needs
-
-same-length-2 : tie.Need-same-length-2
-same-length-2 c = search needs
-
-same-length-3 : tie.Need-same-length-3
-same-length-3 c = search needs
-
 -- the rack leaves it as it is
 returns-2 : tie.Need-returns-2
 unfolding lineOutcome
@@ -103,14 +76,14 @@ pub line-in-spec : {M : Type 1} → statement M
 line-in-spec =
     tie.close
     (tie.spec
-    judge-requires
-    apply-requires
-    refusal-in-requires
-    put-reply-if-requires
-    same-length
+    (λ c κs. search needs)
+    (λ c κs. search needs)
+    (λ c κs. search needs)
+    (λ c κs. search needs)
+    (λ c. search needs)
     returns
-    put-reply-if-requires-2
-    save-if-requires
-    same-length-2
-    same-length-3
+    (λ c κs. search needs)
+    (λ c κs. search needs)
+    (λ c. search needs)
+    (λ c. search needs)
     returns-2)

@@ -10,12 +10,6 @@ use borrow.Author.Needs.{needs}
 use Rattle.rack.proofs.job.load_in.Statement.{statement}
 use Rattle.rack.proofs.job.load_in.Tie as tie
 
-load-requires : tie.Need-load-requires
-load-requires c κs = search needs
-
-refusal-in-requires : tie.Need-refusal-in-requires
-refusal-in-requires c κs = search needs
-
 -- the rack refuses it
 returns : tie.Need-returns
 returns c =
@@ -64,4 +58,4 @@ returns-3 c =
     )
 
 pub load-in-spec : {M : Type 1} → statement M
-load-in-spec = tie.close (tie.spec load-requires refusal-in-requires returns returns-2 returns-3)
+load-in-spec = tie.close (tie.spec (λ c κs. search needs) (λ c κs. search needs) returns returns-2 returns-3)

@@ -9,9 +9,6 @@ use Rattle.rack.proofs.job.refusal_in.Tie as tie
 returns : tie.Need-returns
 returns c = rw (c .if1 .taken)
 
-over-requires : tie.Need-over-requires
-over-requires c κs = search needs
-
 returns-2 : tie.Need-returns-2
 returns-2 c =
     let i = c .before .before .before in
@@ -23,4 +20,4 @@ returns-3 c =
     rw (i .if1 .left, ap (λ (v : Bool). eqb (i .before .args .k) 0 && v) (sym (c .before .over .ensures)) ∙ c .if2 .left)
 
 pub refusal-in-spec : {M : Type 1} → statement M
-refusal-in-spec = tie.close (tie.spec returns over-requires returns-2 returns-3)
+refusal-in-spec = tie.close (tie.spec returns (λ c κs. search needs) returns-2 returns-3)

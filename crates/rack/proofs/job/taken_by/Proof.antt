@@ -5,9 +5,6 @@ use borrow.Author.Needs.{needs}
 use Rattle.rack.proofs.job.taken_by.Statement.{statement}
 use Rattle.rack.proofs.job.taken_by.Tie as tie
 
-place-of-requires : tie.Need-place-of-requires
-place-of-requires c κs = search needs
-
 returns : tie.Need-returns
 returns c =
     let a = c .before .before .before .before .args in
@@ -18,4 +15,4 @@ returns c =
     }
 
 pub taken-by-spec : {M : Type 1} → statement M
-taken-by-spec = tie.close (tie.spec place-of-requires returns)
+taken-by-spec = tie.close (tie.spec (λ c κs. search needs) returns)

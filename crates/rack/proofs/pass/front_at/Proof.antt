@@ -7,15 +7,6 @@ use Rattle.rack.specs.Rack.{noFront}
 use Rattle.rack.proofs.pass.front_at.Statement.{statement}
 use Rattle.rack.proofs.pass.front_at.Tie as tie
 
-mul-result : tie.Need-mul-result
-mul-result c = search needs
-
-array-copy-out-result : tie.Need-array-copy-out-result
-array-copy-out-result c = search needs
-
-returns : tie.Need-returns
-returns c = search needs
-
 returns-2 : tie.Need-returns-2
 returns-2 c =
     let a = c .before .args in
@@ -24,4 +15,4 @@ returns-2 c =
     sym (List·getD-eq-default (a .t1) noFront (omega (arith, long, past)))
 
 pub front-at-spec : {M : Type 1} → statement M
-front-at-spec = tie.close (tie.spec mul-result array-copy-out-result returns returns-2)
+front-at-spec = tie.close (tie.spec (λ c. search needs) (λ c. search needs) (λ c. search needs) returns-2)

@@ -7,21 +7,6 @@ use borrow.Author.Needs.{needs}
 use Rattle.rack.proofs.pass.look.Statement.{statement}
 use Rattle.rack.proofs.pass.look.Tie as tie
 
-draw-requires : tie.Need-draw-requires
-draw-requires c κs = search needs
-
-put-draw-requires : tie.Need-put-draw-requires
-put-draw-requires c κs = search needs
-
-pulled-requires : tie.Need-pulled-requires
-pulled-requires c κs = search needs
-
-next-at-requires : tie.Need-next-at-requires
-next-at-requires c κs = search needs
-
-refused-if-requires : tie.Need-refused-if-requires
-refused-if-requires c κs = search needs
-
 returns : tie.Need-returns
 unfolding look
 returns c =
@@ -35,4 +20,4 @@ returns c =
     λ i. made (p .act) (p .full) (p .input) (r .refused-if .ensures i) (bitOr (p .low) (l .pulled .ensures i)) (draws i) (n .next-at .ensures i) (p .answers)
 
 pub look-spec : {M : Type 1} → statement M
-look-spec = tie.close (tie.spec draw-requires put-draw-requires pulled-requires next-at-requires refused-if-requires returns)
+look-spec = tie.close (tie.spec (λ c κs. search needs) (λ c κs. search needs) (λ c κs. search needs) (λ c κs. search needs) (λ c κs. search needs) returns)

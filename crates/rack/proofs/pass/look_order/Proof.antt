@@ -6,14 +6,8 @@ use borrow.Author.Needs.{needs}
 use Rattle.rack.proofs.pass.look_order.Statement.{statement}
 use Rattle.rack.proofs.pass.look_order.Tie as tie
 
-no-input-requires : tie.Need-no-input-requires
-no-input-requires c κs = search needs
-
-order-requires : tie.Need-order-requires
-order-requires c κs = search needs
-
 returns : tie.Need-returns
 returns c = c .order .ensures ∙ ap (order looks false) (c .before .no-input .ensures)
 
 pub look-order-spec : {M : Type 1} → statement M
-look-order-spec = tie.close (tie.spec no-input-requires order-requires returns)
+look-order-spec = tie.close (tie.spec (λ c κs. search needs) (λ c κs. search needs) returns)

@@ -6,14 +6,8 @@ use borrow.Author.Needs.{needs}
 use Rattle.rack.proofs.pass.look_pass.Statement.{statement}
 use Rattle.rack.proofs.pass.look_pass.Tie as tie
 
-look-order-requires : tie.Need-look-order-requires
-look-order-requires c κs = search needs
-
-looking-requires : tie.Need-looking-requires
-looking-requires c κs = search needs
-
 returns : tie.Need-returns
 returns c = c .looking .ensures ∙ ap (λ (o : Pass). looking o (c .before .before .args .n)) (c .before .look-order .ensures)
 
 pub look-pass-spec : {M : Type 1} → statement M
-look-pass-spec = tie.close (tie.spec look-order-requires looking-requires returns)
+look-pass-spec = tie.close (tie.spec (λ c κs. search needs) (λ c κs. search needs) returns)

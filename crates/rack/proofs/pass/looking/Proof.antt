@@ -4,9 +4,6 @@ use borrow.Author.Needs.{needs}
 use Rattle.rack.proofs.pass.looking.Statement.{statement}
 use Rattle.rack.proofs.pass.looking.Tie as tie
 
-refused-if-requires : tie.Need-refused-if-requires
-refused-if-requires c κs = search needs
-
 returns : tie.Need-returns
 unfolding looking
 returns c =
@@ -14,4 +11,4 @@ returns c =
     λ i. numbered p (c .refused-if .ensures i) (p .at)
 
 pub looking-spec : {M : Type 1} → statement M
-looking-spec = tie.close (tie.spec refused-if-requires returns)
+looking-spec = tie.close (tie.spec (λ c κs. search needs) returns)

@@ -5,9 +5,6 @@ use Rattle.rack.specs.Supply.{mostCards}
 use Rattle.rack.proofs.pass.next_at.Statement.{statement}
 use Rattle.rack.proofs.pass.next_at.Tie as tie
 
-add-result : tie.Need-add-result
-add-result c = search needs
-
 returns : tie.Need-returns
 returns c = rw (lt-ltb (c .before .args .at) mostCards (c .if1 .taken))
 
@@ -15,4 +12,4 @@ returns-2 : tie.Need-returns-2
 returns-2 c = rw (le-ltb (c .before .args .at) mostCards (c .if1 .left))
 
 pub next-at-spec : {M : Type 1} → statement M
-next-at-spec = tie.close (tie.spec add-result returns returns-2)
+next-at-spec = tie.close (tie.spec (λ c. search needs) returns returns-2)

@@ -7,15 +7,6 @@ use Rattle.rack.proofs.Rows.{set-past}
 use Rattle.rack.proofs.pass.put_answer.Statement.{statement}
 use Rattle.rack.proofs.pass.put_answer.Tie as tie
 
-mul-next : tie.Need-mul-next
-mul-next c = search needs
-
-array-set-from-next : tie.Need-array-set-from-next
-array-set-from-next c = search needs
-
-returns : tie.Need-returns
-returns c = search needs
-
 returns-2 : tie.Need-returns-2
 returns-2 c =
     let a = c .before .args in
@@ -24,4 +15,4 @@ returns-2 c =
     sym (set-past (a .answers) (a .at) (a .v) (omega (arith, long, past)))
 
 pub put-answer-spec : {M : Type 1} → statement M
-put-answer-spec = tie.close (tie.spec mul-next array-set-from-next returns returns-2)
+put-answer-spec = tie.close (tie.spec (λ c. search needs) (λ c. search needs) (λ c. search needs) returns-2)

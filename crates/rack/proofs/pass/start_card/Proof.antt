@@ -7,9 +7,6 @@ use borrow.Author.Needs.{needs}
 use Rattle.rack.proofs.pass.start_card.Statement.{statement}
 use Rattle.rack.proofs.pass.start_card.Tie as tie
 
-fresh-requires : tie.Need-fresh-requires
-fresh-requires c κs = search needs
-
 returns : tie.Need-returns
 unfolding fresh
 returns c =
@@ -26,4 +23,4 @@ returns c =
     (c .fresh .ensures)
 
 pub start-card-spec : {M : Type 1} → statement M
-start-card-spec = tie.close (tie.spec fresh-requires returns)
+start-card-spec = tie.close (tie.spec (λ c κs. search needs) returns)

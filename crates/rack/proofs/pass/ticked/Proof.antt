@@ -10,18 +10,6 @@ use borrow.Author.Needs.{needs}
 use Rattle.rack.proofs.pass.ticked.Statement.{statement}
 use Rattle.rack.proofs.pass.ticked.Tie as tie
 
-input-for-requires : tie.Need-input-for-requires
-input-for-requires c κs = search needs
-
-tick-requires : tie.Need-tick-requires
-tick-requires c κs = search needs
-
-put-answer-requires : tie.Need-put-answer-requires
-put-answer-requires c κs = search needs
-
-next-at-requires : tie.Need-next-at-requires
-next-at-requires c κs = search needs
-
 returns : tie.Need-returns
 unfolding ticked
 returns c =
@@ -48,4 +36,4 @@ returns c =
     }
 
 pub ticked-spec : {M : Type 1} → statement M
-ticked-spec = tie.close (tie.spec input-for-requires tick-requires put-answer-requires next-at-requires returns)
+ticked-spec = tie.close (tie.spec (λ c κs. search needs) (λ c κs. search needs) (λ c κs. search needs) (λ c κs. search needs) returns)

@@ -6,17 +6,11 @@ use borrow.Author.Needs.{needs}
 use Rattle.rack.proofs.pass.visit.Statement.{statement}
 use Rattle.rack.proofs.pass.visit.Tie as tie
 
-start-card-requires : tie.Need-start-card-requires
-start-card-requires c κs = search needs
-
 returns : tie.Need-returns
 unfolding visitBy
 returns c =
     let p = c .before .before .before .before .args .pass in
     rw (c .before .if1 .taken) (ap (λ (d : Card). record { card = d; pass = p }) (c .start-card .ensures))
-
-ticked-requires : tie.Need-ticked-requires
-ticked-requires c κs = search needs
 
 returns-2 : tie.Need-returns-2
 unfolding visitBy
@@ -27,4 +21,4 @@ unfolding visitBy
 returns-3 c = rw (c .before .before .before .if1 .left, c .if2 .left)
 
 pub visit-spec : {M : Type 1} → statement M
-visit-spec = tie.close (tie.spec start-card-requires returns ticked-requires returns-2 returns-3)
+visit-spec = tie.close (tie.spec (λ c κs. search needs) returns (λ c κs. search needs) returns-2 returns-3)

@@ -12,12 +12,9 @@ returns : tie.Need-returns
 unfolding pulls
 returns c = rw (ne-eqb _ _ (c .before .if1 .taken))
 
-lines-of-requires : tie.Need-lines-of-requires
-lines-of-requires c κs = search needs
-
 returns-2 : tie.Need-returns-2
 unfolding pulls linesOf
 returns-2 c = rw (eq-eqb _ _ (c .before .if1 .left)) (ap (λ (l : Lines). l .pulled) (c .lines-of .ensures))
 
 pub pulled-spec : {M : Type 1} → statement M
-pulled-spec = tie.close (tie.spec returns lines-of-requires returns-2)
+pulled-spec = tie.close (tie.spec returns (λ c κs. search needs) returns-2)

@@ -9,24 +9,9 @@ use borrow.Author.Needs.{needs}
 use Rattle.rack.proofs.shared.tick.Statement.{statement}
 use Rattle.rack.proofs.shared.tick.Tie as tie
 
-idle-requires : tie.Need-idle-requires
-idle-requires c κs = search needs
-
 returns : tie.Need-returns
 unfolding sharedTick
 returns c = rw (ne-eqb _ _ (c .before .if1 .taken)) (c .idle .ensures)
-
-lines-of-requires : tie.Need-lines-of-requires
-lines-of-requires c κs = search needs
-
-effective-requires : tie.Need-effective-requires
-effective-requires c κs = search needs
-
-levels-on-requires : tie.Need-levels-on-requires
-levels-on-requires c κs = search needs
-
-full-tick-on-requires : tie.Need-full-tick-on-requires
-full-tick-on-requires c κs = search needs
 
 returns-2 : tie.Need-returns-2
 unfolding sharedTick
@@ -42,9 +27,6 @@ returns-2 c =
     rw (eq-eqb _ _ (i .if1 .left), f .if2 .taken)
     (c .full-tick-on .ensures ∙ (λ j. tickedOn (cellsFor (a .card .size)) true (a .card)
     (record { driven = own j .driven; pulled = own j .pulled; levels = levels j })))
-
-quick-tick-on-requires : tie.Need-quick-tick-on-requires
-quick-tick-on-requires c κs = search needs
 
 returns-3 : tie.Need-returns-3
 unfolding sharedTick
@@ -63,4 +45,4 @@ returns-3 c =
 
 pub tick-spec : {M : Type 1} → statement M
 tick-spec = tie.close
-    (tie.spec idle-requires returns lines-of-requires effective-requires levels-on-requires full-tick-on-requires returns-2 quick-tick-on-requires returns-3)
+    (tie.spec (λ c κs. search needs) returns (λ c κs. search needs) (λ c κs. search needs) (λ c κs. search needs) (λ c κs. search needs) returns-2 (λ c κs. search needs) returns-3)

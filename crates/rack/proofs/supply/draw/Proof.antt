@@ -6,9 +6,6 @@ use borrow.Author.Needs.{needs}
 use Rattle.rack.proofs.supply.draw.Statement.{statement}
 use Rattle.rack.proofs.supply.draw.Tie as tie
 
-pushes-requires : tie.Need-pushes-requires
-pushes-requires c κs = search needs
-
 returns : tie.Need-returns
 unfolding draw
 returns c = rw (sym (c .before .pushes .ensures), lt-ltb (c .before .pushes .result) share (c .if1 .taken))
@@ -18,4 +15,4 @@ unfolding draw
 returns-2 c = rw (sym (c .before .pushes .ensures), le-ltb (c .before .pushes .result) share (c .if1 .left))
 
 pub draw-spec : {M : Type 1} → statement M
-draw-spec = tie.close (tie.spec pushes-requires returns returns-2)
+draw-spec = tie.close (tie.spec (λ c κs. search needs) returns returns-2)

@@ -7,21 +7,9 @@ use borrow.Author.Needs.{needs}
 use Rattle.rack.proofs.supply.over.Statement.{statement}
 use Rattle.rack.proofs.supply.over.Tie as tie
 
-same-fronts-requires : tie.Need-same-fronts-requires
-same-fronts-requires c κs = search needs
-
 returns : tie.Need-returns
 unfolding over
 returns c = rw (sym (c .before .same-fronts .ensures) ∙ c .if1 .taken)
-
-draw-requires : tie.Need-draw-requires
-draw-requires c κs = search needs
-
-put-draw-requires : tie.Need-put-draw-requires
-put-draw-requires c κs = search needs
-
-sum-requires : tie.Need-sum-requires
-sum-requires c κs = search needs
 
 returns-2 : tie.Need-returns-2
 unfolding over
@@ -34,4 +22,4 @@ returns-2 c =
     (ap (ltb supply) (c .sum .ensures ∙ ap sumOf (p .put-draw .ensures ∙ ap (set (a .draws) (a .at)) (v .draw .ensures))))
 
 pub over-spec : {M : Type 1} → statement M
-over-spec = tie.close (tie.spec same-fronts-requires returns draw-requires put-draw-requires sum-requires returns-2)
+over-spec = tie.close (tie.spec (λ c κs. search needs) returns (λ c κs. search needs) (λ c κs. search needs) (λ c κs. search needs) returns-2)

@@ -7,12 +7,6 @@ use Rattle.rack.proofs.Rows.{set-past}
 use Rattle.rack.proofs.supply.put_draw.Statement.{statement}
 use Rattle.rack.proofs.supply.put_draw.Tie as tie
 
-array-write-next : tie.Need-array-write-next
-array-write-next c = search needs
-
-returns : tie.Need-returns
-returns c = search needs
-
 returns-2 : tie.Need-returns-2
 returns-2 c =
     let a = c .before .args in
@@ -21,4 +15,4 @@ returns-2 c =
     sym (set-past (a .draws) (a .at) (a .v) (omega (arith, long, past)))
 
 pub put-draw-spec : {M : Type 1} → statement M
-put-draw-spec = tie.close (tie.spec array-write-next returns returns-2)
+put-draw-spec = tie.close (tie.spec (λ c. search needs) (λ c. search needs) returns-2)

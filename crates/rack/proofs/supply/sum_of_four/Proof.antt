@@ -5,18 +5,9 @@ use Rattle.rack.specs.Supply.{sumOf}
 use Rattle.rack.proofs.supply.sum_of_four.Statement.{statement}
 use Rattle.rack.proofs.supply.sum_of_four.Tie as tie
 
-add-result : tie.Need-add-result
-add-result c = search needs
-
-add-result-2 : tie.Need-add-result-2
-add-result-2 c = search needs
-
-add-result-3 : tie.Need-add-result-3
-add-result-3 c = search needs
-
 returns : tie.Need-returns
 unfolding sumOf
 returns c = omega arith
 
 pub sum-of-four-spec : {M : Type 1} → statement M
-sum-of-four-spec = tie.close (tie.spec add-result add-result-2 add-result-3 returns)
+sum-of-four-spec = tie.close (tie.spec (λ c. search needs) (λ c. search needs) (λ c. search needs) returns)

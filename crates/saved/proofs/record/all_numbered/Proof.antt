@@ -32,9 +32,6 @@ loop-holds : tie.Need-loop-holds Inv-loop μ-loop
 unfolding every listed
 loop-holds c = (zero-le, refl)
 
-cast-at : tie.Need-cast-at Inv-loop μ-loop
-cast-at c = search needs
-
 mul-at : tie.Need-mul-at Inv-loop μ-loop
 mul-at c =
     let l = c .before .loop in
@@ -51,21 +48,12 @@ add-at c =
     let inside = room (l .i) (a .count) (a .step) (a .start) (length (a .bytes .now)) (omega arith) (p .0) (p .1) in
     omega (arith, inside)
 
-add-numbered-at : tie.Need-add-numbered-at Inv-loop μ-loop
-add-numbered-at c = search needs
-
 numbered-at-requires : tie.Need-numbered-at-requires Inv-loop μ-loop
 numbered-at-requires c κs =
     let l = c .before .loop in
     let a = c .before .before .before .args in
     let p = c .before .before .before .pre in
     room (l .i) (a .count) (a .step) (a .start) (length (a .bytes .now)) (omega arith) (p .0) (p .1)
-
-add-i : tie.Need-add-i Inv-loop μ-loop
-add-i c = search needs
-
-loop-less : tie.Need-loop-less Inv-loop μ-loop
-loop-less c = search needs
 
 loop-again : tie.Need-loop-again Inv-loop μ-loop
 loop-again c =
@@ -88,12 +76,12 @@ all-numbered-spec =
     Inv-loop
     μ-loop
     loop-holds
-    cast-at
+    (λ c. search needs)
     mul-at
     add-at
-    add-numbered-at
+    (λ c. search needs)
     numbered-at-requires
-    add-i
-    loop-less
+    (λ c. search needs)
+    (λ c. search needs)
     loop-again
     returns)

@@ -16,17 +16,11 @@ inside s =
     let h : a .i < a .i + 1 = omega arith in
     omega (arith, cell-inside (a .i + 1) (a .width) (a .i) h, s .pre .0)
 
-add-at : tie.Need-add-at
-add-at c = search needs
-
 mul-at : tie.Need-mul-at
 mul-at c = omega (arith, inside (c .before))
 
 add-at-2 : tie.Need-add-at-2
 add-at-2 c = omega (arith, inside (c .before))
-
-add-t6 : tie.Need-add-t6
-add-t6 c = search needs
 
 add-t7 : tie.Need-add-t7
 add-t7 c = omega (arith, inside (c .before))
@@ -34,26 +28,17 @@ add-t7 c = omega (arith, inside (c .before))
 shared-slice-read-t9 : tie.Need-shared-slice-read-t9
 shared-slice-read-t9 c = omega (arith, inside (c .before .before))
 
-add-t10 : tie.Need-add-t10
-add-t10 c = search needs
-
 add-t11 : tie.Need-add-t11
 add-t11 c = omega (arith, inside (c .before .before))
 
 shared-slice-read-t13 : tie.Need-shared-slice-read-t13
 shared-slice-read-t13 c = omega (arith, inside (c .before .before .before))
 
-add-t14 : tie.Need-add-t14
-add-t14 c = search needs
-
 add-t15 : tie.Need-add-t15
 add-t15 c = omega (arith, inside (c .before .before .before))
 
 shared-slice-read-t17 : tie.Need-shared-slice-read-t17
 shared-slice-read-t17 c = omega (arith, inside (c .before .before .before .before))
-
-add-t18 : tie.Need-add-t18
-add-t18 c = search needs
 
 add-t19 : tie.Need-add-t19
 add-t19 c = omega (arith, inside (c .before .before .before .before))
@@ -81,19 +66,19 @@ pub cell-in-spec : {M : Type 1} → statement M
 cell-in-spec =
     tie.close
     (tie.spec
-    add-at
+    (λ c. search needs)
     mul-at
     add-at-2
-    add-t6
+    (λ c. search needs)
     add-t7
     shared-slice-read-t9
-    add-t10
+    (λ c. search needs)
     add-t11
     shared-slice-read-t13
-    add-t14
+    (λ c. search needs)
     add-t15
     shared-slice-read-t17
-    add-t18
+    (λ c. search needs)
     add-t19
     shared-slice-read-t21
     add-t6-2

@@ -31,18 +31,6 @@ load-cell-requires c κs =
     let next : l .i + 1 ≤ a .n = omega arith in
     (omega (arith, mul-le-mul-right (cellLength (a .width)) next), (search needs, search needs))
 
-mul-next : tie.Need-mul-next Inv-loop μ-loop
-mul-next c = search needs
-
-array-set-from-next : tie.Need-array-set-from-next Inv-loop μ-loop
-array-set-from-next c = search needs
-
-add-i : tie.Need-add-i Inv-loop μ-loop
-add-i c = search needs
-
-loop-less : tie.Need-loop-less Inv-loop μ-loop
-loop-less c = search needs
-
 loop-again : tie.Need-loop-again Inv-loop μ-loop
 loop-again c =
     let l = c .before .before .loop in
@@ -65,9 +53,9 @@ cells-in-spec =
     μ-loop
     loop-holds
     load-cell-requires
-    mul-next
-    array-set-from-next
-    add-i
-    loop-less
+    (λ c. search needs)
+    (λ c. search needs)
+    (λ c. search needs)
+    (λ c. search needs)
     loop-again
     returns)

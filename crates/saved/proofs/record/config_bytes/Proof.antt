@@ -8,18 +8,6 @@ use borrow.Author.Needs.{needs}
 use Rattle.saved.proofs.record.config_bytes.Statement.{statement}
 use Rattle.saved.proofs.record.config_bytes.Tie as tie
 
-cast-t4 : tie.Need-cast-t4
-cast-t4 c = search needs
-
-cast-t7 : tie.Need-cast-t7
-cast-t7 c = search needs
-
-cast-t10 : tie.Need-cast-t10
-cast-t10 c = search needs
-
-cast-t12 : tie.Need-cast-t12
-cast-t12 c = search needs
-
 returns : tie.Need-returns
 unfolding bigEndian
 returns c =
@@ -27,4 +15,4 @@ returns c =
     λ k. v / 16777216 % 256 ∷ v / 65536 % 256 ∷ v / 256 % 256 ∷ sym (div-one v) k % 256 ∷ []
 
 pub config-bytes-spec : {M : Type 1} → statement M
-config-bytes-spec = tie.close (tie.spec cast-t4 cast-t7 cast-t10 cast-t12 returns)
+config-bytes-spec = tie.close (tie.spec (λ c. search needs) (λ c. search needs) (λ c. search needs) (λ c. search needs) returns)

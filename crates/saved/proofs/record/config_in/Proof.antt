@@ -22,12 +22,6 @@ loop-holds c = (zero-le, refl, omega arith)
 mul-v : tie.Need-mul-v Inv-loop μ-loop
 mul-v c = omega (arith, value-room (c .before .loop .v) (c .before .loop .i) (search needs) (c .before .loop .inv .2))
 
-add-v : tie.Need-add-v Inv-loop μ-loop
-add-v c = search needs
-
-shared-slice-read-v : tie.Need-shared-slice-read-v Inv-loop μ-loop
-shared-slice-read-v c = search needs
-
 cast-v : tie.Need-cast-v Inv-loop μ-loop
 cast-v c = omega (arith, c .shared-slice-known .given (c .before .before .before .args .at + c .before .before .loop .i))
 
@@ -36,12 +30,6 @@ add-v-2 c =
     let l = c .before .before .loop in
     let a = c .before .before .before .args in
     omega (arith, value-room (l .v) (l .i) (search needs) (l .inv .2), c .shared-slice-known .given (a .at + l .i))
-
-add-i : tie.Need-add-i Inv-loop μ-loop
-add-i c = search needs
-
-loop-less : tie.Need-loop-less Inv-loop μ-loop
-loop-less c = search needs
 
 loop-again : tie.Need-loop-again Inv-loop μ-loop
 loop-again c =
@@ -69,11 +57,11 @@ config-in-spec =
     μ-loop
     loop-holds
     mul-v
-    add-v
-    shared-slice-read-v
+    (λ c. search needs)
+    (λ c. search needs)
     cast-v
     add-v-2
-    add-i
-    loop-less
+    (λ c. search needs)
+    (λ c. search needs)
     loop-again
     returns)

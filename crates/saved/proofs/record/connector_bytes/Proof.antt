@@ -5,12 +5,9 @@ use Rattle.saved.specs.Record.{connectorField}
 use Rattle.saved.proofs.record.connector_bytes.Statement.{statement}
 use Rattle.saved.proofs.record.connector_bytes.Tie as tie
 
-add-t3 : tie.Need-add-t3
-add-t3 c = search needs
-
 returns : tie.Need-returns
 unfolding connectorField
 returns c = refl
 
 pub connector-bytes-spec : {M : Type 1} → statement M
-connector-bytes-spec = tie.close (tie.spec add-t3 returns)
+connector-bytes-spec = tie.close (tie.spec (λ c. search needs) returns)

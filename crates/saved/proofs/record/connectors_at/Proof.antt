@@ -6,9 +6,6 @@ use Rattle.saved.proofs.Forms.{cells-small}
 use Rattle.saved.proofs.record.connectors_at.Statement.{statement}
 use Rattle.saved.proofs.record.connectors_at.Tie as tie
 
-add-result : tie.Need-add-result
-add-result c = search needs
-
 mul-result : tie.Need-mul-result
 mul-result c = omega (arith, cells-small (c .args .n) (c .args .width) (search needs) (search needs))
 
@@ -19,4 +16,4 @@ returns : tie.Need-returns
 returns c = (refl, omega (arith, cells-small (c .args .n) (c .args .width) (search needs) (search needs)))
 
 pub connectors-at-spec : {M : Type 1} → statement M
-connectors-at-spec = tie.close (tie.spec add-result mul-result add-result-2 returns)
+connectors-at-spec = tie.close (tie.spec (λ c. search needs) mul-result add-result-2 returns)

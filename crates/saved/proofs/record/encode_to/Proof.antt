@@ -8,24 +8,6 @@ use borrow.Author.Needs.{needs}
 use Rattle.saved.proofs.record.encode_to.Statement.{statement}
 use Rattle.saved.proofs.record.encode_to.Tie as tie
 
-slice-aggregate-copy : tie.Need-slice-aggregate-copy
-slice-aggregate-copy c = search needs
-
-copy-requires : tie.Need-copy-requires
-copy-requires c κs = search needs
-
-put-cells-requires : tie.Need-put-cells-requires
-put-cells-requires c κs = search needs
-
-connectors-at-requires : tie.Need-connectors-at-requires
-connectors-at-requires c κs = search needs
-
-put-connectors-requires : tie.Need-put-connectors-requires
-put-connectors-requires c κs = search needs
-
-same-length : tie.Need-same-length
-same-length c = search needs
-
 returns : tie.Need-returns
 unfolding encode
 returns c =
@@ -42,10 +24,10 @@ pub encode-to-spec : {M : Type 1} → statement M
 encode-to-spec =
     tie.close
     (tie.spec
-    slice-aggregate-copy
-    copy-requires
-    put-cells-requires
-    connectors-at-requires
-    put-connectors-requires
-    same-length
+    (λ c. search needs)
+    (λ c κs. search needs)
+    (λ c κs. search needs)
+    (λ c κs. search needs)
+    (λ c κs. search needs)
+    (λ c. search needs)
     returns)

@@ -6,15 +6,6 @@ use Rattle.saved.specs.Record.{loadNumberAs, loadedAs, loadNumber, loade
 use Rattle.saved.proofs.record.load.Statement.{statement}
 use Rattle.saved.proofs.record.load.Tie as tie
 
-cells-for-requires : tie.Need-cells-for-requires
-cells-for-requires c κs = search needs
-
-width-of-requires : tie.Need-width-of-requires
-width-of-requires c κs = search needs
-
-load-as-requires : tie.Need-load-as-requires
-load-as-requires c κs = search needs
-
 returns : tie.Need-returns
 unfolding loadNumber loaded
 returns c =
@@ -28,4 +19,4 @@ returns c =
     )
 
 pub load-spec : {M : Type 1} → statement M
-load-spec = tie.close (tie.spec cells-for-requires width-of-requires load-as-requires returns)
+load-spec = tie.close (tie.spec (λ c κs. search needs) (λ c κs. search needs) (λ c κs. search needs) returns)

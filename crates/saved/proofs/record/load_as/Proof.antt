@@ -55,9 +55,6 @@ tested c =
     ∙ valid-from (a .n) (a .width) bytes (cells .cells-in .result) (drop (a .n) (a .card .cells)) (cells .cells-in .ensures) in
     number (heads .before) ∙ rw found (ap (λ (v : Bool). cond v 0 15) (sym same))
 
-is-headed-requires : tie.Need-is-headed-requires
-is-headed-requires c κs = search needs
-
 returns : tie.Need-returns
 returns c =
     let a = c .before .before .before .args in
@@ -70,23 +67,8 @@ shared-slice-read-trigger c = omega (arith, long (c .before))
 cells-in-requires : tie.Need-cells-in-requires
 cells-in-requires c κs = (omega (arith, long (c .before .before .before)), (search needs, search needs))
 
-each-of-requires : tie.Need-each-of-requires
-each-of-requires c κs = search needs
-
 connectors-in-requires : tie.Need-connectors-in-requires
 connectors-in-requires c κs = (search needs, (long (c .before .before .before .before .before), search needs))
-
-from-each-requires : tie.Need-from-each-requires
-from-each-requires c κs = search needs
-
-all-edited-requires : tie.Need-all-edited-requires
-all-edited-requires c κs = search needs
-
-started-requires : tie.Need-started-requires
-started-requires c κs = search needs
-
-valid-settings-requires : tie.Need-valid-settings-requires
-valid-settings-requires c κs = search needs
 
 returns-2 : tie.Need-returns-2
 returns-2 c =
@@ -112,15 +94,15 @@ pub load-as-spec : {M : Type 1} → statement M
 load-as-spec =
     tie.close
     (tie.spec
-    is-headed-requires
+    (λ c κs. search needs)
     returns
     shared-slice-read-trigger
     cells-in-requires
-    each-of-requires
+    (λ c κs. search needs)
     connectors-in-requires
-    from-each-requires
-    all-edited-requires
-    started-requires
-    valid-settings-requires
+    (λ c κs. search needs)
+    (λ c κs. search needs)
+    (λ c κs. search needs)
+    (λ c κs. search needs)
     returns-2
     returns-3)

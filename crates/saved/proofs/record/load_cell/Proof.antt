@@ -4,15 +4,9 @@ use borrow.Author.Needs.{needs}
 use Rattle.saved.proofs.record.load_cell.Statement.{statement}
 use Rattle.saved.proofs.record.load_cell.Tie as tie
 
-cell-in-requires : tie.Need-cell-in-requires
-cell-in-requires c κs = search needs
-
-normal-config-requires : tie.Need-normal-config-requires
-normal-config-requires c κs = search needs
-
 returns : tie.Need-returns
 unfolding normalCell
 returns c = cc
 
 pub load-cell-spec : {M : Type 1} → statement M
-load-cell-spec = tie.close (tie.spec cell-in-requires normal-config-requires returns)
+load-cell-spec = tie.close (tie.spec (λ c κs. search needs) (λ c κs. search needs) returns)

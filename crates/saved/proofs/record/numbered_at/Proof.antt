@@ -7,27 +7,6 @@ use borrow.Author.Needs.{needs}
 use Rattle.saved.proofs.record.numbered_at.Statement.{statement}
 use Rattle.saved.proofs.record.numbered_at.Tie as tie
 
-shared-slice-read-head : tie.Need-shared-slice-read-head
-shared-slice-read-head c = search needs
-
-add-head : tie.Need-add-head
-add-head c = search needs
-
-shared-slice-read-head-2 : tie.Need-shared-slice-read-head-2
-shared-slice-read-head-2 c = search needs
-
-add-head-2 : tie.Need-add-head-2
-add-head-2 c = search needs
-
-shared-slice-read-head-3 : tie.Need-shared-slice-read-head-3
-shared-slice-read-head-3 c = search needs
-
-add-result : tie.Need-add-result
-add-result c = search needs
-
-shared-slice-read-result : tie.Need-shared-slice-read-result
-shared-slice-read-result c = search needs
-
 returns : tie.Need-returns
 unfolding startsAt numberedAt
 returns c =
@@ -40,11 +19,11 @@ pub numbered-at-spec : {M : Type 1} → statement M
 numbered-at-spec =
     tie.close
     (tie.spec
-    shared-slice-read-head
-    add-head
-    shared-slice-read-head-2
-    add-head-2
-    shared-slice-read-head-3
-    add-result
-    shared-slice-read-result
+    (λ c. search needs)
+    (λ c. search needs)
+    (λ c. search needs)
+    (λ c. search needs)
+    (λ c. search needs)
+    (λ c. search needs)
+    (λ c. search needs)
     returns)

@@ -15,42 +15,6 @@ use Rattle.saved.proofs.record.put_cell.Tie as tie
 four-slots : (s : tie.Start) → length (s .args .cell .slots) ≡ 4
 four-slots s = search needs
 
-cast-t11 : tie.Need-cast-t11
-cast-t11 c = search needs
-
-add-t12 : tie.Need-add-t12
-add-t12 c = search needs
-
-add-t13 : tie.Need-add-t13
-add-t13 c = search needs
-
-config-bytes-requires : tie.Need-config-bytes-requires
-config-bytes-requires c κs = search needs
-
-slice-aggregate-copy : tie.Need-slice-aggregate-copy
-slice-aggregate-copy c = search needs
-
-copy-requires : tie.Need-copy-requires
-copy-requires c κs = search needs
-
-sub-copy : tie.Need-sub-copy
-sub-copy c = search needs
-
-sub-copy-2 : tie.Need-sub-copy-2
-sub-copy-2 c = search needs
-
-part-copy-start : tie.Need-part-copy-start
-part-copy-start c = search needs
-
-part-copy-end : tie.Need-part-copy-end
-part-copy-end c = search needs
-
-copy-requires-2 : tie.Need-copy-requires-2
-copy-requires-2 c κs = search needs
-
-slice-aggregate-copy-2 : tie.Need-slice-aggregate-copy-2
-slice-aggregate-copy-2 c = search needs
-
 copy-requires-3 : tie.Need-copy-requires-3
 copy-requires-3 c κs =
     let second = c .before .before .before .before in
@@ -61,9 +25,6 @@ copy-requires-3 c κs =
     let four = four-slots start in
     let low = big-low 4 (a .width) (a .cell .config) (made .result) (start .pre .1 .0) (made .ensures) in
     omega (arith, four, second .copy2 .ensures .1, first .copy .ensures .1, ap length low, length-big (a .width) (a .cell .config))
-
-same-length : tie.Need-same-length
-same-length c = search needs
 
 returns : tie.Need-returns
 returns c =
@@ -87,18 +48,18 @@ pub put-cell-spec : {M : Type 1} → statement M
 put-cell-spec =
     tie.close
     (tie.spec
-    cast-t11
-    add-t12
-    add-t13
-    config-bytes-requires
-    slice-aggregate-copy
-    copy-requires
-    sub-copy
-    sub-copy-2
-    part-copy-start
-    part-copy-end
-    copy-requires-2
-    slice-aggregate-copy-2
+    (λ c. search needs)
+    (λ c. search needs)
+    (λ c. search needs)
+    (λ c κs. search needs)
+    (λ c. search needs)
+    (λ c κs. search needs)
+    (λ c. search needs)
+    (λ c. search needs)
+    (λ c. search needs)
+    (λ c. search needs)
+    (λ c κs. search needs)
+    (λ c. search needs)
     copy-requires-3
-    same-length
+    (λ c. search needs)
     returns)

@@ -24,18 +24,6 @@ loop-holds c =
     let a = c .before .args in
     fields-none (cellField (a .width)) (cellLength (a .width)) triggerLength (length (a .out .now)) (a .n) (a .t3) (a .out .now) refl
 
-cast-at : tie.Need-cast-at Inv-loop μ-loop
-cast-at c = search needs
-
-mul-cell : tie.Need-mul-cell Inv-loop μ-loop
-mul-cell c = search needs
-
-array-copy-out-cell : tie.Need-array-copy-out-cell Inv-loop μ-loop
-array-copy-out-cell c = search needs
-
-add-put-cell : tie.Need-add-put-cell Inv-loop μ-loop
-add-put-cell c = search needs
-
 mul-put-cell : tie.Need-mul-put-cell Inv-loop μ-loop
 mul-put-cell c =
     let l = c .before .before .before .loop in
@@ -54,12 +42,6 @@ put-cell-requires c κs =
     let a = c .before .before .before .before .before .args in
     (omega (arith, cell-inside (a .n) (a .width) (l .i) (omega arith)), (search needs, search needs))
 
-add-i : tie.Need-add-i Inv-loop μ-loop
-add-i c = search needs
-
-loop-less : tie.Need-loop-less Inv-loop μ-loop
-loop-less c = search needs
-
 loop-again : tie.Need-loop-again Inv-loop μ-loop
 loop-again c =
     let a = c .before .before .before .before .before .before .before .before .args in
@@ -68,9 +50,6 @@ loop-again c =
     let field = cellField (a .width) in
     fields-stored-next field (cellLength (a .width)) triggerLength (l .i) (a .t3) noCell (field (l .i) (getD (a .t3) (l .i) noCell)) (search needs) refl
     (l .inv .2) (length (a .out .now)) (a .n) (a .out .now) (l .out) _ _ (l .inv) (search needs) (put .ensures .1) refl (put .ensures .0)
-
-same-length : tie.Need-same-length Inv-loop μ-loop
-same-length c = search needs
 
 returns : tie.Need-returns Inv-loop μ-loop
 returns c =
@@ -89,15 +68,15 @@ put-cells-spec =
     Inv-loop
     μ-loop
     loop-holds
-    cast-at
-    mul-cell
-    array-copy-out-cell
-    add-put-cell
+    (λ c. search needs)
+    (λ c. search needs)
+    (λ c. search needs)
+    (λ c. search needs)
     mul-put-cell
     add-put-cell-2
     put-cell-requires
-    add-i
-    loop-less
+    (λ c. search needs)
+    (λ c. search needs)
     loop-again
-    same-length
+    (λ c. search needs)
     returns)

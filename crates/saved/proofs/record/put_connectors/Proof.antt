@@ -23,36 +23,6 @@ loop-holds c =
     let a = c .before .args in
     fields-none connectorField connectorLength (a .start) (length (a .out .now)) connectorCount (a .t3) (a .out .now) refl
 
-cast-at : tie.Need-cast-at Inv-loop μ-loop
-cast-at c = search needs
-
-mul-connector-bytes : tie.Need-mul-connector-bytes Inv-loop μ-loop
-mul-connector-bytes c = search needs
-
-array-copy-out-connector-bytes : tie.Need-array-copy-out-connector-bytes Inv-loop μ-loop
-array-copy-out-connector-bytes c = search needs
-
-connector-bytes-requires : tie.Need-connector-bytes-requires Inv-loop μ-loop
-connector-bytes-requires c κs = search needs
-
-mul-copy : tie.Need-mul-copy Inv-loop μ-loop
-mul-copy c = search needs
-
-add-copy : tie.Need-add-copy Inv-loop μ-loop
-add-copy c = search needs
-
-slice-aggregate-copy : tie.Need-slice-aggregate-copy Inv-loop μ-loop
-slice-aggregate-copy c = search needs
-
-copy-requires : tie.Need-copy-requires Inv-loop μ-loop
-copy-requires c κs = search needs
-
-add-k : tie.Need-add-k Inv-loop μ-loop
-add-k c = search needs
-
-loop-less : tie.Need-loop-less Inv-loop μ-loop
-loop-less c = search needs
-
 loop-again : tie.Need-loop-again Inv-loop μ-loop
 loop-again c =
     let a = c .before .before .before .before .before .before .before .before .before .before .args in
@@ -60,9 +30,6 @@ loop-again c =
     let made = c .before .before .before .before .before .connector-bytes in
     fields-stored-next connectorField connectorLength (a .start) (l .k) (a .t3) noConnector (made .result) (search needs) (made .ensures) (l .inv .2)
     (length (a .out .now)) connectorCount (a .out .now) (l .out) _ _ (l .inv) (search needs) (search needs) (omega arith) (c .before .before .copy .ensures .0)
-
-same-length : tie.Need-same-length Inv-loop μ-loop
-same-length c = search needs
 
 returns : tie.Need-returns Inv-loop μ-loop
 returns c =
@@ -78,16 +45,16 @@ put-connectors-spec =
     Inv-loop
     μ-loop
     loop-holds
-    cast-at
-    mul-connector-bytes
-    array-copy-out-connector-bytes
-    connector-bytes-requires
-    mul-copy
-    add-copy
-    slice-aggregate-copy
-    copy-requires
-    add-k
-    loop-less
+    (λ c. search needs)
+    (λ c. search needs)
+    (λ c. search needs)
+    (λ c κs. search needs)
+    (λ c. search needs)
+    (λ c. search needs)
+    (λ c. search needs)
+    (λ c κs. search needs)
+    (λ c. search needs)
+    (λ c. search needs)
     loop-again
-    same-length
+    (λ c. search needs)
     returns)

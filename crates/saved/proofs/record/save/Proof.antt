@@ -18,26 +18,11 @@ module _ (len r m : ℕ) (e : r ≡ m) where
   roomy : r ≤ len → ltb len m ≡ false
   roomy h = le-ltb len m (omega arith)
 
-cells-for-requires : tie.Need-cells-for-requires
-cells-for-requires c κs = search needs
-
-record-length-requires : tie.Need-record-length-requires
-record-length-requires c κs = search needs
-
 returns : tie.Need-returns
 unfolding savedTo
 returns c =
     let full = short _ _ _ (c .before .record-length .ensures) (c .if1 .taken) in
     (rw full, rw full)
-
-each-of-requires : tie.Need-each-of-requires
-each-of-requires c κs = search needs
-
-encode-to-requires : tie.Need-encode-to-requires
-encode-to-requires c κs = search needs
-
-same-length : tie.Need-same-length
-same-length c = search needs
 
 returns-2 : tie.Need-returns-2
 unfolding savedTo recordOf
@@ -50,4 +35,4 @@ returns-2 c =
 pub save-spec : {M : Type 1} → statement M
 save-spec =
     tie.close
-    (tie.spec cells-for-requires record-length-requires returns each-of-requires encode-to-requires same-length returns-2)
+    (tie.spec (λ c κs. search needs) (λ c κs. search needs) returns (λ c κs. search needs) (λ c κs. search needs) (λ c. search needs) returns-2)

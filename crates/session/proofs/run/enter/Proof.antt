@@ -7,29 +7,11 @@ use borrow.Author.Needs.{needs}
 use Rattle.session.proofs.run.enter.Statement.{statement}
 use Rattle.session.proofs.run.enter.Tie as tie
 
-sub-enter : tie.Need-sub-enter
-sub-enter c = search needs
-
-part-enter-start : tie.Need-part-enter-start
-part-enter-start c = search needs
-
-part-enter-end : tie.Need-part-enter-end
-part-enter-end c = search needs
-
-enter-requires : tie.Need-enter-requires
-enter-requires c κs = search needs
-
 add-t12 : tie.Need-add-t12
 add-t12 c =
     let n = c .before .before .before .before .before .before in
     let start = n .before .before .before .before .before .before .before in
     omega (arith, n .enter .ensures .fits, start .pre)
-
-same-length : tie.Need-same-length
-same-length c = search needs
-
-same-length-2 : tie.Need-same-length-2
-same-length-2 c = search needs
 
 returns : tie.Need-returns
 returns c =
@@ -45,11 +27,11 @@ pub enter-spec : {M : Type 1} → statement M
 enter-spec =
     tie.close
     (tie.spec
-    sub-enter
-    part-enter-start
-    part-enter-end
-    enter-requires
+    (λ c. search needs)
+    (λ c. search needs)
+    (λ c. search needs)
+    (λ c κs. search needs)
     add-t12
-    same-length
-    same-length-2
+    (λ c. search needs)
+    (λ c. search needs)
     returns)

@@ -6,18 +6,6 @@ use borrow.Author.Needs.{needs}
 use Rattle.session.proofs.run.run_over.Statement.{statement}
 use Rattle.session.proofs.run.run_over.Tie as tie
 
-fresh-requires : tie.Need-fresh-requires
-fresh-requires c κs = search needs
-
-slice-aggregate-take-lines : tie.Need-slice-aggregate-take-lines
-slice-aggregate-take-lines c = search needs
-
-take-lines-requires : tie.Need-take-lines-requires
-take-lines-requires c κs = search needs
-
-same-length : tie.Need-same-length
-same-length c = search needs
-
 returns : tie.Need-returns
 unfolding fresh
 returns c =
@@ -31,4 +19,4 @@ returns c =
 pub run-over-spec : {M : Type 1} → statement M
 run-over-spec =
     tie.close
-    (tie.spec fresh-requires slice-aggregate-take-lines take-lines-requires same-length returns)
+    (tie.spec (λ c κs. search needs) (λ c. search needs) (λ c κs. search needs) (λ c. search needs) returns)

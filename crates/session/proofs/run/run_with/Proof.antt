@@ -20,9 +20,6 @@ Inv-loop input output line₀ block₀ out₀ store₀ r₀ line block out store
 abbrev μ-loop : tie.MeasureT-loop
 μ-loop input output line₀ block₀ out₀ store₀ r₀ line block out store r = r .left
 
-start-requires : tie.Need-start-requires Inv-loop μ-loop
-start-requires c κs = search needs
-
 loop-holds : tie.Need-loop-holds Inv-loop μ-loop
 unfolding fresh
 loop-holds c =
@@ -89,7 +86,7 @@ run-with-spec =
     (tie.spec
     Inv-loop
     μ-loop
-    start-requires
+    (λ c κs. search needs)
     loop-holds
     turn-requires
     loop-less

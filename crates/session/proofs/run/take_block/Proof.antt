@@ -11,21 +11,6 @@ use borrow.Author.Needs.{needs}
 use Rattle.session.proofs.run.take_block.Statement.{statement}
 use Rattle.session.proofs.run.take_block.Tie as tie
 
-take-lines-requires : tie.Need-take-lines-requires
-take-lines-requires c κs = search needs
-
-sub-keep : tie.Need-sub-keep
-sub-keep c = search needs
-
-part-keep-start : tie.Need-part-keep-start
-part-keep-start c = search needs
-
-part-keep-end : tie.Need-part-keep-end
-part-keep-end c = search needs
-
-keep-requires : tie.Need-keep-requires
-keep-requires c κs = search needs
-
 returns : tie.Need-returns
 returns c =
     let t = c .before .before .before .before in
@@ -47,4 +32,4 @@ returns c =
 pub take-block-spec : {M : Type 1} → statement M
 take-block-spec =
     tie.close
-    (tie.spec take-lines-requires sub-keep part-keep-start part-keep-end keep-requires returns)
+    (tie.spec (λ c κs. search needs) (λ c. search needs) (λ c. search needs) (λ c. search needs) (λ c κs. search needs) returns)

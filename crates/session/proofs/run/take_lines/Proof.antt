@@ -31,9 +31,6 @@ Inv-loop block n store₀ out₀ s₀ start₀ end₀ store out s start end =
 abbrev μ-loop : tie.MeasureT-loop
 μ-loop block n store₀ out₀ s₀ start₀ end₀ store out s start end = n - end
 
-line-end-requires : tie.Need-line-end-requires Inv-loop μ-loop
-line-end-requires c κs = search needs
-
 loop-holds : tie.Need-loop-holds Inv-loop μ-loop
 loop-holds c =
     let o = c .before .before .before .before in
@@ -54,15 +51,6 @@ loop-holds c =
 sub-if1 : tie.Need-sub-if1 Inv-loop μ-loop
 sub-if1 c = let i = c .before .before .loop .inv in omega (arith, i .6, i .7)
 
-sub-enter : tie.Need-sub-enter Inv-loop μ-loop
-sub-enter c = search needs
-
-part-enter-start : tie.Need-part-enter-start Inv-loop μ-loop
-part-enter-start c = search needs
-
-part-enter-end : tie.Need-part-enter-end Inv-loop μ-loop
-part-enter-end c = search needs
-
 enter-requires : tie.Need-enter-requires Inv-loop μ-loop
 enter-requires c κs =
     let t = c .before .before .before in
@@ -82,9 +70,6 @@ line-end-requires-2 c κs =
     let t = c .before .before .before .before .before .before .before .before .before .before in
     let o = t .before .before .before .before .before .before in
     (omega (arith, t .loop-test .taken), o .pre .1 .0)
-
-loop-less : tie.Need-loop-less Inv-loop μ-loop
-loop-less c = search needs
 
 loop-again : tie.Need-loop-again Inv-loop μ-loop
 loop-again c =
@@ -151,16 +136,16 @@ take-lines-spec =
     (tie.spec
     Inv-loop
     μ-loop
-    line-end-requires
+    (λ c κs. search needs)
     loop-holds
     sub-if1
-    sub-enter
-    part-enter-start
-    part-enter-end
+    (λ c. search needs)
+    (λ c. search needs)
+    (λ c. search needs)
     enter-requires
     add-start
     line-end-requires-2
-    loop-less
+    (λ c. search needs)
     loop-again
     same-length
     same-length-2

@@ -12,18 +12,6 @@ use borrow.Author.Needs.{needs}
 use Rattle.session.proofs.run.turn.Statement.{statement}
 use Rattle.session.proofs.run.turn.Tie as tie
 
-read-behind-requires : tie.Need-read-behind-requires
-read-behind-requires c κs = search needs
-
-add-take-block : tie.Need-add-take-block
-add-take-block c = search needs
-
-take-block-requires : tie.Need-take-block-requires
-take-block-requires c κs = search needs
-
-write-front-requires : tie.Need-write-front-requires
-write-front-requires c κs = search needs
-
 add-t31 : tie.Need-add-t31
 add-t31 c =
     let b = c .before .before .before .before .before .before .before .before .before .before .before .before in
@@ -83,10 +71,10 @@ pub turn-spec : {M : Type 1} → statement M
 turn-spec =
     tie.close
     (tie.spec
-    read-behind-requires
-    add-take-block
-    take-block-requires
-    write-front-requires
+    (λ c κs. search needs)
+    (λ c. search needs)
+    (λ c κs. search needs)
+    (λ c κs. search needs)
     add-t31
     add-t33
     sub-t34
