@@ -2,10 +2,22 @@
 
 from __future__ import annotations
 
+import sys
 import threading
-from typing import Callable, List
+from typing import Callable, Iterator, List
+
+import pytest
 
 from trigger_card import Card, Closed, Rack
+
+
+@pytest.fixture(autouse=True)
+def switching() -> Iterator[None]:
+    """Python changes threads as often as it can, so that a missing lock shows."""
+    interval = sys.getswitchinterval()
+    sys.setswitchinterval(1e-6)
+    yield
+    sys.setswitchinterval(interval)
 
 
 def together(calls: List[Callable[[], None]]) -> List[BaseException]:
@@ -42,11 +54,11 @@ def test_one_card() -> None:
         seen.extend([card.tick(0).cells for _ in range(3000)])
 
     def runs() -> None:
-        for _ in range(100):
-            seen.extend(card.run([0] * 30).cells)
+        for _ in range(20):
+            seen.extend(card.run([0] * 20000).cells)
 
     assert not together([ticks, ticks, runs, runs])
-    assert card.tallies().ticks == len(seen) == 12000 and sum(seen) == 6000
+    assert card.tallies().ticks == len(seen) == 806000 and sum(seen) == 403000
 
 
 def test_wirings_are_whole() -> None:
