@@ -41,7 +41,7 @@ pub fn read(q: &[u64; QUARTERS], address: u8) -> bool
 }
 
 // The readings of slots that hold these addresses. The slots that are not given are taken as low.
-pub fn two(q: &[u64; QUARTERS], x: u8, y: u8) -> Slots
+pub(crate) fn two(q: &[u64; QUARTERS], x: u8, y: u8) -> Slots
     ensures { λ r. ⌜ r ≡ twoFrom (now (q .entry)) x y ⌝ }
 {
     let rx = read(q, x);
@@ -54,7 +54,7 @@ pub fn two(q: &[u64; QUARTERS], x: u8, y: u8) -> Slots
     }
 }
 
-pub fn three(q: &[u64; QUARTERS], x: u8, y: u8, z: u8) -> Slots
+pub(crate) fn three(q: &[u64; QUARTERS], x: u8, y: u8, z: u8) -> Slots
     ensures { λ r. ⌜ r ≡ threeFrom (now (q .entry)) x y z ⌝ }
 {
     let rx = read(q, x);

@@ -22,14 +22,14 @@ use crate::table::Slots;
 use crate::table::packed;
 
 // The bit of the code at the place that the readings choose.
-pub fn lookup(code: Config, r: Slots) -> bool
+pub(crate) fn lookup(code: Config, r: Slots) -> bool
     ensures { λ q. ⌜ q ≡ lookupOut code r ⌝ }
 {
     words::bit(code as u64, packed(r.x, r.y, r.z, r.f))
 }
 
 // A lookup or a gate, by the readings of its slots.
-pub fn gate_out(gate: GateKind, code: Config, r: Slots) -> bool
+pub(crate) fn gate_out(gate: GateKind, code: Config, r: Slots) -> bool
     ensures { λ q. ⌜ q ≡ gateOut gate code r ⌝ }
 {
     match gate {
@@ -127,7 +127,7 @@ fn clear_d_flop(bit: bool, x: u8, y: u8, z: u8, f: u8, q: &[u64; QUARTERS]) -> b
     }
 }
 
-pub fn jk(bit: bool, x: u8, y: u8, z: u8, q: &[u64; QUARTERS]) -> bool
+pub(crate) fn jk(bit: bool, x: u8, y: u8, z: u8, q: &[u64; QUARTERS]) -> bool
     ensures { λ b. ⌜ b ≡ Work.jk (threeFrom (now (q .entry)) x y z) bit ⌝ }
 {
     if read(q, z) {
@@ -142,7 +142,7 @@ pub fn jk(bit: bool, x: u8, y: u8, z: u8, q: &[u64; QUARTERS]) -> bool
 }
 
 // One with D, by its type: 1, 12 or 18.
-pub fn flop(kind: u8, bit: bool, x: u8, y: u8, z: u8, f: u8, q: &[u64; QUARTERS]) -> bool
+pub(crate) fn flop(kind: u8, bit: bool, x: u8, y: u8, z: u8, f: u8, q: &[u64; QUARTERS]) -> bool
     ensures { λ b. ⌜ b ≡ flopNext (flopOf kind) (slotsFrom (now (q .entry)) x y z f) bit ⌝ }
 {
     match kind {
@@ -309,7 +309,7 @@ pub enum Effect {
 // Each of the families asks only for the parts of the state that matter to it, and says what
 // becomes of any state that has them.
 
-pub fn one_shot(retrigger: bool, config: Config, count: Pulses, r: Slots) -> Effect
+pub(crate) fn one_shot(retrigger: bool, config: Config, count: Pulses, r: Slots) -> Effect
     ensures { λ e. ⌜ ((bit pulse out : Bool)
         → let s = state count bit pulse in workedBy s out e ≡ workAs (OneShot retrigger) config s r) ⌝ }
 {
@@ -317,7 +317,7 @@ pub fn one_shot(retrigger: bool, config: Config, count: Pulses, r: Slots) -> Eff
     Effect::Count(count_after(took, Pulses(config), count, r))
 }
 
-pub fn delay(retrigger: bool, config: Config, count: Pulses, pulse: bool, r: Slots) -> Effect
+pub(crate) fn delay(retrigger: bool, config: Config, count: Pulses, pulse: bool, r: Slots) -> Effect
     ensures { λ e. ⌜ ((bit out : Bool)
         → let s = state count bit pulse in workedBy s out e ≡ workAs (Delay retrigger) config s r) ⌝ }
 {
@@ -326,7 +326,7 @@ pub fn delay(retrigger: bool, config: Config, count: Pulses, pulse: bool, r: Slo
     Effect::Timed(next, pulse_after(took, Pulses(config), count, pulse, r))
 }
 
-pub fn counter(counter: CounterKind, count: Pulses, bit: bool, r: Slots) -> Effect
+pub(crate) fn counter(counter: CounterKind, count: Pulses, bit: bool, r: Slots) -> Effect
     ensures { λ e. ⌜ ((pulse out : Bool)
         → let s = state count bit pulse in workedBy s out e ≡ workAs (Counter counter) 0 s r) ⌝ }
 {

@@ -75,7 +75,7 @@ fn pulled_by(connectors: Connectors, driven: u16) -> u16
 
 // All words: the connectors are driven, and then show their levels. `now` and `before` are views,
 // in which base 0 is low.
-pub fn drive(connectors: Connectors, now: u64, before: u64, sample: u16) -> Lines
+pub(crate) fn drive(connectors: Connectors, now: u64, before: u64, sample: u16) -> Lines
     requires { ⌜ bitAt now 0 ≡ false ⌝ }
     ensures { λ l. ⌜ l ≡ linesOf (bitAt now) (bitAt before) connectors sample ⌝ }
 {

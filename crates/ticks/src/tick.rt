@@ -88,7 +88,7 @@ fn stepped(
 }
 
 // The first n bits of a word.
-pub fn low(w: EditedSet, n: u8) -> CellWord
+pub(crate) fn low(w: EditedSet, n: u8) -> CellWord
     requires { ⌜ n ≤ cellRoom ⌝ }
     ensures { λ r. ⌜ r ≡ w % 2 ^ n ⌝ }
 {
@@ -151,7 +151,7 @@ fn noted(named: EditedSet, i: u32, is: bool) -> EditedSet
 // card once more.
 
 // The connectors, driven from the last tick's words, and the levels of what comes in.
-pub fn lines_in(connectors: Connectors, m: Memory, input: Input) -> Lines
+pub(crate) fn lines_in(connectors: Connectors, m: Memory, input: Input) -> Lines
     ensures { λ l. ⌜ ((n : ℕ) → n ≤ cellRoom → FitsMemory n m
         → l ≡ linesIn n m connectors (effectiveSample (input .sample) (input .attached))) ⌝ }
 {

@@ -63,7 +63,7 @@ pub const ALL: u64 = 0xffff_ffff_ffff_ffff;
 
 // The words that addresses are read from, one for each quarter of them: level, inverse, rose, fell.
 // In the last one base 0 is high, for 192.
-pub fn quarters(now: u64, before: u64) -> [u64; QUARTERS]
+pub(crate) fn quarters(now: u64, before: u64) -> [u64; QUARTERS]
     ensures { λ q. ⌜ ReadsAs q (bitAt now) (bitAt before) ⌝ }
 {
     let low = now ^ ALL;
@@ -99,7 +99,7 @@ pub fn words_last(i: u32, w: Wires) -> [u64; QUARTERS]
 }
 
 // The addresses that it reads otherwise than in the last tick that ran.
-pub fn words_moved(i: u32, below: CellWord, w: Wires) -> [u64; QUARTERS]
+pub(crate) fn words_moved(i: u32, below: CellWord, w: Wires) -> [u64; QUARTERS]
     requires { ⌜ i < 64 ⌝ }
     ensures { λ d. ⌜ ((n : ℕ) → n ≤ cellRoom → below < 2 ^ n → Fits n w
         → MovesAs d (seesNow n i w below) (sawLast n i w) (sawEarlier n i w)) ⌝ }

@@ -14,8 +14,8 @@ use Rattle.plchart.proofs.print_chart.Tie as tie
 whole : (c : tie.After-put-chart) → length (c .put-chart .last .0) ≡ textMost
 whole c = ap length (c .put-chart .ensures .0) ∙ length-sets _ 0 (chartText cellCount) ∙ length-replicate {A = ℕ} textMost 0
 
-part-write-all-end : tie.Need-part-write-all-end
-part-write-all-end c = omega (arith, whole (c .before), c .before .put-chart .ensures .1 .1)
+part-write-end : tie.Need-part-write-end
+part-write-end c = omega (arith, whole (c .before), c .before .put-chart .ensures .1 .1)
 
 pub print-chart-spec : {M : Type 1} → statement M
 print-chart-spec =
@@ -24,6 +24,6 @@ print-chart-spec =
     (λ c κs. search needs)
     (λ c. search needs)
     (λ c. search needs)
-    part-write-all-end
+    part-write-end
     (λ c κs. search needs)
     (λ c. search needs))

@@ -6,10 +6,10 @@ use Rattle.wiring_input.proofs.read_from.Statement.{statement}
 use Rattle.wiring_input.proofs.read_from.Tie as tie
 
 abbrev Inv-loop : tie.InvT-loop
-Inv-loop input cells block₀ line₀ store₀ s₀ r₀ block line store s r = Ready (s .feed .reader) × (r ≡ s .feed .reader)
+Inv-loop input cells block₀ line₀ store₀ s₀ r₀ block line store s r = Ready (s .feed .reader) × (r .left ≡ s .feed .reader .left)
 
 abbrev μ-loop : tie.MeasureT-loop
-μ-loop input cells block₀ line₀ store₀ s₀ r₀ block line store s r = s .feed .reader .left
+μ-loop input cells block₀ line₀ store₀ s₀ r₀ block line store s r = r .left
 
 pub read-from-spec : {M : Type 1} → statement M
 read-from-spec =
