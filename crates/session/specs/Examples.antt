@@ -36,7 +36,7 @@ table =
     ∷ []
 
 examples : map (λ (e : String × TickLine). tickLine (bytesOf (e .0))) table ≡ map (λ (e : String × TickLine). e .1) table
-unfolding ticks every valueBy isDigit isHex hexValue hexIn hexAt bytesOf tickLine
+unfolding ticks every valueBy isDigit isHex hexValue hexIn hexAt tickLine
 examples = refl
 
 -- ---- what is printed
@@ -74,5 +74,5 @@ prints =
     ∷ []
 
 print-examples : map (λ (e : List ℕ × String). e .0) prints ≡ map (λ (e : List ℕ × String). bytesOf (e .1) ++ (10 ∷ [])) prints
-unfolding ran idle reply bytesOf decimalFrom decimal hexDigit hexDigits cellDigits tickText loadText plainReply
+unfolding ran idle reply decimalFrom decimal hexDigit hexDigits cellDigits tickText loadText plainReply
 print-examples = refl
