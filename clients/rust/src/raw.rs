@@ -243,7 +243,7 @@ pub mod calls {
         pub len: usize,
     }
 
-    // crates/printed/src/print.rt
+    // crates/wiring/src/print.rt
     #[repr(C)]
     pub struct Printed {
         pub k: u8,
