@@ -14,13 +14,15 @@ function remarks(block) {
   return `<table class="remarks"><tbody>${rows.join('')}</tbody></table>`;
 }
 
+// A row of an example: after `> ` one or more lines, three blanks apart; after `#` their answers and a remark.
+const ROW = /^> (.*?)(?:\s+# (?:(?::A(?: \d+)?|:N-\d+|T -|T(?: [0-9a-f]{4}){3} \d+)(?: {2,}|$))+(.*))?$/;
+
 // The manual's examples load a saved card first. On the page every wiring has a fresh card of its own, so `L` at the start of one is left out.
 function runOf(block) {
-  const rows = [];
-  for (const text of block.split('\n')) {
-    if (text.startsWith('> ')) rows.push({ line: text.slice(2).replace(/\s+#.*$/, ''), remark: '' });
-    else if (rows.length && text.includes('#')) rows.at(-1).remark = text.slice(text.indexOf('#') + 1).trim();
-  }
+  const rows = block.split('\n').map((text) => text.match(ROW)).filter(Boolean).flatMap(([, lines, remark = '']) => {
+    const parts = lines.split(/ {3,}/);
+    return parts.map((line, i) => ({ line, remark: i === parts.length - 1 ? remark : '' }));
+  });
   return rows[0]?.line === 'L' ? rows.slice(1) : rows;
 }
 
