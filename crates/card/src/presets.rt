@@ -103,7 +103,7 @@ const SOURCES: [u64; SOURCE_ROWS] = [
 ];
 
 // Two rows for each preset number, read by bytes: the first cell that it sets and how many from
-// there, then that cell's type, configuration and slots X Y Z F; in the second row, behind a zero,
+// there, then that cell's type, configuration and slots X Y Z F; in the second row, after a zero,
 // 1 where the addresses in X and Y are the cell's index further, then the type, configuration and
 // slots of the other cells. No later preset sets a cell.
 const SET_CELLS: [u64; 2 * CELL_ROWS] = [
