@@ -1,4 +1,4 @@
-// The public call: a card's wiring, written to a lent buffer.
+// The public call: a card's wiring, written to a buffer that the caller gives.
 ghost use mathlib.Core.Path.{_≡_};
 ghost use Prim.Native.Nat.{_≤_};
 ghost use lib.ListN.{length};
