@@ -27,7 +27,7 @@ use cells::table::Class;
 use cells::table::class_of;
 use cells::table::row_of;
 
-// A slot of a cell, where it is used: "Y (clock) 192, always high". A semicolon stands before all
+// A slot of a cell, where it is used: "Y (clock) 192, always high". A semicolon comes before all
 // but the first.
 fn put_slot(
     out: &mut Page,

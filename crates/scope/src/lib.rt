@@ -5,7 +5,7 @@
 // takes constant memory, whatever the input: what `input::next_line` asks for, and the store. No
 // contract can say which bytes are read. `notes` is what a picture says of lines that it does not
 // show.
-pub mod notes;
+pub mod notes; // what a picture says of lines that it does not show
 
 ghost use mathlib.Core.Bool.{true};
 ghost use mathlib.Core.Path.{_≡_};
@@ -27,7 +27,7 @@ use session::refusal_of;
 use ticks::tick::Answer;
 use ticks::view::Input;
 
-// What a program lends for the whole of an input: the block, the line that has not ended, and "The
+// What a program gives for the whole of an input: the block, the line that has not ended, and "The
 // program's store starts as 308 zeros".
 pub const BUFFER: usize = input::BUFFER;
 
