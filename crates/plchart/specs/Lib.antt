@@ -1,2 +1,3 @@
+-- What a reader must believe: the definitions that the contracts cite.
 pub mod Rows
 pub mod Examples
