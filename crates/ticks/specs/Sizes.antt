@@ -1,5 +1,5 @@
 -- Document 02, "Thirty-two cells", by computation: who sees whom across all thirty-two cells, and a
--- card of sixteen cells that is handed in with bits above them. (A whole tick of thirty-two cells
+-- card of sixteen cells that is given with bits above them. (A whole tick of thirty-two cells
 -- is more than the prover computes: those run as stored sessions.)
 use Prim.Native.Nat.{ℕ}
 use mathlib.Core.Path.{_≡_, refl}

@@ -59,7 +59,7 @@ table =
     (told 3 (after true (handed 3 7 5 6 7)), 8 ∷ 6 ∷ 7 ∷ 7 ∷ [])
     ∷ (told 3 (after false (handed 3 7 5 6 7)), 8 ∷ 6 ∷ 7 ∷ 7 ∷ [])
     -- the tick that reaches the limit still counts; a tally at the limit with the total below
-    -- stands
+    -- stays
     ∷ (told 3 (after true (handed 3 4294967294 5 4294967295 7)), 4294967295 ∷ 6 ∷ 4294967295 ∷ 7 ∷ [])
     -- the next does not count
     ∷ (told 3 (after true (handed 3 4294967295 6 4294967295 7)), 4294967295 ∷ 6 ∷ 4294967295 ∷ 7 ∷ [])
