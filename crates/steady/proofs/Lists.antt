@@ -39,7 +39,7 @@ module _ (n : ℕ) where
     settled-at s zero = s
     settled-at s (suc i) = tick-settled n false (at i) input (settled-at s i)
 
-    -- behind i quick ticks, ticks of any kinds
+    -- after i quick ticks, ticks of any kinds
     pub ends-at : Settled n c → (kinds : List Bool) (i : ℕ) → end n (at i) (ticksWith n input kinds) ≡ at (i + length kinds)
     unfolding endOf afterCall quickTicks Tick.tick
     ends-at s [] i =
