@@ -207,7 +207,7 @@ pub fn bad_preset(v: Number, size: u8) -> bool
     }
 }
 
-// Whether this is the preset of a large card, and this one.
+// Whether a card is large, and this is the preset that only a large card has.
 fn is_large(v: Number, size: u8) -> bool
     ensures { λ r. ⌜ r ≡ isLarge (cellsFor size) v ⌝ }
 {

@@ -12,7 +12,7 @@ ghost use lib.ListN.{length, take, getD};
 ghost use Rattle.input.specs.Lines.{part, kept, blockLength, mostReads};
 ghost use Rattle.input.specs.Reading.{Looked, Refilled, Next};
 
-// `blockLength`: of a block of input.
+// `blockLength`: the length of a block of input.
 pub const BLOCK: usize = 2048;
 
 // `kept`: more than the 80 bytes of the longest line, so that a longer one, cut to this, is still
@@ -26,7 +26,7 @@ pub const BUFFER: usize = LINE + BLOCK;
 // read these last for more than four years.
 pub const READS: u64 = 1 << 47;
 
-// Where the line lies in a block that was given last, from `start` to its LF at `end`, and how many
+// Where the line that was given last lies in a block, from `start` to its LF at `end`, and how many
 // bytes of the block have been read.
 pub struct Reader {
     pub start: usize,

@@ -17,7 +17,7 @@ pub fn put(out: &mut Page, at: usize, bytes: &[u8]) -> usize {
     text::copy(out, at, bytes)
 }
 
-// `maxDigits`: of a number.
+// `maxDigits`: the most digits of a number.
 const DIGITS: usize = 10;
 
 // A number in decimal.

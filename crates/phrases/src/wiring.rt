@@ -167,7 +167,7 @@ fn put_changed_cell(
     put_cell(out, at, i, after)
 }
 
-// The cells that have.
+// All such cells.
 fn put_cells(
     out: &mut Page,
     at: usize,
@@ -203,7 +203,7 @@ fn put_changed_connector(
     put_connector(out, at, k, a)
 }
 
-// The connectors that have.
+// All such connectors.
 fn put_connectors(
     out: &mut Page,
     at: usize,

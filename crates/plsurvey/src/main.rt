@@ -76,7 +76,7 @@ fn others(card: Card, b: u32) -> u64
     words::with_set(set, b) ^ words::with_set(0, b)
 }
 
-// The row of a connector, where something depends on it. Whether it does.
+// The row of a connector, where something depends on it. The result is whether something does.
 fn put_row(card: Card, b: u32) -> bool
     requires { ⌜ b < 64 ⌝ }
 {
@@ -98,7 +98,7 @@ fn put_row(card: Card, b: u32) -> bool
     true
 }
 
-// The rows of all connectors. Whether there are any.
+// The rows of all connectors. The result is whether there are any.
 fn put_rows(card: Card) -> bool {
     let mut any = false;
     for b in FIRST..END {

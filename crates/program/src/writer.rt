@@ -9,7 +9,7 @@ ghost use Prim.Native.Nat.{_≤_};
 ghost use Rattle.program.specs.Writer.{roomLength};
 use libc::STDOUT_FILENO;
 
-// `roomLength`: of the buffer.
+// `roomLength`: the length of the buffer.
 pub const ROOM: usize = 65536;
 
 pub type Room = [u8; ROOM];

@@ -74,7 +74,7 @@ pub struct Feed {
 
 // ---- a line
 
-// What a line shows that is no tick, or an idle one.
+// What is shown by a line that is no tick, or an idle one: nothing.
 fn nothing() -> Shown
     ensures { λ r. ⌜ r ≡ Steps.nothing ⌝ }
 {
@@ -120,7 +120,7 @@ pub fn packed(w: Words) -> u64
     w.levels as u64 + driven + cells + woken
 }
 
-// What a tick showed that left this card.
+// What a tick that left this card showed.
 fn shown_in(t: TickDone, card: Card) -> Shown
     ensures { λ r. ⌜ r ≡ shownIn t card ⌝ }
 {
@@ -139,7 +139,7 @@ fn shown_in(t: TickDone, card: Card) -> Shown
     }
 }
 
-// What a line showed that left this card.
+// What a line that left this card showed.
 fn shown_by(event: Event, card: Card) -> Shown {
     match event {
         Event::Tick(t) => shown_in(t, card),

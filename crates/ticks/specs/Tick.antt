@@ -132,8 +132,8 @@ linesIn n m connectors sample =
 abbrev pub lines : (n : ℕ) → Card → Input → Lines
 lines n c input = linesIn n (c .memory) (c .connectors) (effectiveSample (input .sample) (input .attached))
 
--- of the cell words a card of n cells has n bits: nobody sees what a given card has above them, and
--- a tick that runs drops it
+-- of the cell words a card of n cells has n bits: no reader sees what a given card has above them,
+-- and a tick that runs drops it
 abbrev pub trimmed : (n : ℕ) → Memory → Memory
 trimmed n m =
     record {

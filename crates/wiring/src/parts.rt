@@ -17,7 +17,7 @@ use card::limits::FIRST_CELL;
 use card::limits::FIRST_CONNECTOR;
 use cells::cell::Cell;
 
-// `maxDigits`: of a number.
+// `maxDigits`: the most digits of a number.
 const DIGITS: usize = 10;
 
 // The most bytes of a line of one number, of a line of slots, of a cell and of a connector.
