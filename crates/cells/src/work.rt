@@ -253,7 +253,7 @@ fn active_after(counter: CounterKind, r: Slots, count: Pulses, active: bool) -> 
     }
 }
 
-// Whether a counter keeps that it is active.
+// The bit that a counter keeps: in types 21 and 22 whether it is active, in the others as it was.
 fn kept_active(counter: CounterKind, old: bool, new: bool) -> bool
     ensures { λ q. ⌜ q ≡ keptActive counter old new ⌝ }
 {
