@@ -91,7 +91,7 @@ run-by-block = block-by-block enters kept enters-cut
 
 -- ---- the lines of a block
 
--- where a block is: the line from `start` to `end` has not ended, or ends there
+-- how far a block is taken: the line from `start` to `end` has not ended, or ends there
 abbrev pub inBlock : State → (block store out : List ℕ) → (start end : ℕ) → RunState
 inBlock s block store out start end =
     record { done = record { card = s .card; store = store; printed = take (s .used) out }; line = part start end block }

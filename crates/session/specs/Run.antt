@@ -45,7 +45,7 @@ keptOf s = cutTo kept s
 abbrev pub outputLength : ℕ
 outputLength = longestPrint * blockLength
 
--- where a run is, by what it holds: the line and what is printed are the front of their buffers
+-- the state of a run, by what it holds: the line and what is printed are the front of their buffers
 abbrev pub stateOf : State → (store line out : List ℕ) → RunState
 stateOf s store line out = record { done = record { card = s .card; store = store; printed = take (s .used) out }; line = take (s .len) line }
 

@@ -22,7 +22,7 @@ use Rattle.text.proofs.DecimalLaws.{digit-yes, digit-no, digit-high}
 letter : (d : ℕ) → 10 ≤ d → isDigit (87 + d) ≡ false
 letter d h = digit-no (87 + d) (omega arith)
 
--- the byte of a digit is one, and has its value
+-- the byte of a digit is a digit, and has its value
 pub digit-is : (d : ℕ) → d < 16 → isHex (hexDigit d) ≡ true
 unfolding isHex hexDigit
 digit-is d h = go (decLt d 10)
