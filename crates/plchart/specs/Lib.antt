@@ -1,3 +1,3 @@
--- What a reader must believe: the definitions that the contracts cite.
+-- What a reader must believe of the printed chart: its rows.
 pub mod Rows
 pub mod Examples

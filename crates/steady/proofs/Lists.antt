@@ -1,5 +1,5 @@
--- Ticks at once among calls: on a settled card the tick calls leave the card that the quick ticks one after the other leave, and in a steady stretch each answers
--- what the first does.
+-- Ticks at once among calls: on a settled card the tick calls leave the card that the quick ticks one after the other leave, and in a steady stretch each
+-- answers what the first does.
 use Prim.Native.Nat.{ℕ, zero, suc, _+_, _≤_, _<_}
 use mathlib.Core.Path.{_≡_, refl, sym, ap, ap₂, subst, _∙_}
 use mathlib.Core.Bool.{Bool, false}
