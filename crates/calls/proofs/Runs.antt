@@ -4,7 +4,7 @@ use mathlib.Core.List.{List, [], _∷_, _++_, Forall₂, Forall₂·nil, Forall�
 use Rattle.calls.specs.Runs.{endOf, answersOf, since}
 
 module _ {S C : Type 0} (step : S → C → S) where
-  -- one list behind another
+  -- one list after another
   pub end-append : (s : S) (calls others : List C) → endOf step s (calls ++ others) ≡ endOf step (endOf step s calls) others
   unfolding endOf
   end-append s [] others = refl

@@ -17,8 +17,8 @@ use Rattle.lines.specs.Line
 use Rattle.lines.specs.Line.{lineOutcome}
 use Rattle.calls.specs.Runs.{endOf, answersOf}
 
--- a line with its text and the two buffers as lent, a load of any bytes, a tick of either kind with
--- its clock code and the lines that it has on a card
+-- a line with its text and the two buffers as given, a load of any bytes, a tick of either kind
+-- with its clock code and the lines that it has on a card
 pub data Call : Type 0 where
   line : (text reply store : List ℕ) → Call
   load : (bytes : List ℕ) → Call

@@ -1,7 +1,7 @@
 -- Document 01, "Lists of calls": ""Who wakes" goes by the calls made since the last tick that ran,
 -- or since the start, and by what that tick read." What a list of calls has edited, what its last
 -- tick read and what its last ticks were, said of the calls and not of the card's own fields; and
--- who wakes behind it.
+-- who wakes after it.
 use Prim.Native.Nat.{ℕ, _<_}
 use mathlib.Core.Path.{_≡_}
 use mathlib.Core.Bool.{Bool, true, false, _||_, cond}

@@ -1,4 +1,4 @@
--- What a reader must believe, in the order of document 01.
+-- What a reader must believe of lists of calls, in the order of document 01.
 pub mod Runs
 pub mod Calls
 pub mod Demand3

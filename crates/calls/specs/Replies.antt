@@ -1,6 +1,6 @@
 -- Document 01, "Lines": one session of a card of sixteen cells, and a short one of thirty-two, with
--- the whole text of every reply, by computation. What the contracts say of a reply they say of a
--- definition; here the texts stand as the documents have them.
+-- the exact wording of every reply, by computation. What the contracts say of a reply they say of a
+-- definition; here the replies are as the documents have them.
 use Prim.Native.Nat.{ℕ}
 use Prim.Native.String.{String}
 use mathlib.Core.Path.{_≡_, refl}

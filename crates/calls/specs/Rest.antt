@@ -16,7 +16,7 @@ use Rattle.calls.specs.Demand3.{AlikeReplies}
 abbrev pub ticksWith : ℕ → Input → List Bool → List Call
 ticksWith n input kinds = map (λ full. ownTick n full input) kinds
 
--- behind any list of calls from a fresh card: where the card is at rest under an input, any ticks
+-- after any list of calls from a fresh card: where the card is at rest under an input, any ticks
 -- with it leave all of the card but the tick total, which counts
 -- those that ran up to the standstill, and each answers the words of the last tick that ran, or
 -- idle where the clock is another

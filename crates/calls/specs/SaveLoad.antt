@@ -40,7 +40,7 @@ pub record Written (n : ℕ) (c : Card) (bytes store written : List ℕ) : Type 
   pub loads : loadNumber n bytes ≡ 0
   pub restored : (d : Card) → Restored n c (loaded n d bytes)
 
--- c has the settings that stand in the bytes by the old form; saved, it is a record that any card
+-- c has the settings that are in the bytes by the old form; saved, it is a record that any card
 -- loads as it loads these bytes
 pub record FromOldForm (n : ℕ) (bytes : List ℕ) (c : Card) : Type 0 where
   pub trigger : c .trigger ≡ triggerIn bytes
@@ -52,7 +52,7 @@ pub record FromOldForm (n : ℕ) (bytes : List ℕ) (c : Card) : Type 0 where
 pub record SaveLoad (n : ℕ) : Type 0 where
   -- with room for the reply and the record, `36SS Z` saves any card
   pub saves : (c : Card) (reply store : ℕ) → shortestReply ≤ reply → wholeRecord n ≤ store → Saves n c (bytesOf "36SS Z") reply store
-  -- a save behind any list of calls, and a load of what it wrote
+  -- a save after any list of calls, and a load of what it wrote
   pub save-load : (calls : List Call) (text reply store : List ℕ) → let c = end n (freshOf n) calls in
       Saves n c text (length reply) (length store)
       → Written n c (savedBytes n c text (length reply) (length store)) store (storeAfter n c text (length reply) store)
@@ -63,6 +63,6 @@ pub record SaveLoad (n : ℕ) : Type 0 where
   -- and the same bytes where the record is of the present form and has none of these
   pub load-same : (d : Card) (bytes text : List ℕ) (reply store : ℕ) → let c = loaded n d bytes in length bytes ≡ wholeRecord n
       → loadNumber n bytes ≡ 0 → SmallConstants n configWidth bytes → Saves n c text reply store → savedBytes n c text reply store ≡ bytes
-  -- a record of the old form gives the settings that stand in it, and what a save then writes gives
+  -- a record of the old form gives the settings that are in it, and what a save then writes gives
   -- the same card
   pub old-form : (d : Card) (bytes : List ℕ) → length bytes ≡ recordLength n narrowWidth → loadNumber n bytes ≡ 0 → FromOldForm n bytes (loaded n d bytes)

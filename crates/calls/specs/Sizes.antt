@@ -6,6 +6,6 @@ use mathlib.Core.List.{List}
 use Rattle.card.specs.Fresh.{freshOf}
 use Rattle.calls.specs.Calls.{Call, end}
 
--- behind any list of calls from a fresh card of n cells, the card's size says n
+-- after any list of calls from a fresh card of n cells, the card's size says n
 unfoldable pub SizeKept : ℕ → Type 0
 SizeKept n = (calls : List Call) → end n (freshOf n) calls .size ≡ n

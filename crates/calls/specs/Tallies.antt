@@ -70,7 +70,7 @@ module _ (n : ℕ) where
   unfoldable pub EveryListTallied : Type 0
   EveryListTallied = (calls : List Call) → Tallied (end n (freshOf n) calls) calls
 
-  -- whom the rules name behind a list, in a tick of either kind: by the calls since the last tick
+  -- whom the rules name after a list, in a tick of either kind: by the calls since the last tick
   -- that ran and by what it read, as WhoWakes has it
   unfoldable pub WhoIsNamed : Type 0
   WhoIsNamed = (calls : List Call) (full : Bool) (l : Lines) (i : ℕ) → i < n

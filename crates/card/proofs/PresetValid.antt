@@ -33,7 +33,7 @@ use Rattle.card.proofs.Settings.{every-listed, first-pass, taken-room, 
 use Rattle.card.proofs.ValidLaws.{kind-known, kind-good, sound, cell-at, connector-at, front-free}
 use Rattle.card.proofs.WriteLaws.{slots-each}
 
--- a test of what stands at a number, if anything does
+-- a test of what is at a number, if anything is
 passes : {A : Type 0} → (A → Bool) → Option A → Bool
 passes f none = true
 passes f (some a) = f a

@@ -163,7 +163,7 @@ unfolding valid validCell
 valid-cleared n trigger cells before connectors e =
     rw (e, length-map (take n before) clearedCell, every-map (validCell n) clearedCell (λ x. refl) (take n before))
 
--- nor of the cells behind the first n
+-- nor of the cells after the first n
 pub valid-first : (n trigger : ℕ) (cells others : List Cell) (connectors : List Connector) → take n cells ≡ take n others
     → valid n trigger cells connectors ≡ valid n trigger others connectors
 unfolding valid

@@ -1,5 +1,5 @@
 -- Document 01, "Addresses": which bases are cells' and connectors', and what an address is made of:
--- its base, whether it is inverted, whether it is an edge. What it reads stands in
+-- its base, whether it is inverted, whether it is an edge. What it reads is in
 -- ticks/specs/Reading.
 use Prim.Native.Nat.{ℕ, _+_, _%_}
 use mathlib.Core.Bool.{Bool, _&&_, _||_, cond}

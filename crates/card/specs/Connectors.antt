@@ -1,5 +1,5 @@
 -- Document 01, "Lines": the connectors of a card, their types as two words and their sources. What
--- connectors drive and show in a tick stands in ticks/specs/Levels.
+-- connectors drive and show in a tick is in ticks/specs/Levels.
 use Prim.Native.Nat.{ℕ}
 use mathlib.Core.Bool.{Bool, _&&_, _||_, cond}
 use mathlib.Core.List.{List}

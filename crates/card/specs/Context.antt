@@ -18,7 +18,7 @@ use Rattle.card.specs.Edits.{atCell, currentCell, currentConnector}
 use Rattle.card.specs.Presets.{setsFront}
 use Rattle.card.specs.Valid.{frontTrigger, frontDriven, isCounted}
 
--- where the pointer stands and what is there, the trigger source, and the words "as of the last
+-- where the pointer is and what is there, the trigger source, and the words "as of the last
 -- tick"
 abbrev pub contextOf : ℕ → Card → Context
 contextOf n c =

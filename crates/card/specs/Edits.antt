@@ -56,7 +56,7 @@ withConnectors c connectors = withSettings c (c .trigger) (c .cells) connectors 
 
 -- ---- the pointer
 
--- "moves the pointer (1-16, 33-48)": it stands at a cell, or at a connector
+-- "moves the pointer (1-16, 33-48)": it is at a cell, or at a connector
 abbrev pub atCell : ℕ → Card → Bool
 atCell n c = among firstCell n (c .pointer)
 
@@ -74,7 +74,7 @@ currentConnector c = cond (atConnector c) (connectorAt (c .connectors) (c .point
 unfoldable pub putCell : ℕ → Card → Cell → Card
 putCell n c cell = cond (atCell n c) (withCell c (c .pointer - firstCell) cell) c
 
--- the row of connectors replaced where the pointer stands at one
+-- the row of connectors replaced where the pointer is at one
 unfoldable pub putConnectors : Card → Connectors → Card
 putConnectors c connectors = cond (atConnector c) (withConnectors c connectors) c
 

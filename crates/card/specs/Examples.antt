@@ -56,7 +56,7 @@ read-table : map (λ (e : ℕ × ℕ). e .0) reads ≡ map (λ (e : ℕ × ℕ).
 unfolding full rowOf configShown
 read-table = refl
 
--- the tests behind 9 and 12. Of a counter: "CCA Z writes are refused with 9", a read is not, and "A
+-- the tests for 9 and 12. Of a counter: "CCA Z writes are refused with 9", a read is not, and "A
 -- counter's F over 65535 gives 12". Timers go to 4,294,967,295,
 -- "lookup codes, constants and counter cells do not"
 abbrev tests : List (Bool × Bool)

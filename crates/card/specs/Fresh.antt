@@ -49,7 +49,7 @@ started size trigger cells connectors edited =
     }
 
 -- "pointer 1, cells constant 0, BNCs push-pull from 0, backplane inputs from 0, trigger 0"; "a
--- fresh card has none edited": a card of n cells, with room behind them
+-- fresh card has none edited": a card of n cells, with room after them
 abbrev pub freshOf : ℕ → Card
 freshOf n = started n 0 (replicate n freshCell ++ replicate (cellRoom - n) freshCell) freshConnectors 0
 

@@ -1,4 +1,4 @@
--- What a reader must believe, in the order of document 01.
+-- What a reader must believe of a card and its settings, in the order of document 01.
 pub mod Address
 pub mod Chart
 pub mod Connectors

@@ -24,7 +24,7 @@ cellRows = 37
 unfoldable pub rowByte : (w i : ℕ) → ℕ
 rowByte w i = w / 2 ^ (8 * i) % 256
 
--- an address, as it stands or by the place further
+-- an address, as it is or by the place further
 abbrev pub offsetAddress : (step : Bool) (place a : ℕ) → ℕ
 offsetAddress step place a = cond step ((a + place) % 2 ^ 8) a
 

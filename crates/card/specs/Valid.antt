@@ -88,7 +88,7 @@ validCell n cell =
 unfoldable pub validConnector : ℕ → Connector → Bool
 validConnector n k = not (badConnectorType (k .kind)) && not (badAddress n (k .source))
 
--- settings of a card of n cells as a record holds them. A list may have cells behind the first n;
+-- settings of a card of n cells as a record holds them. A list may have cells after the first n;
 -- nothing is asked of them
 unfoldable pub valid : (n trigger : ℕ) → List Cell → List Connector → Bool
 valid n trigger cells connectors =
@@ -105,7 +105,7 @@ validCard n c = validSettings n (c .trigger) (c .cells) (c .connectors)
 
 -- ---- what a type keeps
 
--- a counter's count stands in the place of a configuration where one is read
+-- a counter's count takes the place of a configuration where one is read
 abbrev pub isCounted : Kept → Bool
 isCounted Stateless = false
 isCounted Bit = false

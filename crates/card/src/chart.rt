@@ -281,8 +281,8 @@ const CHART: Chart = [
     0x3f_01_01_00,
 ];
 
-// The chart. A constant array is made anew wherever it is read: a caller makes it once and lends
-// it.
+// The chart. A constant array is made anew wherever it is read: a caller makes it once and gives it
+// by reference.
 pub fn chart() -> Chart
     ensures { λ c. ⌜ Charted c ⌝ }
 {

@@ -11,7 +11,7 @@ use crate::limits::INPUT;
 use crate::limits::OPEN_DRAIN;
 use crate::limits::PUSH_PULL;
 
-// The type of connector k. Push-pull is asked first, so that one in both words is push-pull.
+// The type of connector k. Push-pull is tested first, so that one in both words is push-pull.
 pub fn kind_at(c: Connectors, k: u32) -> u8
     requires { ⌜ k < connectorCount ⌝ }
     ensures { λ r. ⌜ r ≡ kindAt c k ⌝ }

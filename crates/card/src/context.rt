@@ -1,4 +1,4 @@
-// What a line goes by, and what its reads give: where the pointer stands and what is there, the
+// What a line goes by, and what its reads give: where the pointer is and what is there, the
 // trigger source, the words of the last tick.
 ghost use mathlib.Core.Path.{_≡_};
 ghost use Rattle.card.specs.Address.{cellsFor};
@@ -157,7 +157,7 @@ pub fn read_upper(x: Context) -> Value
     x.outputs / 65536
 }
 
-// 13: the pointer stands at BNC1, and this type would make it an output while it brings the
+// 13: the pointer is at BNC1, and this type would make it an output while it brings the
 // trigger.
 pub fn drives_front(x: Context, v: Number) -> bool
     ensures { λ q. ⌜ q ≡ drivesFront x v ⌝ }

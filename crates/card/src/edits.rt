@@ -41,7 +41,7 @@ const CLEAR: State = State {
     pulse: false,
 };
 
-// Whether the pointer stands at a cell.
+// Whether the pointer is at a cell.
 pub(crate) fn at_cell(card: Card) -> bool
     ensures { λ q. ⌜ q ≡ atCell (cellsFor (card .size)) card ⌝ }
 {

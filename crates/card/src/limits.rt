@@ -1,6 +1,6 @@
 // The limits of the card by name, in code as in definitions. They serve as array lengths too.
 
-// How many cells and connectors there are, the first place of each, and the place behind the last.
+// How many cells and connectors there are, the first place of each, and the place after the last.
 pub const CELLS: usize = 32;
 
 pub const SMALL: u8 = 16;

@@ -1,4 +1,4 @@
-// The places at which cells and connectors stand.
+// The places of cells and connectors.
 ghost use mathlib.Core.Path.{_≡_};
 ghost use Prim.Native.Nat.{_≤_};
 ghost use Rattle.card.specs.Address.{cellRoom, cellsFor, connectorCount, firstCell, firstConnector, among};

@@ -103,7 +103,7 @@ const SOURCES: [u64; SOURCE_ROWS] = [
 ];
 
 // Two rows for each preset number, read by bytes: the first cell that it sets and how many from
-// there, then that cell's type, configuration and slots X Y Z F; in the second row, behind a zero,
+// there, then that cell's type, configuration and slots X Y Z F; in the second row, after a zero,
 // 1 where the addresses in X and Y are the cell's index further, then the type, configuration and
 // slots of the other cells. No later preset sets a cell.
 const SET_CELLS: [u64; 2 * CELL_ROWS] = [
@@ -207,7 +207,7 @@ pub fn bad_preset(v: Number, size: u8) -> bool
     }
 }
 
-// Whether this is the preset of a large card, and this one.
+// Whether a card is large, and this is the preset that only a large card has.
 fn is_large(v: Number, size: u8) -> bool
     ensures { λ r. ⌜ r ≡ isLarge (cellsFor size) v ⌝ }
 {

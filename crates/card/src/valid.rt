@@ -117,7 +117,7 @@ pub(crate) fn front_driven(trigger: u8, kind: Number) -> bool
     (trigger == FRONT_TRIGGER) & ((kind == OPEN_DRAIN as Number) | (kind == PUSH_PULL as Number))
 }
 
-// What a slot may hold. Here and below the chart is lent: it is made once for all settings.
+// What a slot may hold. Here and below the chart is given by reference: it is made once for all.
 fn valid_slot(chart: &Chart, used: bool, edge: bool, a: u8, size: u8) -> bool
     requires { ⌜ Charted (now chart) ⌝ }
     ensures { λ r. ⌜ r ≡ validSlot (cellsFor size) used edge a ⌝ }

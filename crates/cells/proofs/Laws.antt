@@ -139,7 +139,7 @@ pulse-again true y n p v e h k = sym e
 pulse-again false false n p v e h k = refl
 pulse-again false true n p v e h k = rw k (sym h)
 
--- what a timer that is not stirred tells: no trigger, no clock while there is something to count or
+-- what follows where a timer is not stirred: no trigger, no clock while there is something to count or
 -- to end
 quiet-trigger : (count : ℕ) (pulse : Bool) (r : Slots) → timerStirred count pulse r ≡ false → trigger r ≡ false
 quiet-trigger count pulse r h = or-left (trigger r) _ h
@@ -430,7 +430,7 @@ pub constant-largest : rowOf constantType .largest ≡ largestConstant
 unfolding rowOf
 constant-largest = refl
 
--- ---- the slots that read otherwise
+-- ---- the slots that have changed
 
 -- the slots in which two readings have other values
 abbrev pub changes : Slots → Slots → Slots

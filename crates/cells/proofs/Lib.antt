@@ -1,3 +1,4 @@
+-- Laws of cells that several functions or the crates above cite.
 pub mod Rows
 pub mod Packed
 pub mod Tests

@@ -52,7 +52,7 @@ column s p e = (e, rw e (place-lt s))
 pub set-of : (s : Slots) (p : ℕ) → p ≡ placeOf s → slotsOf p ≡ s
 set-of s p e = ap slotsOf e ∙ slots-place s
 
--- a place below 16 is that of the slots that it stands for
+-- a number below 16 is the place of the slots that it packs
 pub place-back : (p : ℕ) → p < 16 → placeOf (slotsOf p) ≡ p
 unfolding slotsOf wordOf
 place-back p h = omega (arith, built-of-bits p 4 h)

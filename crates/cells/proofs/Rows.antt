@@ -101,7 +101,7 @@ pub past-table : (n : ℕ) → typeCount ≤ n → rowOf n ≡ no-row
 unfolding rowOf belowAll belowLines
 past-table n h = past-lines typeCount n chart refl h
 
--- what the last arm of a match by type tells: the number is none of the first k
+-- what the last arm of a match by type says: the number is none of the first k
 abbrev pub Missed : ℕ → ℕ → Type 0
 Missed n zero = Unit {0}
 Missed n (suc k) = Missed n k × (n ≡ k → ⊥)

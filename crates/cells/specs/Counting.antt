@@ -1,4 +1,4 @@
--- Document 02, "Counter cells", told of a list: which of the ticks a counter counts, by what its
+-- Document 02, "Counter cells", said of a list: which of the ticks a counter counts, by what its
 -- slots read in each of them and a low reset. Another view of specs/Work; a law says that they
 -- agree.
 use Prim.Native.Nat.{ℕ, _+_}
@@ -43,7 +43,7 @@ countedIn k kept atZero [] = 0
 countedIn k kept atZero (r ∷ rs) =
     bitNumber (countsIn k kept atZero r) + countedIn k (keptIn k kept atZero r) (atZero && not (countsIn k kept atZero r)) rs
 
--- "adds 1 to a count below 65535": what becomes of a count with this many more. One that is handed
--- in above 65535 stays
+-- "adds 1 to a count below 65535": what becomes of a count with this many more. One that is given
+-- above 65535 stays
 abbrev pub grown : (count more : ℕ) → ℕ
 grown count more = cond (ltb count largestCount) (cond (ltb (count + more) largestCount) (count + more) largestCount) count

@@ -23,7 +23,7 @@ timer kind d count pulse r = workOut kind d (record { count = pulses count; bit 
 shown : Worked → Shown
 shown w = (w .state .count .0, w .state .pulse, w .out)
 
--- one-shots keep no pulse; one that is handed in stays
+-- one-shots keep no pulse; one that is given stays
 shot : (kind d count : ℕ) → Slots → Shown
 shot kind d count r = shown (timer kind d count false r)
 
@@ -128,7 +128,7 @@ table =
     ∷ (shot 16 3 2 trigger-clock, (1, false, true))
     ∷ (shot 14 3 1 trigger, (1, false, true))
     ∷ (shot 8 3 2 trigger-clock, (3, false, true))
-    -- a one-shot that is handed in with a pulse: it stays, and neither makes the output high nor
+    -- a one-shot that is given with a pulse: it stays, and neither makes the output high nor
     -- keeps a trigger out
     ∷ (pulsed 8 3 1 true clock, (0, true, false))
     ∷ (pulsed 8 3 1 true reset, (0, true, false))
@@ -142,7 +142,7 @@ table =
     ∷ (pulsed 9 1 0 false clock, (0, false, false))
     ∷ (pulsed 9 3 3 false clock, (2, false, false))
     ∷ (pulsed 9 3 3 false nothing, (3, false, false))
-    -- a delay that is handed in with a count and a pulse keeps the pulse until an edge finds the
+    -- a delay that is given with a count and a pulse keeps the pulse until an edge finds the
     -- count at 0
     ∷ (pulsed 9 5 2 true clock, (1, true, true))
     ∷ (pulsed 9 5 1 true clock, (0, true, true))
@@ -226,7 +226,7 @@ table =
     ∷ (counted 21 4 false start-clock-reset, (0, false, false))
     ∷ (counted 22 4 true reset, (0, false, false))
     ∷ (counted 22 0 false start-clock-reset, (0, false, false))
-    -- "a count below 65535"; one that is handed in above it stays
+    -- "a count below 65535"; one that is given above it stays
     ∷ (counted 21 65534 true clock, (65535, true, true))
     ∷ (counted 21 65535 true clock, (65535, true, true))
     ∷ (counted 19 65535 false a-b-clock, (65535, false, true))

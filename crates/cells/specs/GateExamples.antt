@@ -164,7 +164,7 @@ flip-flops : map (λ (e : (Bool × Bool) × (Bool × Bool)). e .0) bits ≡ map 
 unfolding flop rowOf workAs workOut
 flip-flops = refl
 
--- ---- what a type does not keep stays as it was handed in
+-- ---- what a type does not keep stays as it was given
 
 -- count, bit, pulse and output
 abbrev Parts : Type 0

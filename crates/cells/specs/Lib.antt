@@ -1,4 +1,4 @@
--- What a reader must believe, in the order of document 01.
+-- What a reader must believe of cells, in the order of document 01.
 pub mod Table
 pub mod State
 pub mod Work

@@ -1,4 +1,4 @@
--- What slots read, as the card hands it in: four words, one for each quarter of the addresses. What
+-- What slots read, as the card gives it: four words, one for each quarter of the addresses. What
 -- the words hold is the card's business.
 use Prim.Native.Nat.{ℕ, _/_, _%_}
 use mathlib.Core.Bool.{Bool, false}

@@ -27,7 +27,7 @@ pub struct State {
 }
 
 // One of the card's cells: its settings (type, configuration, the addresses in its slots X Y Z F)
-// and its state, part by part, in 16 bytes. A tick hands the parts over as they are: a State made
+// and its state, part by part, in 16 bytes. A tick passes the parts on as they are: a State made
 // there would be packed and unpacked once for each cell.
 #[repr(C)]
 pub struct Cell {

@@ -1,6 +1,6 @@
-// Whether the rules name a cell that is not edited, family by family, asked where its slots lie.
-// Two sets of words are handed in: q, what the addresses read now, and d, which of them read
-// otherwise than in the last tick that ran.
+// Whether the rules name a cell that is not edited, family by family, by the addresses in its
+// slots. Two sets of words are given: q, what the addresses read now, and d, which of them have
+// changed since the last tick that ran.
 ghost use mathlib.Core.Bool.{_||_};
 ghost use mathlib.Core.Path.{_≡_};
 ghost use Rattle.cells.specs.Table.{anySlot};
@@ -14,7 +14,7 @@ use crate::table::Slots;
 use crate::wake::counter_stirred;
 use crate::wake::timer_stirred;
 
-// A level slot of the first two, the first three, or all four reads otherwise.
+// Whether one of the first two, the first three, or all four slots has changed.
 pub fn moved2(d: &[u64; QUARTERS], x: u8, y: u8) -> bool
     ensures { λ r. ⌜ r ≡ (readFrom (now (d .entry)) x || readFrom (now (d .entry)) y) ⌝ }
 {
@@ -34,7 +34,7 @@ pub fn moved4(d: &[u64; QUARTERS], x: u8, y: u8, z: u8, f: u8) -> bool
     moved2(d, x, y) || moved2(d, z, f)
 }
 
-// A D flip-flop's clock is high, or a level slot of it reads otherwise; a JK's.
+// Whether a D flip-flop's clock is high or one of its level slots has changed; the same for a JK.
 pub fn flop_wakes(x: u8, y: u8, z: u8, f: u8, q: &[u64; QUARTERS], d: &[u64; QUARTERS]) -> bool
     ensures { λ r. ⌜ r ≡ (readFrom (now (q .entry)) y ||
         ((readFrom (now (d .entry)) x || readFrom (now (d .entry)) z) || readFrom (now (d .entry)) f)) ⌝ }
@@ -49,14 +49,15 @@ pub fn jk_wakes(x: u8, y: u8, z: u8, q: &[u64; QUARTERS], d: &[u64; QUARTERS]) -
     read(q, z) || moved2(d, x, y)
 }
 
-// A timer is stirred, or its reset reads otherwise.
+// Whether a timer is stirred, or its reset has changed.
 pub fn timer_wakes(count: Pulses, pulse: bool, r: Slots, z: u8, d: &[u64; QUARTERS]) -> bool
     ensures { λ q. ⌜ q ≡ (timerStirred (count .0) pulse r || readFrom (now (d .entry)) z) ⌝ }
 {
     timer_stirred(count, pulse, r) || read(d, z)
 }
 
-// A counter is stirred, or A, reset or B reads otherwise; one with start and stop: its reset.
+// Whether a counter is stirred, or A, reset or B has changed; in one with start and stop, its
+// reset.
 pub fn gated_wakes(
     counter: CounterKind,
     active: bool,

@@ -164,7 +164,7 @@ fn lookup4_step(
     }
 }
 
-// A gate of four slots, which looks at them one by one. Whether the rules name it is handed over:
+// A gate of four slots, which looks at them one by one. Whether the rules name it is an argument:
 // so the function is short enough to be compiled into both of its callers, with what decides as a
 // constant.
 fn look_step(
@@ -367,7 +367,7 @@ fn started_step(
 }
 
 // A cell, whose slots hold the addresses x, y, z and f. The words q say what the addresses read
-// now, and d which of them read otherwise than in the last tick that ran. A number past the table
+// now, and d which of them have changed since the last tick that ran. A number past the table
 // is no type: such a cell does nothing.
 pub fn step(
     full: bool,

@@ -42,7 +42,7 @@ pub enum CounterKind {
     FromStartAtZero,
 }
 
-// What a type does: a family, with what tells its members apart. One-shots and delays say whether
+// What a type does: a family, with what distinguishes its members. One-shots and delays say whether
 // they take a trigger while they are busy.
 pub enum Class {
     Nothing,

@@ -15,14 +15,14 @@ use crate::table::class_of;
 use crate::table::unpacked;
 use crate::table::used_of;
 
-// A timer's clock while there is something to count or to end.
+// Whether a timer's clock is high while there is something to count or to end.
 pub fn timer_clock(count: Pulses, pulse: bool, r: Slots) -> bool
     ensures { λ q. ⌜ q ≡ timerClock (count .0) pulse r ⌝ }
 {
     r.y & ((0 < count.0) | pulse)
 }
 
-// A timer's trigger, or that clock.
+// Whether a timer's trigger is high, or that clock.
 pub fn timer_stirred(count: Pulses, pulse: bool, r: Slots) -> bool
     ensures { λ q. ⌜ q ≡ timerStirred (count .0) pulse r ⌝ }
 {
@@ -41,7 +41,7 @@ pub fn flop_clock(flop: FlopKind, r: Slots) -> bool
     }
 }
 
-// A counter's clock while it is active; `active` is what it kept.
+// Whether a counter's clock is high while it is active; `active` is what it kept.
 pub fn counter_clock(counter: CounterKind, active: bool, r: Slots) -> bool
     ensures { λ q. ⌜ q ≡ counterClock counter active r ⌝ }
 {
@@ -65,7 +65,7 @@ pub fn has_start(counter: CounterKind) -> bool
     }
 }
 
-// Its start or stop, or that clock.
+// Whether a counter's start or stop is high, or that clock.
 pub fn counter_stirred(counter: CounterKind, active: bool, r: Slots) -> bool
     ensures { λ q. ⌜ q ≡ counterStirred counter active r ⌝ }
 {

@@ -141,7 +141,7 @@ pub(crate) fn jk(bit: bool, x: u8, y: u8, z: u8, q: &[u64; QUARTERS]) -> bool
     }
 }
 
-// One with D, by its type: 1, 12 or 18.
+// The next bit of a flip-flop with D, by its type: 1, 12 or 18.
 pub(crate) fn flop(kind: u8, bit: bool, x: u8, y: u8, z: u8, f: u8, q: &[u64; QUARTERS]) -> bool
     ensures { λ b. ⌜ b ≡ flopNext (flopOf kind) (slotsFrom (now (q .entry)) x y z f) bit ⌝ }
 {
@@ -253,7 +253,7 @@ fn active_after(counter: CounterKind, r: Slots, count: Pulses, active: bool) -> 
     }
 }
 
-// What it keeps of that.
+// The bit that a counter keeps: in types 21 and 22 whether it is active, in the others as it was.
 fn kept_active(counter: CounterKind, old: bool, new: bool) -> bool
     ensures { λ q. ⌜ q ≡ keptActive counter old new ⌝ }
 {

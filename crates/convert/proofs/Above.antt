@@ -45,7 +45,7 @@ every-agree f g h same [] e = refl
 every-agree f g h same (x ∷ xs) e =
     ap₂ (λ (a b : Bool). a && b) (same x (and-left (f x) (every f xs) e)) (every-agree f g h same xs (and-right (f x) (every f xs) e))
 
--- the first entries behind some others
+-- the first entries after some others
 drop-take : {A : Type 0} (k j : ℕ) (l : List A) → drop k (take (k + j) l) ≡ take j (drop k l)
 drop-take zero j l = ap (λ (i : ℕ). take i l) (zero-add j)
 drop-take (suc k) j [] = ap (λ (i : ℕ). drop (suc k) (take i [])) (suc-add k j) ∙ sym (take-all j [] zero-le)

@@ -108,7 +108,7 @@ otherForm n bytes = encode (otherWidth n bytes) (triggerIn bytes) (take n (cells
 unfoldable pub convertLength : (n room : ℕ) → List ℕ → ℕ
 convertLength n room bytes = cond (eqb (convertNumber n room bytes) 0) (recordLength n (otherWidth n bytes)) 0
 
--- the lent buffer afterwards: the result at its front and beyond it as it was; "a refusal writes
+-- the buffer afterwards: the result at its front and beyond it as it was; "a refusal writes
 -- nothing"
 unfoldable pub convertedTo : ℕ → (bytes buffer : List ℕ) → List ℕ
 convertedTo n bytes buffer = cond (eqb (convertNumber n (length buffer) bytes) 0) (sets buffer 0 (otherForm n bytes)) buffer

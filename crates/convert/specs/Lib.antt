@@ -1,4 +1,4 @@
--- What a reader must believe.
+-- What a reader must believe of a conversion: its refusals, its result, and the buffer afterwards.
 pub mod Convert
 pub mod ConvertExamples
 -- What is proved of it.

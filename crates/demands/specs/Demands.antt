@@ -56,7 +56,7 @@ use Rattle.steady.specs.Lists.{StandsForTicks, AnswersForTicks}
 -- Every call ends; a refused one gives its number and changes nothing in the card." That every call
 -- ends is part of each function's proof
 
--- a lent buffer after a call that wrote these bytes: they are at its front, and beyond them it is
+-- a buffer after a call that wrote these bytes: they are at its front, and beyond them it is
 -- as it was
 pub record Holds (bytes before after : List ℕ) : Type 0 where
   pub front : take (length bytes) after ≡ bytes
@@ -200,8 +200,8 @@ pub record Added (n : ℕ) : Type 0 where
   -- in a steady stretch nothing but counts changes, and a card at rest is steady for ever
   pub keeps-all : KeepsAll n
   pub rests-forever : RestsForever n
-  -- a call makes as many ticks as are asked for while the card is steady, at least one, and stands
-  -- for so many ticks of either kind in any list
+  -- a call makes as many ticks as are asked for while the card is steady, at least one, and does
+  -- what so many ticks of either kind do in any list
   pub makes-all : MakesAll n
   pub makes-some : MakesSome n
   pub stands : StandsForTicks n

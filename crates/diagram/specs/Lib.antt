@@ -1,2 +1,2 @@
--- What a reader must believe: the definitions that the contracts cite.
+-- What a reader must believe of a timing diagram: its limits.
 pub mod Page

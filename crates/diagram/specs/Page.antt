@@ -2,7 +2,7 @@
 use Prim.Native.Nat.{ℕ, _+_, _≤_}
 use Rattle.diagram.specs.declared.places.Strip.{Strip}
 
--- the ticks that are kept, and those that stand side by side
+-- the ticks that are kept, and those that are side by side
 abbrev pub keptTicks : ℕ
 keptTicks = 300
 

@@ -38,7 +38,7 @@ fn put_connector(out: &mut Room, w: Writer, k: u32) -> Writer
     put_with(out, w, b"TTL", k as u64 - 8, b"")
 }
 
-// What stands at a base: a cell or a connector.
+// What is at a base: a cell or a connector.
 fn put_base(out: &mut Room, w: Writer, base: u8) -> Writer {
     if base < FIRST_CONNECTOR {
         return put_with(out, w, b"cell ", base as u64, b"");

@@ -1,4 +1,4 @@
-// Where things stand in a picture. Lengths are in pixels, of which a printed page has about 96 to
+// Where things are in a picture. Lengths are in pixels, of which a printed page has about 96 to
 // the inch.
 ghost use Prim.Native.Nat.{_≤_, _<_, _+_};
 ghost use Rattle.diagram.specs.Page.{columns, mostRows};
@@ -62,7 +62,7 @@ pub fn column_width(wide: bool) -> u64
     if wide { WIDE } else { NARROW }
 }
 
-// The number of tick t behind others, counted from 1. No run has so many ticks that the sum wraps.
+// The number of tick t after others, counted from 1. No run has so many ticks that the sum wraps.
 pub fn number_of(before: u64, t: usize) -> u64 {
     wrapping_add_u64(wrapping_add_u64(before, t as u64), 1)
 }

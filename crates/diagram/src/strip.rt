@@ -124,7 +124,7 @@ fn put_column_head(
     put_full_over(out, a, full, k, wide)
 }
 
-// What stands over each column.
+// What is written over each column.
 fn put_numbers(out: &mut Room, writer: Writer, ticks: &Ticks, s: Strip) -> Writer
     requires { ⌜ Fits s ⌝ }
 {
@@ -261,7 +261,7 @@ fn put_rows(
     w
 }
 
-// The lines between ticks, and stronger ones behind every fifth.
+// The lines between ticks, and stronger ones after every fifth.
 fn put_grids(out: &mut Room, w: Writer, s: Strip, low: u64) -> Writer
     requires { ⌜ Fits s ⌝ }
 {

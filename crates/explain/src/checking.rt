@@ -24,7 +24,7 @@ use session::Event;
 use session::LONGEST_PRINT;
 use session::refusal_of;
 
-// What a program lends for the whole of a transcript: the line that was entered last, and its
+// What a program gives for the whole of a transcript: the line that was entered last, and its
 // answer, which wait for the answer that must come.
 pub type Text = [u8; LINE];
 
@@ -183,7 +183,7 @@ fn take_plain(
     report_refused(d, kept, answer, out)
 }
 
-// An input of a transcript, whose answer is below it. `<CR>` at its end stands for the byte CR; one
+// An input of a transcript, whose answer is below it. `<CR>` at its end means the byte CR; one
 // that ends `<no LF>` is no line, and has no answer.
 fn take_input(
     c: Check,

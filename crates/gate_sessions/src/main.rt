@@ -1,4 +1,4 @@
-// Stored sessions. Standard input lists them, one run to a row: `SIZE FILE FORM`.
+// Runs stored sessions. Standard input lists them, one run to a row: `SIZE FILE FORM`.
 //
 // SIZE is `small` for a card of sixteen cells or `large` for one of thirty-two; the card is fresh
 // and its store holds zeros. FORM is what the run prints:
@@ -9,10 +9,10 @@
 //     rests     what each tick prints, and whether the card is then at rest
 //     tallies   what each line prints; lines that start with `#` ask for the tallies
 // Each run starts with its row. Where it cannot be run, `?` and the reason follow.
-mod both;
-mod ending;
-mod lines_of;
-mod tallies;
+mod both; // a session by plrun's loop and in memory
+mod ending; // the card that a session leaves
+mod lines_of; // what each line prints
+mod tallies; // sessions that ask for the tallies
 
 ghost use Prim.Native.Nat.{_≤_};
 ghost use lib.ListN.{length};

@@ -1,6 +1,5 @@
 // Sessions that ask for the tallies: a line `#` prints the tick total and the tally of each cell,
-// and `# TOTAL N1 N2 ..` hands the card in with these numbers and prints `ok`. Other lines are the
-// card's.
+// and `# TOTAL N1 N2 ..` gives the card these numbers and prints `ok`. Other lines are the card's.
 use crate::lines_of::answered;
 use crate::put;
 use crate::put_number;

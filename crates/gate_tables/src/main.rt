@@ -1,11 +1,11 @@
-// Three tables, each under a heading: the cell types, the presets, and what loads and conversions
-// of stored records give.
+// Prints three tables, each under a heading: the cell types, the presets, and what loads and
+// conversions of stored records give.
 //
 // The stored output was checked against document 01's tables by hand, and the rows of records
 // against records that were written out from its tables.
-mod chart;
-mod loads;
-mod presets;
+mod chart; // the cell types
+mod loads; // loads and conversions of records
+mod presets; // the presets
 
 use libc::STDOUT_FILENO;
 

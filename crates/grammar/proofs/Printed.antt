@@ -35,7 +35,7 @@ use Rattle.grammar.specs.Texts.{printableCommand}
 digits : (v : ℕ) → printable v ≡ true → length (decimal v) ≤ maxDigits
 digits v h = decimal-length v maxDigits (lit≤ tt) (ltb-true v (10 ^ maxDigits) h)
 
--- a number behind a word ends the line
+-- a number after a word ends the line
 number-ends : (w : List ℕ) (v : ℕ) → printable v ≡ true → toEnd (w ++ decimal v) (length w) ≡ record { ok = true; value = v }
 unfolding toEnd digitsOf
 number-ends w v h =

@@ -1,4 +1,4 @@
--- What stands in a text that was read: its bytes and words, its numbers, and the pairs of CCB in the order in which they stand.
+-- What is in a text that was read: its bytes and words, its numbers, and the pairs of CCB in their order.
 use Prim.Native.Nat.{ℕ, zero, suc, _+_, _^_, _≤_, _<_}
 use mathlib.Core.Path.{_≡_, refl, sym, ap, ap₂, subst, _∙_}
 use mathlib.Core.Logic.{_⊎_, inl, inr}
@@ -133,7 +133,7 @@ takes-printable {p} (next {s = s} {v = v} first more) all ok =
 
 -- ---- bytes
 
--- past the end stands 0
+-- past the end there is 0
 inside : (t : List ℕ) (i b : ℕ) → charAt t i ≡ b → 1 ≤ b → i < length t
 inside t i b e h = go (decLt i (length t))
   where

@@ -48,7 +48,7 @@ Fits here there (Here c) = here c
 
 -- a card of n cells
 module _ (n : ℕ) where
-  -- a card command, by what stands behind its address
+  -- a card command, by what follows its address
   abbrev CardFits : List ℕ → Parsed → Type 0
   CardFits u = Fits (λ c. Says n c (cardLine u)) ⊥
 
@@ -104,7 +104,7 @@ module _ (n : ℕ) where
       go (inl e) = fits e
       go (inr e) = subst (CardFits u) (sym (ap form e ∙ bad)) tt
 
-  -- a card command, behind any two bytes
+  -- a card command, after any two bytes
   module _ (t : List ℕ) where
     cca-fits : isWord CCA 2 t ≡ true → CardFits (drop 2 t) (ccaForm t)
     unfolding ccaForm ccaWrite isWord every writeOf ccaRead
@@ -332,7 +332,7 @@ module _ (n : ℕ) where
   says-parses bang = refl
   says-parses (ordered p pairs ok perm) = ordered-parses p pairs ok perm
 
-  -- ---- the address of a card, and what stands behind it
+  -- ---- the address of a card, and what follows it
 
   -- the two bytes of an address are no part of the card command
   module _ (a b c d : ℕ) (u : List ℕ) where

@@ -1,6 +1,6 @@
 -- Document 01, "Lines", and rows 2 and 3 of "When the card says no": texts, and what each is taken
 -- for, as one table by computation. Its readings: one blank where the forms show one, capitals
--- only, no other byte before, between or behind.
+-- only, no other byte before, between or after.
 use Prim.Native.Nat.{ℕ}
 use Prim.Native.String.{String}
 use mathlib.Core.Path.{_≡_, refl}
@@ -154,7 +154,7 @@ forms =
     ∷ ("36CCB X=1 Y?", 2)
     ∷ ("36CCB X? Y?", 2)
     ∷ ("36CCB X=1 Y", 2)
-    -- an address of one digit or three, behind a blank, before a command that has none
+    -- an address of one digit or three, after a blank, before a command that has none
     ∷ ("6CCA Y=1", 2)
     ∷ ("3CCA Y=1", 2)
     ∷ ("036CCA Y=1", 2)

@@ -25,7 +25,7 @@ use Rattle.grammar.specs.declared.grammar.Parsed.the-variants.{Malformed
 abbrev pub charAt : List ℕ → ℕ → ℕ
 charAt t at = getD t at 0
 
--- a word stands at a place of the line
+-- a word is at a place of the line
 unfoldable pub isWord : List ℕ → ℕ → List ℕ → Bool
 isWord [] at t = true
 isWord (w ∷ ws) at t = eqb (charAt t at) w && isWord ws (suc at) t
@@ -34,7 +34,7 @@ isWord (w ∷ ws) at t = eqb (charAt t at) w && isWord ws (suc at) t
 unfoldable pub isWhole : List ℕ → List ℕ → Bool
 isWhole word t = isWord word 0 t && eqb (length t) (length word)
 
--- the number that stands from a place to the end of the line
+-- the number from a place to the end of the line
 unfoldable pub toEnd : List ℕ → ℕ → Ending
 toEnd t at =
     cond (leb at (length t) && (numberAt t at .ok && eqb (numberAt t at .next) (length t))) (record { ok = true; value = numberAt t at .value })
@@ -186,14 +186,14 @@ HOME-E = bytesOf "HOME E"
 abbrev pub !-E : List ℕ
 !-E = bytesOf "! E"
 
--- a card command, behind the two digits of a card's address
+-- a card command, after the two digits of a card's address
 unfoldable pub cardForm : ℕ → List ℕ → Parsed
 cardForm n t =
     cond (isWord CCA 2 t) (ccaForm t)
     (cond (isWord CCB 2 t) (ccbForm t)
     (cond (isWord RDADC 2 t) (readForm n t) (cond (isWord SS-Z 2 t && eqb (length t) 6) (Here Save) Malformed)))
 
--- a number behind a word
+-- a number after a word
 abbrev pub numbered : (ℕ → Command) → Ending → Parsed
 numbered make e = cond (e .ok) (Here (make (e .value))) Malformed
 

@@ -30,7 +30,7 @@ letterOf Z = 90
 letterOf F = 70
 letterOf NoSlot = 0
 
--- a card command, behind the card's address: "The card's address is 36"
+-- a card command, after the card's address: "The card's address is 36"
 abbrev pub cardLine : List ℕ → List ℕ
 cardLine text = bytesOf "36" ++ text
 
@@ -49,7 +49,7 @@ givenPair given p v = cond given ((p, v) ∷ []) []
 abbrev pub givenPairs : Pairs → List (Slot × ℕ)
 givenPairs p = givenPair (p .given .x) X (p .x) ++ (givenPair (p .given .y) Y (p .y) ++ (givenPair (p .given .z) Z (p .z) ++ givenPair (p .given .f) F (p .f)))
 
--- each behind a blank
+-- each after a blank
 unfoldable pub pairsText : List (Slot × ℕ) → List ℕ
 pairsText [] = []
 pairsText (pair ∷ pairs) = blank ∷ letterOf (pair .0) ∷ equals ∷ decimal (pair .1) ++ pairsText pairs

@@ -84,7 +84,7 @@ pub(crate) fn char_at(text: &[u8], at: usize) -> u8
     if at < text.len() { text[at] } else { 0 }
 }
 
-// Whether a word stands at a place.
+// Whether a word is at a place.
 fn is_word(text: &[u8], at: usize, word: &[u8]) -> bool
     requires { ⌜ at ≤ longestLine ⌝ }
     requires { ⌜ length (now word) ≤ 8 ⌝ }
@@ -182,7 +182,7 @@ fn cca_read(p: Slot) -> Parsed
     }
 }
 
-// Behind `36CCA `.
+// What follows `36CCA `.
 fn cca_form(text: &[u8]) -> Parsed
     ensures { λ q. ⌜ q ≡ ccaForm (now (text .entry)) ⌝ }
 {
@@ -210,7 +210,7 @@ fn slot_form(p: Slot) -> Parsed
     }
 }
 
-// Behind `36CCB`.
+// What follows `36CCB`.
 fn ccb_form(text: &[u8]) -> Parsed
     requires { ⌜ length (now text) ≤ longestLine ⌝ }
     ensures { λ q. ⌜ q ≡ ccbForm (now (text .entry)) ⌝ }
@@ -247,7 +247,7 @@ fn read_of(p: Slot, size: u8) -> Parsed
     }
 }
 
-// Behind `36RDADC `.
+// What follows `36RDADC `.
 fn read_form(text: &[u8], size: u8) -> Parsed
     ensures { λ q. ⌜ q ≡ readForm (cellsFor size) (now (text .entry)) ⌝ }
 {
@@ -258,7 +258,7 @@ fn read_form(text: &[u8], size: u8) -> Parsed
     }
 }
 
-// A card command, behind the two digits of a card's address.
+// A card command, after the two digits of a card's address.
 fn card_form(text: &[u8], size: u8) -> Parsed
     requires { ⌜ length (now text) ≤ longestLine ⌝ }
     ensures { λ q. ⌜ q ≡ cardForm (cellsFor size) (now (text .entry)) ⌝ }

@@ -61,7 +61,7 @@ part-cons l a b h k =
     let e : b - a ≡ suc (b - (a + 1)) = omega arith in
     ap₂ (λ (n : ℕ) (t : List ℕ). take n t) e (drop-cons l a 0 (omega arith)) ∙ ap (λ (n : ℕ). getD l a 0 ∷ take (b - (a + 1)) (drop n l)) (sym (add-one a))
 
--- a part where no LF stands
+-- a part where there is no LF
 pub free-part : (block : List ℕ) (a b : ℕ) → ((k : ℕ) → k < b → a ≤ k → getD block k 0 ≡ 10 → ⊥) → NoLf (part a b block)
 free-part block a b none k h e =
     let size = length-take (b - a) (drop a block) in

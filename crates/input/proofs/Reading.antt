@@ -1,4 +1,4 @@
--- Laws of a reader of lines: between two reads, the line so far and the bytes behind it are what was pending and what the reads gave.
+-- Laws of a reader of lines: between two reads, the line so far and the bytes after it are what was pending and what the reads gave.
 use Prim.Native.Nat.{ℕ, zero, suc, _+_, _-_, _≤_, _<_, min}
 use mathlib.Core.Path.{_≡_, refl, sym, ap, _∙_}
 use mathlib.Core.Bool.{Bool, true, false, cond, _&&_, true≢false}
@@ -19,13 +19,13 @@ free-append [] b fa fb k h e = fb k h e
 free-append (x ∷ xs) b fa fb zero h e = fa 0 (omega arith) e
 free-append (x ∷ xs) b fa fb (suc k) h e = free-append xs b (λ j g. fa (suc j) (omega arith)) fb k (omega arith) e
 
--- no byte stands between a place and itself
+-- no byte is between a place and itself
 pub part-none : (l : List ℕ) (a b : ℕ) → b ≤ a → part a b l ≡ []
 part-none l a b h =
     let none : b - a ≡ 0 = omega arith in
     ap (λ (k : ℕ). take k (drop a l)) none
 
--- the line so far, whole, and the reads that it took, from where the reader q₀ stood
+-- the line so far, whole, and the reads that it took, from where the reader q₀ was
 pub record Underway (room : ℕ) (q₀ q : Reader) (before block : List ℕ) : Type 0 where
   pub read : List ℕ
   pub line : List ℕ

@@ -1,3 +1,3 @@
--- What a reader must believe: the definitions that the contracts cite.
+-- What a reader must believe of input: which lines its bytes make, and what a reader gives.
 pub mod Lines
 pub mod Reading

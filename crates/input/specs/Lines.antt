@@ -1,5 +1,5 @@
 -- Document 01, "One run": lines of input end at LF, each is taken when its LF comes, and what
--- stands behind the last LF is dropped, since no LF comes. What is done with a line is a parameter,
+-- follows the last LF is dropped, since no LF comes. What is done with a line is a parameter,
 -- so that every program takes its lines by this definition.
 use Prim.Native.Nat.{ℕ, _-_, _^_, _<_}
 use mathlib.Core.Path.{_≡_}

@@ -7,13 +7,13 @@ use lib.ListN.{length, getD, take}
 use Rattle.input.specs.Lines.{part, NoLf}
 use Rattle.input.specs.declared.Reader.{Reader}
 
--- the bytes behind the LF of the line given last: they have been read, and belong to lines that
+-- the bytes after the LF of the line given last: they have been read, and belong to lines that
 -- come next
 abbrev pub pending : Reader → List ℕ → List ℕ
 pending r block = part (r .end + 1) (r .n) block
 
 -- the next line, by the bytes that were pending and those that reads gave: it has no LF, an LF
--- stands behind it, and what follows is pending then. The line lies in the block; of a line longer
+-- follows it, and what comes then is pending. The line lies in the block; of a line longer
 -- than `room` at least the first `room` bytes do. Where there is no further LF, no line is given
 pub record Next (room : ℕ) (r q : Reader) (before after : List ℕ) : Type 0 where
   pub read : List ℕ
@@ -24,7 +24,7 @@ pub record Next (room : ℕ) (r q : Reader) (before after : List ℕ) : Type 0 w
 
 -- ---- on the way to it
 
--- from `from`, no LF stands before the reader's end, and one stands there unless all that has been
+-- from `from`, no LF is before the reader's end, and one is there unless all that has been
 -- read ends there. A reader that goes on may read again
 pub record EndsFrom (from : ℕ) (q : Reader) (block : List ℕ) : Type 0 where
   pub behind : from ≤ q .end
@@ -34,15 +34,15 @@ pub record EndsFrom (from : ℕ) (q : Reader) (block : List ℕ) : Type 0 where
   pub lf : q .end < q .n → getD block (q .end) 0 ≡ 10
   pub more : q .going ≡ true → 0 < q .left
 
--- behind the line given last
+-- after the line given last
 pub record Looked (r q : Reader) (block : List ℕ) : Type 0 where
   pub start : q .start ≡ min (r .end + 1) (r .n)
   pub same : q .n ≡ r .n
   pub ends : EndsFrom (q .start) q block
   pub left : q .left < r .left
 
--- after a read: the first bytes of the line that had no LF stand at the front, and the new ones
--- behind them
+-- after a read: the first bytes of the line that had no LF are at the front, and the new ones
+-- after them
 pub record Refilled (room : ℕ) (r q : Reader) (before after : List ℕ) : Type 0 where
   pub len : ℕ
   pub start : q .start ≡ 0

@@ -3,7 +3,7 @@
 // What bytes of input do is a definition, `takesAll`, whatever a program does with a line. A
 // program that holds bytes in memory goes from LF to LF by `line_end`. One that reads goes from
 // line to line by `next_line`, in constant memory: a block of input with room for a line before it,
-// and the line that has not ended. The calls that read stand in `read_at`; no contract can say
+// and the line that has not ended. The calls that read are in `read_at`; no contract can say
 // which bytes come there.
 ghost use mathlib.Core.Bool.{true, false};
 ghost use mathlib.Core.Path.{_≡_};
@@ -12,21 +12,21 @@ ghost use lib.ListN.{length, take, getD};
 ghost use Rattle.input.specs.Lines.{part, kept, blockLength, mostReads};
 ghost use Rattle.input.specs.Reading.{Looked, Refilled, Next};
 
-// `blockLength`: of a block of input.
+// `blockLength`: the length of a block of input.
 pub const BLOCK: usize = 2048;
 
 // `kept`: more than the 80 bytes of the longest line, so that a longer one, cut to this, is still
 // too long.
 pub const LINE: usize = 96;
 
-// A line that has not ended, and behind it a block.
+// A line that has not ended, and after it a block.
 pub const BUFFER: usize = LINE + BLOCK;
 
 // `mostReads`: a proved loop has to end, and nothing says that the input does. At a microsecond a
 // read these last for more than four years.
 pub const READS: u64 = 1 << 47;
 
-// Where the line lies in a block that was given last, from `start` to its LF at `end`, and how many
+// Where the line that was given last lies in a block, from `start` to its LF at `end`, and how many
 // bytes of the block have been read.
 pub struct Reader {
     pub start: usize,
@@ -99,7 +99,7 @@ fn read_at(input: i32, block: &mut [u8], at: usize) -> Got
     }
 }
 
-// One read, behind the first `len` bytes of a line.
+// One read, after the first `len` bytes of a line.
 pub fn read_behind(input: i32, block: &mut [u8], line: &[u8], len: usize) -> Got
     requires { ⌜ len ≤ length (now line) ⌝ }
     requires { ⌜ len + blockLength ≤ length (now block) ⌝ }
@@ -164,7 +164,7 @@ pub fn start() -> Reader
     }
 }
 
-// The bytes behind the line that was given last, up to the next LF, or to the last that has been
+// The bytes after the line that was given last, up to the next LF, or to the last that has been
 // read.
 fn behind(r: Reader, block: &[u8]) -> Reader
     requires { ⌜ r .end ≤ r .n ⌝ }
@@ -185,7 +185,7 @@ fn behind(r: Reader, block: &[u8]) -> Reader
 }
 
 // The line from `start` has no LF up to the last byte that has been read. Its first bytes, as many
-// as are kept, go to the front of the block, and the bytes of a read behind them.
+// as are kept, go to the front of the block, and the bytes of a read after them.
 fn refilled(r: Reader, input: i32, block: &mut [u8], line: &mut [u8]) -> Reader
     requires { ⌜ r .start ≤ r .n ⌝ }
     requires { ⌜ r .n ≤ length (now block) ⌝ }

@@ -1,5 +1,5 @@
 -- The examples of document 01's table "When the card says no", with the cases of precedence and
--- those of document 02, as one table by computation; and the whole text of some replies.
+-- those of document 02, as one table by computation; and the exact wording of some replies.
 use Prim.Native.Nat.{ℕ}
 use Prim.Native.String.{String}
 use mathlib.Core.Path.{_≡_, refl}
@@ -144,7 +144,7 @@ examples : map (λ (e : ℕ × ℕ). e .0) numbers ≡ map (λ (e : ℕ × ℕ).
 unfolding listed numberWith number at typedCard frontCard withBit wordOf bitAt valueBy isDigit digitsOf leads plain numberIn numberAt rowOf currentCell currentConnector putCell typed setType setTrigger fresh permittedBase badPlace badCellType badConnectorType badClock badConfig noConfig unusedSlot badAddress badStateAs badState noState frontDriven presetTable settingOf offered presetCell presetSource setsFront preset isWord isWhole toEnd slotOf gave give pairRead pairsOf writeOf ccaWrite ccaRead ccaForm slotForm ccbForm readOf readForm cardForm plainForm addressed parse alone refusal changed changeFor responseTo decision decisionFor lineDecision lineOutcome kindAt sourceAt withKind withSource each fromEach wellFormed
 examples = refl
 
--- ---- the whole text of a reply
+-- ---- the exact wording of a reply
 
 -- a card whose pointer, trigger source, levels and cells are words of their own
 told : Card

@@ -1,4 +1,4 @@
--- What a reader must believe, in the order of document 01.
+-- What a reader must believe of lines and their refusals, in the order of document 01.
 pub mod Refusal
 pub mod Line
 pub mod Examples

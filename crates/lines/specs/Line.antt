@@ -1,5 +1,5 @@
 -- Document 01, "Lines": what a line answers, what it does to the card, and what it leaves in the
--- two lent buffers.
+-- two buffers.
 use Prim.Native.Nat.{ℕ}
 use mathlib.Core.Bool.{Bool, true, false, _&&_, cond}
 use mathlib.Core.List.{List, [], _++_}

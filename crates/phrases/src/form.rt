@@ -1,5 +1,5 @@
-// 2: a line of another form or length. What a line has that no line may have is told, each thing by
-// itself; where there is none, the forms are.
+// 2: a line of another form or length. What a line has that no line may have is reported, each
+// thing by itself; where there is none, the forms are listed.
 ghost use Prim.Native.Nat.{_≤_};
 ghost use lib.ListN.{length};
 use crate::out::Page;
@@ -17,7 +17,7 @@ struct Marks {
     digits: u8,
     // whether that number starts with 0
     led: bool,
-    // a number behind a leading 0, or of too many digits
+    // a number with a leading 0, or of too many digits
     zero: bool,
     long: bool,
     // a remark, a byte that is no letter, digit, sign or blank, two blanks, a small letter
@@ -55,7 +55,7 @@ fn unmarked() -> Marks {
     }
 }
 
-// The digits of a number up to this byte. A number stands behind `=`.
+// The digits of a number up to this byte. A number comes after `=`.
 fn numbered(m: Marks, b: u8) -> Marks {
     let mut n = m;
     let digit = text::is_digit(b);
@@ -74,7 +74,7 @@ fn numbered(m: Marks, b: u8) -> Marks {
     n
 }
 
-// One more, up to what tells a number of too many digits.
+// One more, up to what shows that a number has too many digits.
 fn more(digits: u8) -> u8 {
     if digits < DIGITS { digits + 1 } else { digits }
 }
@@ -164,7 +164,7 @@ fn is_bare(text: &[u8]) -> bool {
     settings | (begins(text, b"RDADC ") | begins(text, b"SS "))
 }
 
-// A command behind an address of one digit.
+// A command after an address of one digit.
 fn is_short(text: &[u8]) -> bool {
     if text.len() < 2 {
         return false;
@@ -331,7 +331,7 @@ fn put_body(out: &mut Page, at: usize, text: &[u8]) -> usize {
     put_plain(out, at, text, m)
 }
 
-// How many bytes of a byte-order mark a line begins with, and how many stand before a CR at its
+// How many bytes of a byte-order mark a line begins with, and how many come before a CR at its
 // end.
 fn body_start(text: &[u8]) -> usize {
     if begins(text, b"\xef\xbb\xbf") { 3 } else { 0 }

@@ -1,4 +1,4 @@
-// Text onto a page that the caller lends, piece by piece.
+// Text, written piece by piece to a buffer that the caller gives.
 
 // Room for all that is written of one line of input: of a tick at most 55 lines, each below 300
 // bytes, and 208 hints, each below 200; of a preset or a load at most 86 lines.
@@ -17,7 +17,7 @@ pub fn put(out: &mut Page, at: usize, bytes: &[u8]) -> usize {
     text::copy(out, at, bytes)
 }
 
-// `maxDigits`: of a number.
+// `maxDigits`: the most digits of a number.
 const DIGITS: usize = 10;
 
 // A number in decimal.

@@ -71,7 +71,7 @@ fn flop_role(out: &mut Page, at: usize, flop: FlopKind, slot: u8) -> usize {
     }
 }
 
-// Of a counter.
+// What a slot of a counter is for.
 fn counter_role(out: &mut Page, at: usize, counter: CounterKind, slot: u8) -> usize {
     let started = cells::wake::has_start(counter);
     if started {
@@ -88,7 +88,7 @@ fn counter_role(out: &mut Page, at: usize, counter: CounterKind, slot: u8) -> us
     by_slot(out, at, slot, b" (A)", b" (clock)", b" (reset)", b" (B)")
 }
 
-// Of a one-shot or a delay.
+// What a slot of a one-shot or a delay is for.
 fn timer_role(out: &mut Page, at: usize, slot: u8) -> usize {
     by_slot(
         out,

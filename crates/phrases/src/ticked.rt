@@ -68,8 +68,8 @@ fn is_still(cell: Cell, i: u32, before: CellWord, now: CellWord) -> bool
     (cell.kind == 0) & (was == is)
 }
 
-// The cells of a set that are. They are many after a load, and nothing is to be said of them but
-// that they were edited.
+// Such constants in a set. They are many after a load, and nothing is to be said of them but that
+// they were edited.
 fn still_of(set: u64, cells: [Cell; CELLS], before: CellWord, now: CellWord, count: u32) -> u64
     requires { ⌜ count ≤ 32 ⌝ }
 {
@@ -231,7 +231,7 @@ fn put_connector(
     put_cause(out, f, c, held)
 }
 
-// Those that do.
+// All connectors that show another level.
 fn put_connectors(
     out: &mut Page,
     at: usize,

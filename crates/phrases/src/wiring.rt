@@ -27,7 +27,7 @@ use cells::table::Class;
 use cells::table::class_of;
 use cells::table::row_of;
 
-// A slot of a cell, where it is used: "Y (clock) 192, always high". A semicolon stands before all
+// A slot of a cell, where it is used: "Y (clock) 192, always high". A semicolon comes before all
 // but the first.
 fn put_slot(
     out: &mut Page,
@@ -167,7 +167,7 @@ fn put_changed_cell(
     put_cell(out, at, i, after)
 }
 
-// The cells that have.
+// All such cells.
 fn put_cells(
     out: &mut Page,
     at: usize,
@@ -203,7 +203,7 @@ fn put_changed_connector(
     put_connector(out, at, k, a)
 }
 
-// The connectors that have.
+// All such connectors.
 fn put_connectors(
     out: &mut Page,
     at: usize,

@@ -1,1 +1,2 @@
+-- Laws of the rows of the chart.
 mod RowLaws

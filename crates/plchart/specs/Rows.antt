@@ -14,7 +14,7 @@ blank = 32
 abbrev pub lineFeed : ℕ
 lineFeed = 10
 
--- a number, and what stands behind it
+-- a number, and what follows it
 unfoldable pub fieldText : ℕ → ℕ → List ℕ
 fieldText v mark = decimal v ++ (mark ∷ [])
 

@@ -22,7 +22,7 @@ const ROW_MOST: usize = 5 * FIELD_MOST;
 
 const TEXT_MOST: usize = ADDRESSES * ROW_MOST;
 
-// A number and the byte that ends it. The place behind them.
+// A number and the byte that ends it; the result is the place after them.
 fn put_field(out: &mut [u8; TEXT_MOST], at: usize, v: u32, mark: u8) -> usize
     requires { ⌜ at + fieldMost ≤ textMost ⌝ }
     ensures { λ _. ⌜ now (out .exit) ≡ sets (now (out .entry)) at (fieldText v mark) ⌝ }

@@ -1,5 +1,5 @@
 // Compares a transcript with what the card answers: its inputs are entered, and the answers below
-// them are what must come. Constant memory, whatever the input.
+// them are what must come. It takes constant memory, whatever the input.
 ghost use lib.ListN.{length};
 ghost use Prim.Native.Nat.{_≤_};
 use explain::checking::Answer;

@@ -2,12 +2,12 @@
 // as a column.
 //
 // A row is a connector's level or a cell's output; who has one is said in `rows`. A cell's row is
-// tinted in the ticks that woke it. Sixty ticks stand side by side, and the next sixty below them.
+// tinted in the ticks that woke it. Sixty ticks are side by side, and the next sixty below them.
 // The picture keeps 300 ticks, from the one that is asked for, and says how many there are. Rows
 // are named by the wiring of the last tick that is drawn. No contract can say what is written.
-mod frame;
-mod page;
-mod rows;
+mod frame; // the size, the style and the head of a picture
+mod page; // the picture as text
+mod rows; // who has a row
 
 ghost use Prim.Native.Nat.{_≤_};
 ghost use Rattle.diagram.specs.Page.{keptTicks};

@@ -101,7 +101,7 @@ fn width_of(n: usize, report: Report) -> u64 {
     width_for(x_of(end_of(0, n), is_wide(n)) + RIGHT, report)
 }
 
-// What stands above the strips, which have a height each.
+// What is above the strips, each of which has a height.
 fn put_frame(out: &mut Room, w: Writer, p: Shape, report: Report, head: u64, strip: u64) -> Writer
     requires { ⌜ p .n ≤ keptTicks ⌝ }
     requires { ⌜ head ≤ highestStrip ⌝ }

@@ -1,5 +1,5 @@
-// What plrun reads, line by line with its answers and what they mean. Constant memory, whatever the
-// input.
+// Explains a run: it reads what plrun reads, and writes each line with its answer and what that
+// means. It takes constant memory, whatever the input.
 ghost use lib.ListN.{length};
 ghost use Prim.Native.Nat.{_≤_};
 use explain::facts::Run;

@@ -1,5 +1,5 @@
-// The program of document 02, "Print the wiring as lines": it reads what plrun reads, and at the
-// end writes the wiring of the card.
+// Prints the wiring of a card as lines: it reads what plrun reads, and at the end writes the wiring
+// of the card. It is the program of document 02, "Print the wiring as lines".
 use program::arguments::ANYWAY;
 use program::arguments::Arguments;
 use program::arguments::CELLS;

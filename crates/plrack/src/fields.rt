@@ -1,4 +1,4 @@
-// The fields of a call, each read once: what stands at a place of a line, and whether it has the
+// The fields of a call, each read once: what is at a place of a line, and whether it has the
 // form of the field.
 ghost use Prim.Native.Nat.{_≤_};
 use input::least;
@@ -92,7 +92,7 @@ fn byte_at(line: &[u8], i: usize) -> Byte
     }
 }
 
-// A blank stands before it.
+// A blank comes before it.
 pub fn pair_at(line: &[u8], i: usize) -> Pair
     requires { ⌜ i ≤ 1000 ⌝ }
 {

@@ -1,17 +1,20 @@
-// A rig of cards on one backplane, on paper. Each line of the input is a call on a row of cards,
-// and each has a line of output:
-//     rack N, rack N 32     a row of N fresh cards of sixteen cells, 0 to 5; the last of them with thirty-two     ok
-//     start                 a start                                                                             the number
-//     line C R TEXT         a line to card C with a reply buffer of R bytes, up to 99          the number, the reply's length and the reply
-//     load C RECORD         a load of a record in hex to card C, - for no bytes                                 the number
-//     tick CODE F|Q ..      a tick: sample and attached of the backplane, then of each front   the number, and where it is 0 the answers
+// Runs a rig of cards on one backplane. Each line of the input is a call on a row of cards, and
+// each has a line of output:
+//     rack N, rack N 32   makes a row of N fresh cards of sixteen cells, 0 to 5, or with thirty-two
+//                         in the last of them, and prints `ok`
+//     start               a start; prints the number
+//     line C R TEXT       a line to card C with a reply buffer of R bytes, up to 99; prints the
+//                         number, the reply's length and the reply
+//     load C RECORD       a load of a record in hex to card C, - for no bytes; prints the number
+//     tick CODE F|Q ..    a tick: sample and attached of the backplane, then of each front; prints
+//                         the number, and where it is 0 the answers
 // A line of another form, and one of more than 640 bytes, prints `?`, and the error output says
 // what form was expected. Bytes after the last LF are dropped, and the program says so.
 //
-// The cards are held by value, and lent as a row for each order to them (rack::held::on_row): a
+// The cards are held by value, and given as a row for each order to them (rack::held::on_row): a
 // start, a tick, and the look at the row that a line and a load begin with. What those do to their
-// card is done by the functions that the calls on a lent row are made of (rack::job).
-mod fields;
+// card is done by the functions that the calls on the caller's row are made of (rack::job).
+mod fields; // the fields of a call
 
 ghost use Prim.Native.Nat.{_≤_};
 ghost use lib.ListN.{length};
@@ -77,7 +80,7 @@ fn put_number(v: u64) {
 
 // ---- the row
 
-// An order to the cards, which are lent for it as a row.
+// An order to the cards, which are given for it as a row.
 fn ordered(rig: Rig, order: Pass) -> Held {
     let cards = rig.cards;
     on_row(cards, least(rig.n, ROOM), order)

@@ -1,8 +1,8 @@
-// How many ticks of a run a processor may sleep through: it reads what plrun reads, and counts the
-// ticks in which nothing but counts changes. It goes as the loop of a float does: it asks for how
-// many ticks the card is steady, sleeps through them, makes the next one, and asks again; a line
-// and another input end the sleep, and are followed by the question too. An idle tick is no tick of
-// the card's clock, and is left out.
+// Counts how many ticks of a run a processor may sleep through: it reads what plrun reads, and
+// counts the ticks in which nothing but counts changes. It works as the loop of a float does: it
+// asks for how many ticks the card is steady, sleeps through them, makes the next one, and asks
+// again; a line and another input end the sleep, and are followed by the question too. An idle tick
+// is no tick of the card's clock, and is left out.
 ghost use Prim.Native.Nat.{_≤_, _<_};
 ghost use lib.ListN.{length};
 use card::card::Card;

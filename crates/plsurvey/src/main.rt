@@ -1,6 +1,6 @@
-// What depends on each line, for the card that an input leaves: a row for each connector that
-// something else depends on, and behind these, for each output that something else moves, the lines
-// that can reach it. The second rows are the columns of the first: what is in no row is in no
+// Prints what depends on each line, for the card that an input leaves: a row for each connector
+// that something else depends on, and after these, for each output that something else moves, the
+// lines that can reach it. The second rows are the columns of the first: what is in no row is in no
 // column.
 ghost use Prim.Native.Nat.{_≤_, _<_};
 use card::card::Card;
@@ -11,8 +11,8 @@ use program::arguments::CELLS;
 use program::arguments::NOTHING;
 use ticks::view::sees;
 
-// A cell and a connector are told by their bases: the first of the cells, of the connectors and of
-// those on the backplane, and the one behind the last.
+// A cell and a connector are named by their bases: the first of the cells, of the connectors and of
+// those on the backplane, and the one after the last.
 const FIRST_CELL: u32 = 1;
 
 const FIRST: u32 = 33;
@@ -49,7 +49,7 @@ fn put_name(b: u32) {
     put_number(b - BACK);
 }
 
-// A name behind a blank.
+// A name after a blank.
 fn put_part(b: u32) {
     put(b" ");
     put_name(b);
@@ -76,7 +76,7 @@ fn others(card: Card, b: u32) -> u64
     words::with_set(set, b) ^ words::with_set(0, b)
 }
 
-// The row of a connector, where something depends on it. Whether it does.
+// The row of a connector, where something depends on it. The result is whether something does.
 fn put_row(card: Card, b: u32) -> bool
     requires { ⌜ b < 64 ⌝ }
 {
@@ -98,7 +98,7 @@ fn put_row(card: Card, b: u32) -> bool
     true
 }
 
-// The rows of all connectors. Whether there are any.
+// The rows of all connectors. The result is whether there are any.
 fn put_rows(card: Card) -> bool {
     let mut any = false;
     for b in FIRST..END {

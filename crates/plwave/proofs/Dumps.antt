@@ -1,4 +1,4 @@
--- Laws of changes written one behind the other.
+-- Laws of changes written one after the other.
 use Prim.Native.Nat.{ℕ, _+_}
 use mathlib.Core.Bool.{Bool}
 use mathlib.Core.Path.{_≡_, refl, sym, ap, ap₂, subst, _∙_}

@@ -1,2 +1,2 @@
--- The proofs of the dump: laws of changes written one behind the other.
+-- The proofs of the dump: laws of changes written one after the other.
 pub mod Dumps

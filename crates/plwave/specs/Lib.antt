@@ -1,2 +1,2 @@
--- What a reader must believe: the definitions that the contracts cite.
+-- What a reader must believe of a wave file: what a tick writes to it.
 pub mod Dump

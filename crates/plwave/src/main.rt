@@ -1,10 +1,10 @@
 // Writes a Value Change Dump (IEEE 1364) of a run: it reads what plrun reads, and shows each tick
 // that ran as one unit of time. An idle tick takes no time.
 //
-// The first tick's values stand whole, and after it those that changed. A tick without a change
-// writes nothing; the time behind the last tick is written at the end, so that a viewer shows it as
-// long as the others. Before it stand comments on lines that were refused, or not entered; viewers
-// do not show them, so the error output has them too. What a tick writes is a definition,
+// The first tick's values are written whole, and after it those that changed. A tick without a
+// change writes nothing; the time after the last tick is written at the end, so that a viewer shows
+// it as long as the others. Before it come comments on lines that were refused, or not entered;
+// viewers do not show them, so the error output has them too. What a tick writes is a definition,
 // `changes`; no contract can say what is written. All goes to standard output by the buffer.
 ghost use mathlib.Core.Path.{_≡_};
 ghost use Prim.Native.Nat.{_≤_, _<_, _+_};
@@ -124,7 +124,7 @@ fn digit(b: bool) -> u8
     if b { b'1' } else { b'0' }
 }
 
-// The value of bit i at `at`, where it is shown, and the place behind it.
+// The value of bit i at `at`, where it is shown, and the place after it.
 fn put_change(out: &mut [u8], at: usize, i: u32, shown: bool, b: bool) -> usize
     requires { ⌜ i < wires ⌝ }
     requires { ⌜ at + 3 ≤ length (now out) ⌝ }
@@ -175,7 +175,7 @@ fn put_first(out: &mut Room, s: Writer, word: u64) -> Writer {
     put(out, c, b"$end\n")
 }
 
-// A tick at time t, behind one that showed `last`.
+// A tick at time t, after one that showed `last`.
 fn put_tick(out: &mut Room, s: Writer, t: u64, word: u64, last: u64) -> Writer {
     if t == 0 {
         return put_first(out, s, word);
@@ -209,7 +209,7 @@ fn put_unended(out: &mut Room, s: Writer, report: Report) -> Writer {
     put(out, b, b" $end\n")
 }
 
-// What no wave shows, the time behind the last tick, and all that waits.
+// What no wave shows, the time after the last tick, and all that waits.
 fn finish(out: &mut Room, s: Writer, report: Report, t: u64) -> Writer {
     let a = put_refusals(out, s, report);
     let b = put_unended(out, a, report);

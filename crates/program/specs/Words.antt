@@ -1,4 +1,4 @@
--- What the words of a program say.
+-- What the words say that a program is started with.
 use Prim.Native.Nat.{ℕ, _^_}
 use mathlib.Core.Bool.{Bool, _&&_}
 use mathlib.Core.List.{List}

@@ -125,7 +125,7 @@ fn option_of(word: &[u8]) -> u8 {
     if same(word, b"--asleep") { ASLEEP } else { 0 }
 }
 
-// The texts that any program writes on demand. One version stands for all programs.
+// The texts that any program writes on demand. All programs have one version.
 fn is_asked(help: &[u8], word: &[u8]) -> bool {
     if same(word, b"--help") | same(word, b"-h") {
         crate::writer::write(help);

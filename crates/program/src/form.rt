@@ -1,4 +1,4 @@
-// What an input is that no program but plrun takes: text with another line end than LF, with a byte
+// Inputs of a form that no program but plrun takes: text with another line end than LF, with a byte
 // order mark, of two bytes a character, or with blanks at the end of a line. Its lines would all be
 // refused, so a program says what the file is and what to do, and stops.
 use libc::STDERR_FILENO;
@@ -71,8 +71,8 @@ fn say_line(number: u64, text: &[u8]) {
     say(text);
 }
 
-// What the file is and what to do, said of the line that shows it. Whether there was anything to
-// say.
+// Says what the file is and what to do, with the line that shows it. The result is whether there
+// was anything to say.
 pub fn say_form(form: Form, number: u64) -> bool {
     match form {
         Form::Plain => {

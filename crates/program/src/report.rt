@@ -15,7 +15,7 @@ pub struct Text {
     pub len: usize,
 }
 
-// Of the lines so far. Lines are counted from 1.
+// What is reported of the lines so far. Lines are counted from 1.
 pub struct Report {
     pub lines: u64,
     pub refused: u64,

@@ -1,5 +1,5 @@
-// Text that a program writes, gathered in a lent buffer and handed to standard output a buffer at a
-// time.
+// Text that a program writes, gathered in a buffer that the caller gives, and written to standard
+// output a buffer at a time.
 //
 // A write that failed is reported once, with the system's words. After it nothing more is written,
 // so that what came out is never without its middle, and the program can end.
@@ -9,7 +9,7 @@ ghost use Prim.Native.Nat.{_≤_};
 ghost use Rattle.program.specs.Writer.{roomLength};
 use libc::STDOUT_FILENO;
 
-// `roomLength`: of the buffer.
+// `roomLength`: the length of the buffer.
 pub const ROOM: usize = 65536;
 
 pub type Room = [u8; ROOM];
@@ -23,7 +23,7 @@ pub fn write(text: &[u8]) -> bool {
     false
 }
 
-// How many bytes wait at the front of the buffer, and whether all that was handed to write went.
+// How many bytes wait at the front of the buffer, and whether all that was given to write went.
 pub struct Writer {
     pub used: usize,
     pub ok: bool,
@@ -44,7 +44,7 @@ fn broken() -> Writer
     Writer { used: 0, ok: false }
 }
 
-// What waits is handed to write.
+// What waits is given to write.
 pub fn flush(out: &[u8], w: Writer) -> Writer
     ensures { λ r. ⌜ r .used ≡ 0 ⌝ }
 {
@@ -59,7 +59,7 @@ pub fn flush(out: &[u8], w: Writer) -> Writer
     Writer { used: 0, ok: ok }
 }
 
-// Where a piece has no room after what waits: that is handed to write, and the piece waits alone,
+// Where a piece has no room after what waits: that is given to write, and the piece waits alone,
 // or, where it is longer than the buffer, is written at once.
 fn put_alone(out: &mut Room, w: Writer, text: &[u8]) -> Writer
     ensures { λ r. ⌜ r .used ≤ roomLength ⌝ }

@@ -1,4 +1,4 @@
--- A `&mut [T]` whose holder lends it on for the time of a call, and has it back with what the callee left in it.
+-- A `&mut [T]` that its holder reborrows for the time of a call, and has back with what the callee left in it.
 use Rattle.rack.proofs.Walk.{ !, Arr, Atoms, Fml, GName, Given, Heap, Held, Lft, List, MutSlice, RattleType, RefT, Room, Share, URA, Val, []}
 use Rattle.rack.proofs.Walk.{_$_, _∵_, _∷_, _≡_, _⊛_, ap, at-once, at-slice, await, cells, closes-slice, codedHoleys, done, ent, ex, fauth}
 use Rattle.rack.proofs.Walk.{finally, fjoin, flent, flft, fobor, fobs, frame, fsep, fsplit, fullShare, heres, later, lends-slice, length, mem}
@@ -32,7 +32,7 @@ module _ (R : RattleType) (κ κ′ : Lft) (q : Share) (γ : GName) (b o : ℕ) 
     abbrev Gone : GName → types.Kit.Item 𝓤
     Gone δ = ‵ (MutSlice ℓ′ κ′ R .own (slice-at δ xs) vals) ⊛ ‵ (flent κ′ (Held R (length xs) b o δ))
 
-    -- it goes: the borrow is opened, and its elements are lent anew
+    -- it goes: the borrow is opened, and its elements are borrowed anew
     pub lends-again : ent 𝓤 (sep 𝓤 (sem 𝓤 H A (MutSlice ℓ κ R .own (slice-at γ xs) vals)) (A .lft κ q))
         (H .⇛ (ex 𝓤 (λ (δ : GName). sep 𝓤 (sem 𝓤 H A (MutSlice ℓ′ κ′ R .own (slice-at δ xs) vals)) (sem 𝓤 H A (LentAgain δ xs)))))
     lends-again =

@@ -256,7 +256,7 @@ reached cards calls i h =
     ∙ ap (λ (c : Card). Calls.end cellCount c heardAll) (sym start-reached)
     ∙ sym (end-append (Calls.afterCall cellCount) (freshOf cellCount) startLines heardAll)
 
--- so what holds behind every list of calls on a fresh card holds of every card of a rack
+-- so what holds after every list of calls on a fresh card holds of every card of a rack
 pub of-every : (P : Card → List Call → Type 0) → ((calls : List Call) → P (Calls.end cellCount (freshOf cellCount) calls) calls)
     → (cards : ℕ) (calls : List RackCall) (i : ℕ) → i < cards → P (cardIn cards calls i) (callsTo cards calls i)
 unfolding Reached

@@ -1,4 +1,4 @@
--- The functions that take the row and a pass (`look_each`, `each`, `passes`): their contract, and one rule for a call that lends the row on to any of them.
+-- The functions that take the row and a pass (`look_each`, `each`, `passes`): their contract, and one rule for a call that gives the row to any of them.
 use Rattle.rack.proofs.Walk.{ !, Atoms, Body, Calls, Contract, Env, FmC, GName, Given, Heap, Is, Item, Lft, List, Loops, Name, Opds, Operand}
 use Rattle.rack.proofs.Walk.{Place, Post, Room, Seq, Share, Triple, URA, Val, [], _$_, _∵_, _∷_, _≡_, call, check, done, ent, feqL, finally}
 use Rattle.rack.proofs.Walk.{fjoin, flft, fsplit, fullShare, guard, join, keep, lands, lasts, length, move, nothing, now, owned, qed, raw}

@@ -1,4 +1,4 @@
--- `swap_at`, which takes the row: its contract, and a rule for a call that lends the row on to it.
+-- `swap_at`, which takes the row: its contract, and a rule for a call that gives the row to it.
 use Rattle.rack.proofs.Walk.{set}
 use Rattle.rack.proofs.Walk.{ !, Atoms, Body, Calls, Contract, Env, FmC, Fun, GName, Given, Heap, Is, Item, Lft, List, Loops, Memory, Opds}
 use Rattle.rack.proofs.Walk.{Operand, Place, Post, Room, Routine, SProp, Seq, Share, Triple, URA, Val, [], _$_, _-_, _∵_, _∷_, _≡_, call}

@@ -1,4 +1,4 @@
--- A row that is lent on to a function, and comes back as that left it: one rule for every callee.
+-- A row that is reborrowed for a function, and comes back as that left it: one rule for every callee.
 use Rattle.rack.proofs.Walk.{ !, Atoms, Body, Calls, Contract, Env, FmC, Fml, GName, Given, Heap, Is, Item, Lft, List, Loops, MutSlice, Name}
 use Rattle.rack.proofs.Walk.{Opds, Operand, Place, Post, RattleType, RefT, Room, SProp, Seq, Share, Tells, Triple, URA, Val, [], _$_, _∙_, _∵_}
 use Rattle.rack.proofs.Walk.{_∷_, _≡_, _⊛_, ap, at-once, await, call, calls-at, check, done, ent, fact, finally, flft, ftrue, fullShare, given}

@@ -1,4 +1,4 @@
--- Laws of passes over a list of cards, and the rules of the walks: a slice lent on, a row lent on to any callee, a call on plain values.
+-- Laws of passes over a list of cards, and the rules of the walks: a slice reborrowed, a row reborrowed for any callee, a call on plain values.
 pub mod Walk
 pub mod Rows
 pub mod Orders

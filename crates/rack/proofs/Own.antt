@@ -1,5 +1,5 @@
--- A row that the caller itself has in memory, lent to a function and taken back as that left it: one rule for every callee. And an array of cards in a local:
--- its first n cards are such a row.
+-- A row that the caller itself has in memory, borrowed for a function and taken back as that left it: one rule for every callee. And an array of cards in a
+-- local: its first n cards are such a row.
 use Rattle.rack.proofs.Walk.{ !, Arr, Atoms, Body, Calls, Contract, Env, FmC, Fml, GName, Given, Heap, Held, Is, Item, Lft, List, Loops, Makes}
 use Rattle.rack.proofs.Walk.{Name, Opds, Operand, Place, Post, RattleType, Room, SProp, Seq, Share, T, Tells, Triple, Ty, URA, Val, WT, []}
 use Rattle.rack.proofs.Walk.{_$_, _++_, _+_, _∙_, _∵_, _∷_, _≡_, _⊛_, ap, await, call, calls-at, cells, check, done, drop′, ent, fat, feqI}

@@ -1,4 +1,4 @@
--- A pass that has come to place i of a row: what stands before it is visited, what stands behind it is as it was.
+-- A pass that has come to place i of a row: what is before it is visited, what is after it is as it was.
 use mathlib.Core.Path.{_≡_, refl, sym, ap, ap₂, _∙_}
 use Prim.Native.Nat.{ℕ, zero, suc, _<_, _≤_}
 use native.Mathlib.Nat.{not-suc-le-zero, le-of-suc-le-suc}

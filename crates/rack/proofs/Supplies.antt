@@ -105,7 +105,7 @@ four-free cards i x d h within few =
     none true = refl
     none false = refl
 
--- the card that stands there already, also past the row
+-- the card that is there already, also past the row
 same-card : (cards : List Card) (i : ℕ) (x : Card) → set cards i (getD cards i x) ≡ cards
 same-card [] i x = refl
 same-card (c ∷ cs) zero x = refl

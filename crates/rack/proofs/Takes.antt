@@ -102,7 +102,7 @@ taken-over cards number a b e =
 
 -- ---- a line
 
--- the row without the card that a line or a load works on: a started one stands in its place
+-- the row without the card that a line or a load works on: a started one takes its place
 abbrev pub takenRow : List Card → ℕ → List Card
 takenRow cards number = set cards (number - 1) (startCard cellCount)
 

@@ -1,5 +1,5 @@
--- What a reader must believe, in the order of the request. Passes and Held are the code's own view
--- of a row, which the contracts of its inner functions cite.
+-- What a reader must believe of racks, in the order of the request. Passes and Held are the code's
+-- own view of a row, which the contracts of its inner functions cite.
 pub mod Shared
 pub mod Supply
 pub mod Rack

@@ -113,7 +113,7 @@ rowTicked n full r cards = record { k = tickNumber cards r; answers = rowAnswers
 -- ---- a line and a load to one card: refused with 20 at once, with 19 where all else would be
 -- accepted
 
--- the card of a number; a started card stands for one past the row
+-- the card of a number; past the row it is a started card
 abbrev pub cardOf : (n : ℕ) → List Card → (number : ℕ) → Card
 cardOf n cards number = getD cards (number - 1) (startCard n)
 

@@ -1,5 +1,5 @@
-// A row that a program holds by value, lent for the time of a call. `on_row` is proved by a walk of
-// its code.
+// A row that a program holds by value, given by reference for the time of a call. `on_row` is
+// proved by a walk of its code.
 ghost use mathlib.Core.Path.{_≡_};
 ghost use Prim.Native.Nat.{_≤_};
 ghost use Rattle.rack.specs.Held.{heldOf, rowHeld};
@@ -25,7 +25,7 @@ pub(crate) fn put_by(cards: [Card; HELD], pass: Pass) -> Held
     }
 }
 
-// An order to the first n cards, which are lent as a row.
+// An order to the first n cards, which are given as a row.
 pub fn on_row(cards: [Card; HELD], n: usize, order: Pass) -> Held
     requires { ⌜ n ≤ 5 ⌝ }
     ensures { λ r. ⌜ r ≡ rowHeld cards n order ⌝ }

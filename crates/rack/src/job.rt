@@ -21,7 +21,7 @@ use lines::decision::SILENT;
 use lines::line::Answered;
 use saved::record::Loaded;
 
-// The number of a change that the supply does not bear.
+// The number of the refusal of a change that the supply does not bear.
 const OVER_SUPPLY: u8 = 19;
 
 // What a line or a load to a card needs of the row: whether row and number are no rack's, the
@@ -46,7 +46,7 @@ pub fn place_of(number: usize) -> usize
     if number == 0 { 0 } else { number - 1 }
 }
 
-// Of a row that was looked at, for the card of a number.
+// What a call on the card of a number needs of a row that was looked at.
 pub fn taken_by(p: Pass, number: usize) -> Taken
     ensures { λ t. ⌜ t ≡ Passes.takenBy p number ⌝ }
 {

@@ -1,4 +1,5 @@
-// A lent row of cards, each read and changed where it sits. Proved by a walk of the code.
+// A row of cards that the caller holds, each read and changed where it is. Proved by a walk of the
+// code.
 ghost use mathlib.Core.Path.{_≡_};
 ghost use lib.ListN.{getD, set};
 ghost use Rattle.rack.specs.Passes.{lookedAll, afterRow, visitedRow, actedOver, actedRow};
@@ -22,7 +23,7 @@ pub(crate) fn look_each(row: &mut [Card], pass: Pass) -> Pass
     p
 }
 
-// A pass over the row: each card is handed by value to `visit`, and what that gives takes its
+// A pass over the row: each card is given by value to `visit`, and what that gives takes its
 // place.
 pub(crate) fn each(row: &mut [Card], pass: Pass) -> Pass
     ensures { λ p. ⌜ (p ≡ afterRow pass (now (row .entry))) × (now (row .exit) ≡ visitedRow pass (now (row .entry))) ⌝ }
@@ -38,7 +39,7 @@ pub(crate) fn each(row: &mut [Card], pass: Pass) -> Pass
     p
 }
 
-// Puts a card at place i of the row, and gives what stood there; where there is no such place, the
+// Puts a card at place i of the row, and gives what was there; where there is no such place, the
 // card itself.
 pub(crate) fn swap_at(row: &mut [Card], i: usize, card: Card) -> Card
     ensures { λ r. ⌜ (r ≡ getD (now (row .entry)) i card) × (now (row .exit) ≡ set (now (row .entry)) i card) ⌝ }

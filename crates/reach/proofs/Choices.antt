@@ -44,7 +44,7 @@ last-within x m e = subst (λ (y : ℕ). y ≤ m % 2) (sym (and-mod x m 1) ∙ a
 pub within-most : (x m : ℕ) → Within x m → x ≤ m
 within-most x m e = subst (λ (y : ℕ). y ≤ m) e (and-le-r x m)
 
--- none stands between a word within m and the next one below it
+-- none is between a word within m and the next one below it
 next-within : (k m s x : ℕ) → m < 2 ^ k → Within s m → Within x m → x < s → x ≤ bitAnd (s - 1) m
 next-within zero m s x h ws wx l = let most = within-most s m ws in absurd (omega arith)
 next-within (suc k) m s x h ws wx l = go (decLt 0 (s % 2)) (next-within k (m / 2) (s / 2) (x / 2))

@@ -38,7 +38,7 @@ pub idle-none : (n : ℕ) (full : Bool) (c : Card) (input : Input) → (input .c
 unfolding tickReasons
 idle-none n full c input other = rw (ne-eqb (input .code) (c .trigger) other)
 
--- a cell reads of the whole cell word only what stands below it
+-- a cell reads of the whole cell word only what is below it
 whole-word : (n : ℕ) (full : Bool) (c : Card) (input : Input) (i : ℕ) → i < n
     → let w = wiresOf (c .memory) (lines n c input .levels) in
     reasonsAt n (getD (c .cells) i noCell) i (c .edited) w (outputsBelow n full (c .cells) (c .edited) w n) ≡ reasonsIn n full c input i

@@ -1,2 +1,3 @@
+-- Laws of the reasons for which cells wake.
 pub mod Named
 pub mod Laws

@@ -113,8 +113,8 @@ reasons : map (λ (e : Why × Why). e .0) table ≡ map (λ (e : Why × Why). e 
 unfolding why resting busy edited none level clock trigger other rowOf reasonsOf
 reasons = refl
 
--- what is told with them: the values that the used slots have now. A slot that moved had the other
--- one
+-- what is reported with them: the values that the used slots have now. A slot that moved had the
+-- other one
 values : (kind : ℕ) → Slots → Slots → Slots × Slots
 values kind now last =
     let q = reasonsOf kind (record { count = pulses 0; bit = false; pulse = false }) false now last in

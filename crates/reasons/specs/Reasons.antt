@@ -33,6 +33,6 @@ reasonsIn n full c input i =
 abbrev pub noReasons : Reasons
 noReasons = record { edited = false; moved = no-slot; now = no-slot; clock = false; trigger = false; other = false }
 
--- of every cell; an idle tick wakes nobody
+-- of every cell; an idle tick wakes none
 unfoldable pub tickReasons : (n : ℕ) → Bool → Card → Input → List Reasons
 tickReasons n full c input = cond (eqb (input .code) (c .trigger)) (listed (reasonsIn n full c input) n) (replicate n noReasons)

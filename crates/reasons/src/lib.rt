@@ -1,5 +1,5 @@
 // Why the cells of a card wake in a tick.
-pub mod cell;
+pub mod cell; // why a single cell wakes
 
 ghost use mathlib.Core.List.{_++_};
 ghost use mathlib.Core.Path.{_≡_};
@@ -108,7 +108,7 @@ fn ticked(card: Card, input: Input, full: bool) -> Ticked
 }
 
 // Why each cell would wake in a tick with the input. The card is not changed: the tick is made only
-// for its answer, whose cell word says what each reader sees of the cells below it. Behind the
+// for its answer, whose cell word says what each reader sees of the cells below it. After the
 // cells of the card there are none.
 pub fn reasons(card: Card, input: Input, full: bool) -> [Reasons; CELLS]
     ensures { λ r. ⌜ r

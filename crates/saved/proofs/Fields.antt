@@ -134,7 +134,7 @@ big-read w v h = big-value w 0 v ∙ ap (λ (k : ℕ). 0 * 256 ^ w + k) (mod-eq-
 pub big-under : (w v : ℕ) → bigValue 0 (bigEndian w v) < 256 ^ w
 big-under w v = rw (big-value w 0 v) (omega (arith, zero-mul (256 ^ w), mod-lt v (byte-pos w)))
 
--- bytes are written back from their value, whatever stood before them
+-- bytes are written back from their value, whatever was before them
 big-top : (acc : ℕ) (l : List ℕ) → Bytes l → bigValue acc l / 256 ^ length l ≡ acc
 unfolding bigValue
 big-top acc [] all = div-one acc

@@ -85,7 +85,7 @@ module _ (width trigger : ℕ) (cells : List Cell) (connectors : List Connector)
   unfolding encode
   encode-length = omega (arith, length-append (front width cells) (back connectors), front-length, back-length connectors)
 
-  -- what stands at the place of a cell, and at that of a connector
+  -- what is at the place of a cell, and at that of a connector
   cell-place : (i : ℕ) → i < length cells
       → drop (triggerLength + i * cellLength width) (encode width trigger cells connectors)
       ≡ cellField width i (getD cells i noCell) ++ (fieldsFrom (cellField width) (suc i) (drop (suc i) cells) ++ back connectors)
@@ -174,7 +174,7 @@ connector-there n width k c bytes rest there =
 abbrev pub Fit : ℕ → List Cell → Type 0
 Fit width cells = (i : ℕ) → i < length cells → getD cells i noCell .config < 256 ^ width
 
--- the cells and the connectors that stand in the bytes of a record
+-- the cells and the connectors that are in the bytes of a record
 module _ (width : ℕ) (trigger : ℕ) (cells : List Cell) (connectors : List Connector) (slots : FourSlots cells)
     (fit : Fit width cells) where
   pub cells-read : cellsIn (length cells) width (encode width trigger cells connectors) ≡ map clearedCell cells
@@ -228,7 +228,7 @@ encode-cleared width trigger cells connectors =
 
 -- ---- loads
 
--- the cells that a load gives, with others behind them
+-- the cells that a load gives, with others after them
 cells-taken : (n width : ℕ) (bytes : List ℕ) (rest : List Cell) → take n (loadCells n width bytes ++ rest) ≡ loadCells n width bytes
 cells-taken n width bytes rest = take-at (loadCells n width bytes) rest n (length-listed (λ i. normalCell (cellIn width bytes i)) n)
 
@@ -261,7 +261,7 @@ pub small-normal : (n width : ℕ) (bytes : List ℕ) → SmallConstants n width
 small-normal n width bytes small =
     listed-same (λ i. normalCell (cellIn width bytes i)) (cellIn width bytes) n (λ i h. normal-small (cellIn width bytes i) (small i h))
 
--- a load by the settings that stand in its bytes
+-- a load by the settings that are in its bytes
 pub valid-from : (n width : ℕ) (bytes : List ℕ) (cells rest : List Cell) → cells ≡ loadCells n width bytes ++ rest
     → valid n (triggerIn bytes) cells (connectorsIn n width bytes) ≡ valid n (triggerIn bytes) (loadCells n width bytes) (connectorsIn n width bytes)
 valid-from n width bytes cells rest e =
@@ -282,7 +282,7 @@ pub refused-with : (n width : ℕ) (d : Card) (bytes : List ℕ) (k : ℕ) → l
     → (d ≡ loadedAs n width d bytes) × (k ≡ loadNumberAs n width bytes)
 refused-with n width d bytes k e other = (sym (load-refused-as n width d bytes (ap (λ (k : ℕ). eqb k 0) e ∙ other)), sym e)
 
--- the cells that stand in some bytes have four slots
+-- the cells that are in some bytes have four slots
 in-slots : (n width : ℕ) (bytes : List ℕ) → FourSlots (cellsIn n width bytes)
 unfolding cellIn
 in-slots n width bytes i h =

@@ -80,7 +80,7 @@ regroup true true false d = refl
 regroup true false c d = refl
 regroup false b c d = refl
 
--- a field whose values are those that stand there
+-- a field whose values are those that are there
 field-headed : (l : List ℕ) (at m tag size number : ℕ) (body : List ℕ) → at + (4 + m) ≤ length l → body ≡ take m (drop (at + 4) l)
     → suc (length body) ≡ size → sameBytes (field tag (number ∷ body)) (take (4 + m) (drop at l)) ≡ numberedAt l at tag size number
 unfolding sameBytes startsAt numberedAt
@@ -129,7 +129,7 @@ part-bytes l at m all i = go (decLt i m)
         let short : length (take m (drop at l)) ≤ i = omega (arith, n) in
         rw (List·getD-eq-default (take m (drop at l)) 0 short) (omega arith)
 
--- the values of a cell are those that stand at its place, whatever place that is
+-- the values of a cell are those that are at its place, whatever place that is
 cell-values : (width : ℕ) (bytes : List ℕ) (at : ℕ) → Bytes bytes → at + cellLength width ≤ length bytes
     → getD bytes (at + 4) 0
     ∷ bigEndian width (bigValue 0 (take width (drop (at + 5) bytes)))
@@ -262,7 +262,7 @@ module _ (n width : ℕ) (bytes : List ℕ) (all : Bytes bytes) where
   unfolding loadNumberAs
   number-headed = rw same-headed
 
--- ---- a load, by the form that the length tells
+-- ---- a load, by the form that the length shows
 
 -- bytes that have the length of one form have no heads of the other
 form-headed : (n : ℕ) (bytes : List ℕ) → 1 ≤ n → headed n (widthOf n bytes) bytes ≡ headedEither n bytes

@@ -64,7 +64,7 @@ saved-whole n width c store ok e =
     ∙ ap (λ (l : List ℕ). recordOf n width c ++ l) (drop-of-length-le store {i = recordLength n width} (omega arith))
     ∙ append-nil (recordOf n width c)
 
--- ---- the form that the length tells
+-- ---- the form that the length shows
 
 -- four bytes are enough
 pub config-fits : largestConfig < 256 ^ configWidth
@@ -111,7 +111,7 @@ unfolding loadNumber loaded
 load-refused n d bytes e = load-refused-as n (widthOf n bytes) d bytes e
 
 module _ (n : ℕ) (d : Card) (bytes : List ℕ) (ok : loadNumber n bytes ≡ 0) where
-  -- an accepted one powers up with the settings that stand in the bytes
+  -- an accepted one powers up with the settings that are in the bytes
   pub load-powers : let from = widthOf n bytes in
       loaded n d bytes ≡ poweredUp n (d .size) (triggerIn bytes) (loadCells n from bytes ++ drop n (d .cells)) (fromEach (connectorsIn n from bytes))
   unfolding loadNumber loaded
@@ -129,7 +129,7 @@ module _ (n : ℕ) (d : Card) (bytes : List ℕ) (ok : loadNumber n bytes ≡ 0)
   pub save-load : recordOf n configWidth (loaded n d bytes) ≡ normalRecord n (widthOf n bytes) configWidth bytes
   save-load = save-in configWidth
 
-  -- its cells are those that stand in the bytes
+  -- its cells are those that are in the bytes
   pub loaded-cells : take n (loaded n d bytes .cells) ≡ loadCells n (widthOf n bytes) bytes
   loaded-cells =
       ap (λ (c : Card). take n (c .cells)) load-powers ∙ front-taken (λ i. normalCell (cellIn (widthOf n bytes) bytes i)) n (d .cells)

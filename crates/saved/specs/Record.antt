@@ -74,7 +74,7 @@ connectorLength = 6
 abbrev pub recordLength : (n width : ℕ) → ℕ
 recordLength n width = triggerLength + n * cellLength width + connectorCount * connectorLength
 
--- ---- the settings that stand in some bytes, read at their places
+-- ---- the settings that are in some bytes, read at their places
 
 unfoldable pub bigValue : ℕ → List ℕ → ℕ
 bigValue acc [] = acc
@@ -143,13 +143,13 @@ loadNumberAs n width bytes =
 abbrev pub poweredUp : (n size trigger : ℕ) → List Cell → Connectors → Card
 poweredUp n size trigger cells connectors = started size trigger cells connectors (2 ^ n - 1)
 
--- the card after a load: what stands behind its n cells stays, and a refused load changes nothing
+-- the card after a load: what follows its n cells stays, and a refused load changes nothing
 unfoldable pub loadedAs : (n width : ℕ) → Card → (bytes : List ℕ) → Card
 loadedAs n width c bytes =
     cond (eqb (loadNumberAs n width bytes) 0)
     (poweredUp n (c .size) (triggerIn bytes) (loadCells n width bytes ++ drop n (c .cells)) (fromEach (connectorsIn n width bytes))) c
 
--- "The 276-byte record still loads": the form that the length of a record tells. Other lengths than
+-- "The 276-byte record still loads": the form that the length of a record shows. Other lengths than
 -- the two are 14 in either form
 abbrev pub widthOf : ℕ → List ℕ → ℕ
 widthOf n bytes = cond (leb n cellCount && eqb (length bytes) (recordLength n narrowWidth)) narrowWidth configWidth
@@ -158,7 +158,7 @@ widthOf n bytes = cond (leb n cellCount && eqb (length bytes) (recordLength n na
 width-before : (bytes : List ℕ) → widthOf cellCount bytes ≡ cond (eqb (length bytes) (recordLength cellCount narrowWidth)) narrowWidth configWidth
 width-before bytes = refl
 
--- a load, its form told by the length
+-- a load, its form shown by the length
 unfoldable pub loadNumber : ℕ → List ℕ → ℕ
 loadNumber n bytes = loadNumberAs n (widthOf n bytes) bytes
 

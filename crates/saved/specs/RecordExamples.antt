@@ -128,7 +128,7 @@ load bytes = loadNumber cellCount bytes ∷ []
 saved : List ℕ → List ℕ
 saved bytes = recordOf cellCount configWidth (loaded cellCount fresh bytes)
 
--- where the pointer of a card stands after a load, if it stood at BNC3 before
+-- where the pointer of a card is after a load, if it was at BNC3 before
 pointerAfter : List ℕ → List ℕ
 pointerAfter bytes = loaded cellCount (withPointer fresh 35) bytes .pointer ∷ []
 
@@ -188,7 +188,7 @@ table =
       cellField configWidth 0 (cellOf 0 64 (0 ∷ 0 ∷ 0 ∷ 0 ∷ []) clearState),
       2 ∷ 0 ∷ 10 ∷ 1 ∷ 0 ∷ 0 ∷ 0 ∷ 0 ∷ 64 ∷ 0 ∷ 0 ∷ 0 ∷ 0 ∷ [],
     )
-    -- a lookup's code is loaded as it stands
+    -- a lookup's code is loaded as it is
     ∷ (configShown (normalCell (cellIn configWidth whole 4)) ∷ [], 65520 ∷ [])
     -- the values in it
     ∷ (triggerIn whole ∷ [], 3 ∷ [])

@@ -1,2 +1,2 @@
 // The saved record of a card's settings.
-pub mod record;
+pub mod record; // saving and loading

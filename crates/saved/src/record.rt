@@ -1,5 +1,5 @@
 // The saved record: the settings as bytes, and what a load makes of some bytes. A record has a
-// form, the width of a configuration in it; its length tells which.
+// form, the width of a configuration in it; its length shows which.
 ghost use mathlib.Core.Bool.{not};
 ghost use mathlib.Core.List.{_++_};
 ghost use mathlib.Core.Path.{_≡_};
@@ -71,7 +71,7 @@ const SOURCE_AT: usize = KIND_AT + 1;
 
 const CONFIG_AT: usize = KIND_AT + 1;
 
-// The slots stand the width of a configuration behind these.
+// The slots come after these, further on by the width of a configuration.
 const X_AT: usize = CONFIG_AT;
 
 const Y_AT: usize = X_AT + 1;
@@ -200,7 +200,7 @@ fn put_connectors(out: &mut [u8], start: usize, connectors: [Connector; CONNECTO
 }
 
 // The settings as bytes, in the form of a width, to the front of a buffer that has room; what
-// stands behind them stays.
+// follows them stays.
 pub fn encode_to(
     out: &mut [u8],
     width: usize,
@@ -275,7 +275,7 @@ fn connector_in(bytes: &[u8], width: usize, k: usize, n: u8) -> Connector
     }
 }
 
-// A constant above the largest is loaded as the largest; anything else as it stands.
+// A constant above the largest is loaded as the largest; anything else as it is.
 fn normal_config(kind: u8, config: Config) -> Config
     ensures { λ r. ⌜ r ≡ normalConfig kind config ⌝ }
 {
@@ -335,7 +335,7 @@ fn connectors_in(
 
 // ---- the heads of fields
 
-// Whether a field of a tag and a size starts at a place, and a number comes behind its head: that
+// Whether a field of a tag and a size starts at a place, and a number comes after its head: that
 // of a cell, or the address of a connector.
 fn numbered_at(bytes: &[u8], at: usize, tag: u8, size: u8, number: u8) -> bool
     requires { ⌜ at + 4 ≤ length (now bytes) ⌝ }
@@ -429,7 +429,7 @@ fn load_as(card: Card, width: usize, bytes: &[u8], n: u8) -> Loaded
     Loaded { card: next, k: 0 }
 }
 
-// The form that the length of a record tells.
+// The form that the length of a record shows.
 fn width_of(bytes: &[u8], size: u8) -> usize
     ensures { λ r. ⌜ r ≡ widthOf (cellsFor size) (now (bytes .entry)) ⌝ }
     ensures { λ r. ⌜ r ≤ configWidth ⌝ }
@@ -441,7 +441,7 @@ fn width_of(bytes: &[u8], size: u8) -> usize
     }
 }
 
-// A load of any bytes, by the form that their length tells.
+// A load of any bytes, by the form that their length shows.
 pub fn load(card: Card, bytes: &[u8]) -> Loaded
     ensures { λ r. ⌜ r .card ≡ loaded (cellsFor (card .size)) card (now (bytes .entry)) ⌝ }
     ensures { λ r. ⌜ r .k ≡ loadNumber (cellsFor (card .size)) (now (bytes .entry)) ⌝ }
@@ -451,7 +451,7 @@ pub fn load(card: Card, bytes: &[u8]) -> Loaded
     load_as(card, width, bytes, n)
 }
 
-// The record of a card to the front of a store, if it has room; what stands behind it stays. Else
+// The record of a card to the front of a store, if it has room; what follows it stays. Else
 // the store stays, and the answer is false.
 pub fn save(card: Card, store: &mut [u8]) -> bool
     ensures { λ r. ⌜ now (store .exit) ≡ savedTo (cellsFor (card .size)) configWidth card (now (store .entry)) ⌝ }

@@ -34,6 +34,6 @@ shownIn t c =
     (record { ran = true; full = t .full; input = t .input; words = wordsOf (c .memory .levels) (t .answer) })
     nothing
 
--- the bytes of the block that a program lends: a line that has not ended, and a block of input
+-- the bytes of the block that a program gives: a line that has not ended, and a block of input
 abbrev pub bufferLength : ℕ
 bufferLength = kept + blockLength

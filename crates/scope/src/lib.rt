@@ -5,7 +5,7 @@
 // takes constant memory, whatever the input: what `input::next_line` asks for, and the store. No
 // contract can say which bytes are read. `notes` is what a picture says of lines that it does not
 // show.
-pub mod notes;
+pub mod notes; // what a picture says of lines that it does not show
 
 ghost use mathlib.Core.Bool.{true};
 ghost use mathlib.Core.Path.{_≡_};
@@ -27,7 +27,7 @@ use session::refusal_of;
 use ticks::tick::Answer;
 use ticks::view::Input;
 
-// What a program lends for the whole of an input: the block, the line that has not ended, and "The
+// What a program gives for the whole of an input: the block, the line that has not ended, and "The
 // program's store starts as 308 zeros".
 pub const BUFFER: usize = input::BUFFER;
 
@@ -74,7 +74,7 @@ pub struct Feed {
 
 // ---- a line
 
-// What a line shows that is no tick, or an idle one.
+// What is shown by a line that is no tick, or an idle one: nothing.
 fn nothing() -> Shown
     ensures { λ r. ⌜ r ≡ Steps.nothing ⌝ }
 {
@@ -120,7 +120,7 @@ pub fn packed(w: Words) -> u64
     w.levels as u64 + driven + cells + woken
 }
 
-// What a tick showed that left this card.
+// What a tick that left this card showed.
 fn shown_in(t: TickDone, card: Card) -> Shown
     ensures { λ r. ⌜ r ≡ shownIn t card ⌝ }
 {
@@ -139,7 +139,7 @@ fn shown_in(t: TickDone, card: Card) -> Shown
     }
 }
 
-// What a line showed that left this card.
+// What a line that left this card showed.
 fn shown_by(event: Event, card: Card) -> Shown {
     match event {
         Event::Tick(t) => shown_in(t, card),

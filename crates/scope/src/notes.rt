@@ -2,7 +2,7 @@
 // ended (`program::report`).
 //
 // What a line holds is shown byte by byte, so that it does not break the picture or the wave file:
-// `Form` says where it stands.
+// `Form` says where it is shown.
 use input::least;
 use program::report::Report;
 use program::report::Text;

@@ -23,7 +23,7 @@ use Rattle.ticks.proofs.Counts.{tick-count}
 use Rattle.lines.specs.Line.{shortestReply}
 use Rattle.session.specs.Session.{word, cellDigits, ranText, idleText, tickText, loadText, plainReply, longestPrint}
 
--- a word of a tick's line, four hex digits and a blank, behind what stands there
+-- a word of a tick's line, four hex digits and a blank, after what is there
 pub word-behind : {l a x : List ℕ} {at : ℕ} → Stored l a x at → (w : ℕ) {r : List ℕ} {end : ℕ} → (r ≡ sets a at (word w)) × (end ≡ at + 5)
     → Stored l r (x ++ word w) end
 word-behind {l} {a} {x} {at} s w e =

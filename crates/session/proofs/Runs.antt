@@ -19,7 +19,7 @@ use Rattle.session.specs.Run.{RunState, enters, keptOf, stateOf, standin
 
 -- ---- the output
 
--- what was printed into the back part of the output stands behind its front
+-- what was printed into the back part of the output comes after its front
 pub printed-behind : (xs ys post p : List ℕ) (a n : ℕ) → a + longestPrint ≤ length xs → n ≤ longestPrint → n ≡ length p
     → ys ≡ sets (take (length xs - a) (drop a xs)) 0 p → take (a + n) (take a xs ++ (ys ++ post)) ≡ take a xs ++ p
 printed-behind xs ys post p a n ha hn en ey =
@@ -85,13 +85,13 @@ enters-cut d l =
     ap (λ (e : Entry). record { card = e .card; store = e .store; printed = d .printed ++ e .printed })
     (entered-cut (cellsFor (d .card .size)) (d .card) l (d .store))
 
--- so a run that takes its input block by block stands where all the bytes at once would have brought it
+-- so a run that takes its input block by block is where all the bytes at once would have brought it
 pub run-by-block : (s : RunState) (xs ys : List ℕ) → keptOf (takesAll enters (keptOf (takesAll enters s xs)) ys) ≡ keptOf (takesAll enters s (xs ++ ys))
 run-by-block = block-by-block enters kept enters-cut
 
 -- ---- the lines of a block
 
--- where a block stands: the line from `start` to `end` has not ended, or ends there
+-- how far a block is taken: the line from `start` to `end` has not ended, or ends there
 abbrev pub inBlock : State → (block store out : List ℕ) → (start end : ℕ) → RunState
 inBlock s block store out start end =
     record { done = record { card = s .card; store = store; printed = take (s .used) out }; line = part start end block }

@@ -45,7 +45,7 @@ unfolding behind
 behind-flushed s =
     λ i. record { done = record { card = s .done .card; store = s .done .store; printed = append-nil (s .done .printed) i }; line = s .line }
 
--- a run stands at x, with these totals of bytes taken and printed
+-- a run is at x, with these totals of bytes taken and printed
 pub record Reached (n : ℕ) (x : RunState) (taken printed : ℕ) : Type 0 where
   pub input : List ℕ
   pub stands : flushed x ≡ flushed (keptOf (takesAll enters (startState n) input))
@@ -81,7 +81,7 @@ reached-turn n x y bs t p t′ p′ r e et ep =
     old : List ℕ
     old = before .done .printed
 
-    -- the whole input brings the run to y, behind what was printed before
+    -- the whole input brings the run to y, after what was printed before
     whole : keptOf (takesAll enters (startState n) (r .input ++ bs)) ≡ behind old y
     whole =
         sym (run-by-block (startState n) (r .input) bs)
@@ -142,7 +142,7 @@ gives-more r q h taken left going on =
     let some = ltb-true 0 (q .got) (and-left (ltb 0 (q .got)) (q .wrote) (sym going ∙ on)) in
     omega (arith, some)
 
--- ---- over lent bytes
+-- ---- over the bytes of a buffer
 
 -- a run from the start, over all of its input, where its lines stop
 pub ran-over : (n : ℕ) (c : Card) (q : Lines) (input before after store : List ℕ) → c ≡ freshOf n

@@ -1,4 +1,4 @@
--- A reader between two lines, whose block is lent for the whole of an input.
+-- A reader between two lines, whose block is given for the whole of an input.
 use Prim.Native.Nat.{ℕ, _+_, _≤_}
 use Rattle.input.specs.Lines.{kept, blockLength}
 use Rattle.input.specs.declared.Reader.{Reader}

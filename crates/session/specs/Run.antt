@@ -28,7 +28,7 @@ RunState = Taken Entry
 unfoldable pub startState : ℕ → RunState
 startState n = record { done = record { card = freshOf n; store = replicate (recordLength n configWidth) 0; printed = [] }; line = [] }
 
--- a line is entered, and what it prints stands behind what is printed already
+-- a line is entered, and what it prints comes after what is printed already
 abbrev pub enters : Entry → List ℕ → Entry
 enters d line =
     let e = entered (cellsFor (d .card .size)) (d .card) line (d .store) in
@@ -45,7 +45,7 @@ keptOf s = cutTo kept s
 abbrev pub outputLength : ℕ
 outputLength = longestPrint * blockLength
 
--- where a run stands, by what it holds: the line and what is printed are the front of their buffers
+-- the state of a run, by what it holds: the line and what is printed are the front of their buffers
 abbrev pub stateOf : State → (store line out : List ℕ) → RunState
 stateOf s store line out = record { done = record { card = s .card; store = store; printed = take (s .used) out }; line = take (s .len) line }
 
@@ -70,7 +70,7 @@ pub record Stopped (s : State) (r : Lines) (n : ℕ) (block before after : List 
   pub size : length after ≡ length before
   pub beyond : drop (r .used) after ≡ drop (r .used) before
 
--- what was printed has been handed to write
+-- what was printed has been given to write
 abbrev pub flushed : RunState → RunState
 flushed s = record { done = record { card = s .done .card; store = s .done .store; printed = [] }; line = s .line }
 
@@ -80,16 +80,16 @@ pub record Counted (r : Run) : Type 0 where
   pub by-bytes : r .printed ≤ longestPrint * r .taken
 
 -- a run that has taken this input: as many bytes as its reads gave have brought card and line where
--- they stand, and what they print is as long as what was handed to write
+-- they are, and what they print is as long as what was given to write
 pub record Ran (n : ℕ) (r : Run) (input : List ℕ) : Type 0 where
   pub taken : length input ≡ r .taken
   pub card : r .card ≡ takesAll enters (startState n) input .done .card
   pub len : r .len ≡ length (take kept (takesAll enters (startState n) input .line))
   pub printed : r .printed ≡ length (takesAll enters (startState n) input .done .printed)
 
--- a run over lent bytes: those that it took have brought the card where it stands, and what they
--- print, all of it and no more, stands at the front of the output. It takes all, unless it stops at
--- an LF, where the room that is left is too small for what some lines print
+-- a run over the bytes of a buffer: those that it took have brought the card where it is, and what
+-- they print, all of it and no more, is at the front of the output. It takes all, unless it stops
+-- at an LF, where the room that is left is too small for what some lines print
 pub record RanOver (n : ℕ) (r : Over) (input before after : List ℕ) : Type 0 where
   pub within : r .taken ≤ length input
   pub card : r .card ≡ takesAll enters (startState n) (take (r .taken) input) .done .card

@@ -1,5 +1,5 @@
 // The lines of an input, one after the other, to one card: the loop of every program that is not
-// plrun. A program lends a block, the line that has not ended, and the store for the whole of an
+// plrun. A program gives a block, the line that has not ended, and the store for the whole of an
 // input. After each line it sees the card before and after it, what the line did, and the line
 // itself, which lies in the block from `reader.start` to `reader.end`.
 ghost use Prim.Native.Nat.{_≤_, _<_};

@@ -1,6 +1,6 @@
 // One line of input of a run: a tick, a load or a card line, and what it prints.
-pub mod feed;
-pub mod run;
+pub mod feed; // the lines of an input, for every program but plrun
+pub mod run; // the loop of plrun
 
 ghost use mathlib.Core.List.{_++_};
 ghost use mathlib.Core.Path.{_≡_};
@@ -104,7 +104,7 @@ pub fn tick_line(text: &[u8]) -> TickLine
     }
 }
 
-// A part of the output: four hex digits and a byte behind them.
+// A part of the output: four hex digits and a byte after them.
 fn put_word(out: &mut [u8], at: usize, w: u16, byte: &[u8]) -> usize
     requires { ⌜ at + 5 ≤ length (now out) ⌝ }
     requires { ⌜ length (now byte) ≡ 1 ⌝ }

@@ -2,15 +2,15 @@
 //
 // A run takes constant memory, whatever the input: a block of input with room for a line before it,
 // the line that has not ended, the store and the output. A block is so small that all it can print
-// fits the output. So a turn is one read, all its bytes taken and all that they printed handed to
+// fits the output. So a turn is one read, all its bytes taken and all that they printed given to
 // one write, and nothing printed waits for the next turn.
 //
 // What bytes of input do is a definition, `takesAll` of the crate `input`, with the step `enters`.
 // `take_lines` does it for bytes that lie in memory, and two calls are made of it. `run_over` is a
-// run over lent bytes, and its contract says all that it does. `run_from` is the loop of plrun,
-// which reads and writes: `turn` gives the bytes of one read to `take_lines` and hands what they
-// printed to one write. No contract can say which bytes a read brings, and what becomes of those
-// that are handed over.
+// run over the bytes of a buffer, and its contract says all that it does. `run_from` is the loop of
+// plrun, which reads and writes: `turn` gives the bytes of one read to `take_lines`, and gives what
+// they printed to one write. No contract can say which bytes a read brings, and what becomes of
+// those that are written.
 ghost use mathlib.Core.Bool.{true};
 ghost use mathlib.Core.List.{List, _++_};
 ghost use mathlib.Core.Path.{_≡_};
@@ -58,7 +58,7 @@ pub struct Run {
     pub got: usize,
     // whether the last read failed
     pub failed: bool,
-    // bytes that its lines printed, at the front of the output: they were handed to write
+    // bytes that its lines printed, at the front of the output: they were given to write
     pub used: usize,
     // what write answered
     pub wrote: bool,
@@ -80,8 +80,8 @@ pub struct Lines {
     pub used: usize,
 }
 
-// A run over lent bytes: the card that it leaves, the bytes that it took, and those that it
-// printed.
+// A run over the bytes of a buffer: the card that it leaves, the bytes that it took, and those that
+// it printed.
 pub struct Over {
     pub card: Card,
     pub taken: usize,
@@ -94,7 +94,7 @@ pub struct Written {
     pub wrote: bool,
 }
 
-// A line has ended: it is entered, and what it prints goes behind what is printed already.
+// A line has ended: it is entered, and what it prints goes after what is printed already.
 fn enter(state: State, text: &[u8], store: &mut [u8], out: &mut [u8]) -> State
     requires { ⌜ state .used + longestPrint ≤ length (now out) ⌝ }
     ensures { λ r. ⌜ r .card
@@ -177,8 +177,8 @@ fn take_block(
     }
 }
 
-// A fresh card and a store of zeros, fed with the lines of lent bytes; what they print is lent too.
-// It stops at the end of a line for which there may be no room.
+// A fresh card and a store of zeros, fed with the lines of a buffer; what they print goes to
+// another buffer. It stops at the end of a line for which there may be no room.
 pub fn run_over(input: &[u8], output: &mut [u8]) -> Over
     ensures { λ r. ⌜ RanOver cellCount r (now (input .entry)) (now (output .entry)) (now (output .exit)) ⌝ }
 {

@@ -1,4 +1,4 @@
--- A steady card: the ticks behind the first do what it did, and many of them come to what `cardThrough` says.
+-- A steady card: the ticks after the first do what it did, and many of them come to what `cardThrough` says.
 use Prim.Native.Nat.{ℕ, zero, suc, _+_, _-_, _%_, _^_, _≤_, _<_}
 use mathlib.Core.Path.{_≡_, refl, sym, ap, ap₂, subst, _∙_}
 use mathlib.Core.Bool.{Bool, true, false, _&&_, cond, false≢true}
@@ -94,7 +94,7 @@ same-means c d h =
       },
     )
 
--- ---- a tick that runs, and the ticks behind it
+-- ---- a tick that runs, and the ticks after it
 
 module _ (n : ℕ) (c : Card) (input : Input) (same : sameBut c (ticked n false c input .card) ≡ true) where
   first : Ticked
@@ -174,7 +174,7 @@ module _ (n : ℕ) (c : Card) (input : Input) (same : sameBut c (ticked n false 
   after : (i : ℕ) → i < n → getD (ticked n false c input .card .cells) i noCell ≡ turn i .cell
   after i h = ap (λ (u : Turned). getD (u .cells) i noCell) is-first ∙ front-at (λ i. turn i .cell) n (c .cells) i noCell h
 
-  -- a card behind k ticks
+  -- a card after k ticks
   module _ (k : ℕ) (holds : suc k ≤ leastHolds n (c .cells) (ticked n false c input .card .cells)) where
     cells : List Cell
     cells = cellsThrough n (c .cells) (ticked n false c input .card .cells) k

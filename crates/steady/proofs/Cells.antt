@@ -34,7 +34,7 @@ by-equal a b P same other = go (eqb a b) refl
 
 -- ---- counts
 
--- the three ways in which a count goes on: for m ticks more behind the first
+-- the three ways in which a count goes on: for m ticks more after the first
 pub data Way (config x y m : ℕ) : Type 0 where
   stays : x ≡ y → Way config x y m
   falls : x ≡ y + 1 → m < y → (y ≡ config → ⊥) → Way config x y m
@@ -309,7 +309,7 @@ turn-is : (cell : Cell) (out : Bool) (r : Slots) (b : Bool) → rulesName cell f
     → turnBy false cell false out r r ≡ cond b (workedTurn cell b r) (sleptTurn cell out)
 turn-is cell out r b e = ap (λ (b : Bool). cond b (workedTurn cell b r) (sleptTurn cell out)) e
 
--- what a turn makes of a cell with these readings, the turns behind it make on
+-- the turns after a turn with these readings continue what it makes of a cell
 pub turn-through : (a : Cell) (out : Bool) (r : Slots) (m : ℕ)
     → let t = turnBy false a false out r r in
     t .out ≡ out → suc m ≤ cellHolds a (t .cell)

@@ -1,3 +1,4 @@
+-- Laws of many ticks at once.
 pub mod Cells
 pub mod Tallied
 pub mod Turns

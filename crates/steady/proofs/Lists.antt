@@ -1,5 +1,5 @@
--- Ticks at once among calls: on a settled card the tick calls leave the card that the quick ticks one after the other leave, and in a steady stretch each answers
--- what the first does.
+-- Ticks at once among calls: on a settled card the tick calls leave the card that the quick ticks one after the other leave, and in a steady stretch each
+-- answers what the first does.
 use Prim.Native.Nat.{ℕ, zero, suc, _+_, _≤_, _<_}
 use mathlib.Core.Path.{_≡_, refl, sym, ap, ap₂, subst, _∙_}
 use mathlib.Core.Bool.{Bool, false}
@@ -39,7 +39,7 @@ module _ (n : ℕ) where
     settled-at s zero = s
     settled-at s (suc i) = tick-settled n false (at i) input (settled-at s i)
 
-    -- behind i quick ticks, ticks of any kinds
+    -- after i quick ticks, ticks of any kinds
     pub ends-at : Settled n c → (kinds : List Bool) (i : ℕ) → end n (at i) (ticksWith n input kinds) ≡ at (i + length kinds)
     unfolding endOf afterCall quickTicks Tick.tick
     ends-at s [] i =

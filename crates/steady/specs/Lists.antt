@@ -1,5 +1,5 @@
 -- Ticks at once among calls of any kind: on every card that calls reach, a call that makes m ticks
--- at once stands for m tick calls with its input, quick and full in any order.
+-- at once does what m tick calls with its input do, quick and full in any order.
 use Prim.Native.Nat.{ℕ, _≤_}
 use mathlib.Core.Path.{_≡_}
 use mathlib.Core.Bool.{Bool}

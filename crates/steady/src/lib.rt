@@ -59,7 +59,7 @@ fn room(count: Count) -> u32
     }
 }
 
-// For how many ticks a count goes on as in the one that left y where it was x.
+// For how many ticks a count goes on as in the tick that took it from x to y.
 fn count_holds(config: u32, x: Count, y: Count) -> u32
     ensures { λ r. ⌜ r ≡ countHolds config x y ⌝ }
 {

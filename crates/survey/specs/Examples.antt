@@ -109,7 +109,7 @@ fall = record { found = refl; stays = refl }
 abbrev upper : List Cell
 upper = set (set (freshOf cellRoom .cells) 31 (or2 169 0)) 19 (or2 224 0)
 
--- on sixteen cells nobody sees cells 17 to 32
+-- on sixteen cells nothing sees cells 17 to 32
 large : Settles cellRoom upper (withSource freshConnectors 0 20) 8 3 0x80080000 0x0101
 unfolding wire or2 bitAt wordOf listed kindAt sourceAt withSource fromEach rowOf levelAt readsSet drivenFrom startOf readersOf followersOf rounds
 large = record { found = refl; stays = refl }

@@ -1,4 +1,4 @@
--- What a reader must believe, in the order of document 02, 11.
+-- What a reader must believe of surveys, in the order of document 02, 11.
 pub mod Survey
 pub mod Unreached
 pub mod Examples

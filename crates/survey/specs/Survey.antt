@@ -1,5 +1,5 @@
 -- Document 02, "How far does one line reach: a survey call": the smallest set, over the number n of
--- cells. What is promised of everything outside it stands in Unreached.
+-- cells. What is promised of everything outside it is in Unreached.
 use Prim.Native.Nat.{ℕ, _+_, _-_, _^_, _<_}
 use mathlib.Core.Path.{_≡_}
 use mathlib.Core.Bool.{Bool, true, false, _&&_}

@@ -22,7 +22,7 @@ use Rattle.text.proofs.DecimalLaws.{digit-yes, digit-no, digit-high}
 letter : (d : ℕ) → 10 ≤ d → isDigit (87 + d) ≡ false
 letter d h = digit-no (87 + d) (omega arith)
 
--- the byte of a digit is one, and stands for it
+-- the byte of a digit is a digit, and has its value
 pub digit-is : (d : ℕ) → d < 16 → isHex (hexDigit d) ≡ true
 unfolding isHex hexDigit
 digit-is d h = go (decLt d 10)
@@ -58,7 +58,7 @@ hex-reads (suc k) w h =
     let m : w < 16 ^ k * 16 = rw pow-suc at h in
     rw (value-append, hex-reads k (w / 16) (omega arith), digit-back (w % 16) (omega arith)) (omega arith)
 
--- a word that stands at a place reads as the word
+-- a word that is at a place reads as the word
 pub hex-reads-at : (t : List ℕ) (at w : ℕ) → w < 16 ^ 4 → fourAt t at ≡ hex4 w → hexAt t at ≡ record { ok = true; value = w }
 unfolding hexAt hexIn
 hex-reads-at t at w h e = rw (e, hex-digits 4 w, hex-reads 4 w h)

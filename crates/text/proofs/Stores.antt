@@ -1,4 +1,4 @@
--- Laws of bytes written in order: runs of stores, each behind the last, that make one text.
+-- Laws of bytes written in order: runs of stores, each after the last, that make one text.
 use Prim.Native.Nat.{ℕ, suc, _+_, _≤_, _<_}
 use mathlib.Core.Path.{_≡_, sym, ap, ap₂, _∙_}
 use mathlib.Core.List.{List, [], _∷_, _++_, append-nil, append-assoc}
@@ -11,7 +11,7 @@ use lib.Seq.{sets, sets-eq, take-suc, take-append-seam, length-take-le}
 -- ---- a run of stores, of entries of any type
 
 module _ {A : Type 0} where
-  -- entries stored behind others are one run
+  -- entries stored after others are one run
   pub sets-append : (l : List A) (at : ℕ) (xs ys : List A) → sets (sets l at xs) (at + length xs) ys ≡ sets l at (xs ++ ys)
   sets-append l at [] ys = ap (λ (k : ℕ). sets l k ys) (add-zero at)
   sets-append l at (x ∷ xs) ys =
@@ -31,7 +31,7 @@ module _ {A : Type 0} where
       let past : length l ≤ 0 + length xs = omega arith in
       sets-eq xs l 0 (omega arith) ∙ ap (λ (r : List A). xs ++ r) (drop-of-length-le l past) ∙ append-nil xs
 
-  -- stores in three goes, from l by r and s to t, each behind the last
+  -- stores in three goes, from l by r and s to t, each after the last
   pub sets-three : (l x y z : List A) (at m n : ℕ) {r s t : List A} → r ≡ sets l at x → m ≡ at + length x → s ≡ sets r m y → n ≡ m + length y
       → t ≡ sets s n z → t ≡ sets l at (x ++ (y ++ z))
   sets-three l x y z at m n {r} {s} er em es en et =
@@ -47,7 +47,7 @@ module _ {A : Type 0} where
 
 -- ---- a text written part by part, from any place on
 
--- the buffer l has become a: x stands there from p on, and the next part goes to `at`
+-- the buffer l has become a: x is there from p on, and the next part goes to `at`
 pub record Placed (l : List ℕ) (p : ℕ) (a x : List ℕ) (at : ℕ) : Type 0 where
   pub bytes : a ≡ sets l p x
   pub at-end : at ≡ p + length x
@@ -68,7 +68,7 @@ placed-as {l} {p = p} e s = record { bytes = s .bytes ∙ ap (sets l p) e; at-en
 
 -- ---- a text written part by part, from the front
 
--- the buffer l has become a: the text x stands at its front, and the next part goes to `at`
+-- the buffer l has become a: the text x is at its front, and the next part goes to `at`
 pub record Stored (l a : List ℕ) (x : List ℕ) (at : ℕ) : Type 0 where
   pub bytes : a ≡ sets l 0 x
   pub at-end : at ≡ length x

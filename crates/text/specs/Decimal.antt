@@ -17,7 +17,7 @@ unfoldable pub digitsOf : List ℕ → List ℕ
 digitsOf [] = []
 digitsOf (b ∷ bs) = cond (isDigit b) (b ∷ digitsOf bs) []
 
--- what a digit stands for
+-- the value of a digit
 abbrev pub digitValue : ℕ → ℕ
 digitValue b = b - 48
 
@@ -43,7 +43,7 @@ plain ds = leb (length ds) maxDigits && leads ds
 unfoldable pub numberOf : List ℕ → Option ℕ
 numberOf t = cond (every isDigit t && plain t) (some (valueFrom 0 t)) none
 
--- what stands at a place of a text: the digits from there on, as a number where they have its form
+-- what is at a place of a text: the digits from there on, as a number where they have its form
 unfoldable pub numberIn : List ℕ → ℕ → Number
 numberIn ds at = record { ok = plain ds; value = cond (plain ds) (valueFrom 0 ds) 0; next = at + length ds }
 

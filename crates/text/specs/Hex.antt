@@ -24,7 +24,7 @@ hex4 = hexDigits 4
 unfoldable pub isHex : ℕ → Bool
 isHex b = isDigit b || leb 97 b && leb b 102
 
--- what such a byte stands for
+-- the value of such a byte
 unfoldable pub hexValue : ℕ → ℕ
 hexValue b = cond (isDigit b) (b - 48) (b - 87)
 

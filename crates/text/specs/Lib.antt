@@ -1,4 +1,4 @@
--- What a reader must believe: the definitions that the contracts cite.
+-- What a reader must believe of numbers in text: digits, decimal, hexadecimal, and bytes.
 pub mod Digits
 pub mod Decimal
 pub mod Hex

@@ -75,7 +75,7 @@ fn digits_value(text: &[u8], at: usize, n: usize) -> u64
     v
 }
 
-// The number at a place of a text, and where the text goes on behind its digits. Where there is no
+// The number at a place of a text, and where the text goes on after its digits. Where there is no
 // digit, or too many, or a leading zero, ok is false and the value 0; the digits are passed over
 // all the same.
 pub fn number_at(text: &[u8], at: usize) -> Number
@@ -100,7 +100,7 @@ pub fn number_at(text: &[u8], at: usize) -> Number
     }
 }
 
-// Writes the bytes at `at`, and returns the place behind them. The caller sees to it that they have
+// Writes the bytes at `at`, and returns the place after them. The caller sees to it that they have
 // room; nothing else of `out` changes.
 pub fn copy(out: &mut [u8], at: usize, bytes: &[u8]) -> usize
     requires { ⌜ at + length (now bytes) ≤ length (now out) ⌝ }
@@ -115,7 +115,7 @@ pub fn copy(out: &mut [u8], at: usize, bytes: &[u8]) -> usize
     at + i
 }
 
-// Writes n in decimal at `at`, the higher digits first, and returns the place behind it. There must
+// Writes n in decimal at `at`, the higher digits first, and returns the place after it. There must
 // be room for the most digits, however many n has.
 pub fn put_decimal(out: &mut [u8], at: usize, n: u32) -> usize
     requires { ⌜ n < 10 ^ maxDigits ⌝ }
@@ -131,7 +131,7 @@ pub fn put_decimal(out: &mut [u8], at: usize, n: u32) -> usize
     place + 1
 }
 
-// Writes a word, a number and an ending to the front, and returns the place behind them.
+// Writes a word, a number and an ending to the front, and returns the place after them.
 pub fn put_numbered(out: &mut [u8], word: &[u8], n: u32, ending: &[u8]) -> usize
     requires { ⌜ n < 10 ^ maxDigits ⌝ }
     requires { ⌜ length (now word) + maxDigits + length (now ending) ≤ length (now out) ⌝ }
@@ -156,7 +156,7 @@ pub fn hex_digit(d: u16) -> u8
     87 + (d as u8)
 }
 
-// Writes w as four hexadecimal digits at `at`, leading zeros too, and returns the place behind
+// Writes w as four hexadecimal digits at `at`, leading zeros too, and returns the place after
 // them.
 pub fn put_hex4(out: &mut [u8], at: usize, w: u16) -> usize
     requires { ⌜ at + 4 ≤ length (now out) ⌝ }
@@ -188,7 +188,7 @@ pub fn is_hex(b: u8) -> bool
     b <= b'f'
 }
 
-// What a hexadecimal digit stands for. The caller has tested it by is_hex.
+// The value of a hexadecimal digit. The caller has tested it by is_hex.
 pub fn hex_value(b: u8) -> u16
     requires { ⌜ isHex b ≡ true ⌝ }
     ensures { λ r. ⌜ r ≡ hexValue b ⌝ }

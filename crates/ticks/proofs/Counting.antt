@@ -1,4 +1,4 @@
--- A counter counts what it is told to, on any card: where the rules name it, it is worked out, and
+-- A counter counts what its readings say, on any card: where the rules name it, it is worked out, and
 -- where they do not it would count nothing.
 use Prim.Native.Nat.{ℕ}
 use mathlib.Core.Path.{_≡_, refl, ap, ap₂, _∙_}

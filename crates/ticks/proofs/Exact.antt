@@ -24,7 +24,7 @@ use Rattle.ticks.proofs.Cases.{turn-named, turn-due, turn-cell, turn-ou
 use Rattle.ticks.proofs.Sleep.{output-bit}
 use Rattle.ticks.proofs.Ticks.{outputs-built}
 
--- what stands behind the first n entries stays
+-- what follows the first n entries stays
 past-at : (f : ℕ → Cell) (n : ℕ) (l : List Cell) (i : ℕ) → n ≤ i → getD (listed f n ++ drop n l) i noCell ≡ getD l i noCell
 past-at f n l i h =
     let at : n + (i - n) ≡ i = omega (arith, h) in

@@ -62,7 +62,7 @@ unfolding view
 view-same n i below other others levels same = λ k b. levelAt n (λ j. mixed-same i below other others j same k) (bitAt levels) b
 
 module _ (n : ℕ) (full : Bool) (cells : List Cell) (edited : ℕ) (w : Wires) where
-  -- the output of each cell stands in the cell word, and in every word of outputs above it
+  -- the output of each cell is in the cell word, and in every word of outputs above it
   pub output-bit : (m i : ℕ) → i < m → bitAt (outputsBelow n full cells edited w m) i ≡ outAt n full cells edited w i
   output-bit m i h = ap (λ (x : ℕ). bitAt x i) (outputs-built n full cells edited w m) ∙ bit-built (outAt n full cells edited w) m i h
 

@@ -1,4 +1,4 @@
--- What stands above the n bits of a cell word is not seen: a tick of a memory and of the same
+-- What is above the n bits of a cell word is not seen: a tick of a memory and of the same
 -- memory cut to n bits are one.
 use Prim.Native.Nat.{ℕ, zero, suc, _+_, _-_, _*_, _%_, _^_, _≤_, _<_}
 use mathlib.Core.Path.{_≡_, refl, ap, ap₂, _∙_}

@@ -1,5 +1,5 @@
--- Laws of the words that addresses are read from: what they read by views, which addresses read
--- otherwise, and when they serve the next reader too.
+-- Laws of the words that addresses are read from: what they read by views, which addresses have
+-- changed, and when they serve the next reader too.
 use Prim.Native.Nat.{ℕ, zero, suc, _+_, _/_, _%_, _≤_, _<_}
 use mathlib.Core.Path.{_≡_, sym, ap, ap₂, _∙_}
 use mathlib.Core.Bool.{Bool, not, Bool·beq, cond}

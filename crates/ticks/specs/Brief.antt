@@ -1,4 +1,4 @@
--- A quick tick for a card that is changed where it sits: where every cell sleeps it changes the
+-- A quick tick for a card that is changed where it is: where every cell sleeps it changes the
 -- memory and the tick total, and nothing else. No rule of document 01 is defined here; the law is
 -- that such a tick is the tick of specs/Tick.
 use Prim.Native.Nat.{ℕ, _+_}

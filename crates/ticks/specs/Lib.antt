@@ -1,4 +1,4 @@
--- What a reader must believe, in the order of document 01.
+-- What a reader must believe of ticks, in the order of document 01.
 pub mod Reading
 pub mod Levels
 pub mod Tick

@@ -1,6 +1,6 @@
 -- When a card is at rest, so that its clock may stop, and what the code tests for it: over the
 -- number n of cells. The same tests are the fast path of a quick tick, which looks at no cell
--- closely; no rule of document 01 stands in them, and the law is that such a tick is the tick of
+-- closely; no rule of document 01 is in them, and the law is that such a tick is the tick of
 -- specs/Tick.
 use Prim.Native.Nat.{ℕ, zero, suc, _+_}
 use mathlib.Core.Path.{_≡_}

@@ -1,5 +1,5 @@
 -- Document 02, "Thirty-two cells", by computation: who sees whom across all thirty-two cells, and a
--- card of sixteen cells that is handed in with bits above them. (A whole tick of thirty-two cells
+-- card of sixteen cells that is given with bits above them. (A whole tick of thirty-two cells
 -- is more than the prover computes: those run as stored sessions.)
 use Prim.Native.Nat.{ℕ}
 use mathlib.Core.Path.{_≡_, refl}
@@ -45,7 +45,7 @@ view-table : map (λ (e : Bool × Bool). e .0) views ≡ map (λ (e : Bool × Bo
 unfolding seventeenth levelAt mixed view bitAt
 view-table = refl
 
--- bits above the sixteen, in the cell words and in the edited set: nobody wakes by them, and the
+-- bits above the sixteen, in the cell words and in the edited set: no cell wakes by them, and the
 -- tick leaves words without them
 words : Ticked → List ℕ
 words t = t .answer .woken ∷ t .answer .cells ∷ t .card .memory .outputs ∷ t .card .memory .outputs2 ∷ t .card .memory .outputs3 ∷ t .card .edited ∷ []

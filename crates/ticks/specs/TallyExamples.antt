@@ -59,15 +59,15 @@ table =
     (told 3 (after true (handed 3 7 5 6 7)), 8 ∷ 6 ∷ 7 ∷ 7 ∷ [])
     ∷ (told 3 (after false (handed 3 7 5 6 7)), 8 ∷ 6 ∷ 7 ∷ 7 ∷ [])
     -- the tick that reaches the limit still counts; a tally at the limit with the total below
-    -- stands
+    -- stays
     ∷ (told 3 (after true (handed 3 4294967294 5 4294967295 7)), 4294967295 ∷ 6 ∷ 4294967295 ∷ 7 ∷ [])
     -- the next does not count
     ∷ (told 3 (after true (handed 3 4294967295 6 4294967295 7)), 4294967295 ∷ 6 ∷ 4294967295 ∷ 7 ∷ [])
     -- a tick of another clock counts nowhere
     ∷ (told 3 (idle-after (handed 3 7 5 6 7)), 7 ∷ 5 ∷ 6 ∷ 7 ∷ [])
-    -- a full tick on a fresh card names nobody
+    -- a full tick on a fresh card names no cell
     ∷ (told 16 (after true fresh), 1 ∷ replicate 16 0)
-    -- the first tick after a load names everybody, the next one nobody
+    -- the first tick after a load names every cell, the next one none
     ∷ (told 17 (after true loadedCard), 1 ∷ replicate 16 1 ++ 0 ∷ [])
     ∷ (told 17 (after true (after true loadedCard)), 2 ∷ replicate 16 1 ++ 0 ∷ [])
     ∷ []

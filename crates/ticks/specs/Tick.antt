@@ -132,8 +132,8 @@ linesIn n m connectors sample =
 abbrev pub lines : (n : ℕ) → Card → Input → Lines
 lines n c input = linesIn n (c .memory) (c .connectors) (effectiveSample (input .sample) (input .attached))
 
--- of the cell words a card of n cells has n bits: what a card is handed in with above them nobody
--- sees, and a tick that runs leaves it behind
+-- of the cell words a card of n cells has n bits: no reader sees what a given card has above them,
+-- and a tick that runs drops it
 abbrev pub trimmed : (n : ℕ) → Memory → Memory
 trimmed n m =
     record {

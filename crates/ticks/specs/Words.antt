@@ -1,5 +1,5 @@
 -- The words that addresses are read from, as what they read: the code keeps four words for what a
--- reader reads, and four for what it reads otherwise than in the last tick.
+-- reader reads, and four for what has changed since the last tick.
 use Prim.Native.Nat.{ℕ, _^_, _<_}
 use mathlib.Core.Path.{_≡_}
 use mathlib.Core.Bool.{Bool, not, _||_, Bool·beq}
@@ -14,11 +14,11 @@ use Rattle.ticks.specs.Reading.{reads}
 unfoldable pub ReadsAs : List ℕ → (ℕ → Bool) → (ℕ → Bool) → Type 0
 ReadsAs q now before = (a : ℕ) → a < 256 → readFrom q a ≡ reads now before a
 
--- an address is set where the two sets of words have it read otherwise
+-- an address is set where it reads differently in the two sets of words
 unfoldable pub Differ : List ℕ → List ℕ → List ℕ → Type 0
 Differ d p q = (a : ℕ) → a < 256 → readFrom d a ≡ not (Bool·beq (readFrom p a) (readFrom q a))
 
--- an address is set where it reads otherwise now than in the last tick
+-- an address is set where its reading has changed since the last tick
 unfoldable pub MovesAs : List ℕ → (now last earlier : ℕ → Bool) → Type 0
 MovesAs d now last earlier = (a : ℕ) → a < 256 → readFrom d a ≡ not (Bool·beq (reads now last a) (reads last earlier a))
 

@@ -1,4 +1,4 @@
-// A quick tick for a card that is changed where it sits. Where every cell sleeps, it changes the
+// A quick tick for a card that is changed where it is. Where every cell sleeps, it changes the
 // memory and the tick total alone, and these are made without a card.
 ghost use mathlib.Core.Bool.{true, false};
 ghost use mathlib.Core.Path.{_≡_};

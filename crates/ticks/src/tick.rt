@@ -66,7 +66,7 @@ pub struct Ticked {
 }
 
 // A cell asked and, where it is due, worked out. q holds what the addresses read, d which of them
-// read otherwise than in the last tick.
+// have changed since the last tick.
 fn stepped(
     full: bool,
     edited: bool,
@@ -147,8 +147,8 @@ fn noted(named: EditedSet, i: u32, is: bool) -> EditedSet
 
 // ---- a tick
 //
-// The two kinds stand side by side: where two branches end in one card, the compiler copies that
-// card once more.
+// The two kinds are written side by side: where two branches end in one card, the compiler copies
+// that card once more.
 
 // The connectors, driven from the last tick's words, and the levels of what comes in.
 pub(crate) fn lines_in(connectors: Connectors, m: Memory, input: Input) -> Lines

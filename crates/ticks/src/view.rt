@@ -70,7 +70,7 @@ pub(crate) fn quarters(now: u64, before: u64) -> [u64; QUARTERS]
     [now, low, now & (before ^ ALL), (low & before) | 1]
 }
 
-// The addresses that read otherwise from one set of words than from another.
+// The addresses whose readings differ between two sets of words.
 fn differing(a: [u64; QUARTERS], b: [u64; QUARTERS]) -> [u64; QUARTERS]
     ensures { λ d. ⌜ Differ d a b ⌝ }
 {
@@ -98,7 +98,7 @@ pub fn words_last(i: u32, w: Wires) -> [u64; QUARTERS]
     quarters(last, earlier)
 }
 
-// The addresses that it reads otherwise than in the last tick that ran.
+// The addresses whose readings have changed since the last tick that ran.
 pub(crate) fn words_moved(i: u32, below: CellWord, w: Wires) -> [u64; QUARTERS]
     requires { ⌜ i < 64 ⌝ }
     ensures { λ d. ⌜ ((n : ℕ) → n ≤ cellRoom → below < 2 ^ n → Fits n w

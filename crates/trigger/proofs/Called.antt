@@ -32,7 +32,7 @@ module _ {M : Type 1} {𝓤 : URA M} {H : Heap 𝓤} {A : Atoms 𝓤} {K : Type 
       → (T (not y) → Seq K W Γ (runs C Λ E b Q)) → Seq K W Γ (runs C Λ E (seq (cond c a skip) b) Q)
   guards t o held failed = first t $ branches t o held (λ h. skips t $ record { prf = failed h .prf })
 
--- ---- the locals are freed, behind three other things
+-- ---- the locals are freed, after three other things
 
 module _ {M : Type 1} {𝓤 : URA M} {H : Heap 𝓤} {A : Atoms 𝓤} {K : Type 0} {W : Given 𝓤 H A} where
   pub frees8 : K → {τ₀ τ₁ τ₂ τ₃ τ₄ τ₅ τ₆ τ₇ : Ty} {l₀ l₁ l₂ l₃ l₄ l₅ l₆ l₇ : ℕ} {x y z : Item 𝓤} {Γ : List (Item 𝓤)} {G : Goal 𝓤 H} → Step K W (x ∷ y ∷ z ∷

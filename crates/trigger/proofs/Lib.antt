@@ -1,4 +1,4 @@
--- What the walks of the calls on a lent card share.
+-- What the walks of the calls that take a card by reference share.
 pub mod Walk
 pub mod Types
 pub mod Called

@@ -1,5 +1,5 @@
-// The card for programs in C and Rust: a static library whose calls take and give the card by
-// value.
+// The public calls on one card, for programs in C and Rust: a static library whose calls take and
+// give the card by value; those whose name ends in `_in` change it where it is.
 ghost use mathlib.Core.Bool.{true, false};
 ghost use mathlib.Core.Path.{_≡_};
 ghost use Prim.Native.Nat.{_≤_};
@@ -64,11 +64,11 @@ pub extern "C" fn trigger_quick_tick(card: Card, input: Input) -> Ticked
     ticks::tick::quick_tick(card, input)
 }
 
-// ---- the card where it sits: proved by a walk of the code. A tick of another clock is answered before
-// anything is copied.
+// ---- the card where it is: proved by a walk of the code. A tick of another clock is answered
+// before anything is copied.
 
-// The same as `trigger_quick_tick`, of a card that is lent. Where every cell sleeps the memory and
-// the tick total are all that is written.
+// The same as `trigger_quick_tick`, of a card that is given by reference. Where every cell sleeps
+// the memory and the tick total are all that is written.
 #[no_mangle]
 pub extern "C" fn trigger_quick_tick_in(card: &mut Card, input: Input) -> Answer
     ensures { λ r. ⌜ (r ≡ tick (cellsFor (now (card .entry) .size)) false (now (card .entry)) input .answer)
@@ -88,7 +88,7 @@ pub extern "C" fn trigger_quick_tick_in(card: &mut Card, input: Input) -> Answer
     t.answer
 }
 
-// The same as `trigger_full_tick`, of a card that is lent.
+// The same as `trigger_full_tick`, of a card that is given by reference.
 #[no_mangle]
 pub extern "C" fn trigger_full_tick_in(card: &mut Card, input: Input) -> Answer
     ensures { λ r. ⌜ (r ≡ tick (cellsFor (now (card .entry) .size)) true (now (card .entry)) input .answer)

@@ -33,7 +33,7 @@ use Rattle.wiring.proofs.PartLaws.{LF, cca, pair, no-slots, slot-parts,
 
 -- ---- parts
 
--- a number of k digits at most, behind its word
+-- a number of k digits at most, after its word
 part-most : (given : Bool) (w : List ℕ) (v : ℕ) (e : List ℕ) (k : ℕ) → 1 ≤ k → v < 10 ^ k → length (part given w v e) ≤ length w + (k + length e)
 unfolding part
 part-most true w v e k low h =

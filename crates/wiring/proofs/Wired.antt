@@ -159,7 +159,7 @@ whole-cell n cell ok = go (anySlot (rowOf (cell .kind) .used)) refl
     go true e = written-is n cell ok
     go false e = unslotted n cell ok e ∙ written-is n cell ok
 
--- a slot that is not given keeps what it holds, whatever address stands for it
+-- a slot that is not given keeps what it holds, whatever address is given for it
 slot-given : (given edge : Bool) (v old : ℕ) → wiredSlot given edge v old ≡ wiredSlot given edge (wireOf given v) old
 slot-given true edge v old = refl
 slot-given false edge v old = refl
@@ -355,7 +355,7 @@ module _ (n store : ℕ) (apart : firstCell + n ≤ firstConnector) where
         connectors = more .connectors ∙ ap (λ (l : List Connector). sets l (suc k) connectors) (first .connectors);
       }
 
-  -- a front that is set whole, and what stands behind it
+  -- a front that is set whole, and what follows it
   sets-front : (a b xs : List Cell) → length xs ≡ length a → sets (a ++ b) 0 xs ≡ xs ++ b
   sets-front a b xs e =
       let whole = length-append a b in

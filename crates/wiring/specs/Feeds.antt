@@ -12,7 +12,7 @@ use Rattle.wiring.specs.Settable.{fed, allAccepted, Has}
 use Rattle.wiring.specs.Parts.{lineFeed}
 use Rattle.wiring.specs.Print.{wiringText}
 
--- the lines of a text, each ended by LF, behind the bytes of a line that has not ended
+-- the lines of a text, each ended by LF, after the bytes of a line that has not ended
 unfoldable pub linesBehind : List ℕ → List ℕ → List (List ℕ)
 linesBehind line [] = []
 linesBehind line (b ∷ bs) = cond (eqb b lineFeed) (line ∷ linesBehind [] bs) (linesBehind (line ++ (b ∷ [])) bs)
@@ -20,7 +20,7 @@ linesBehind line (b ∷ bs) = cond (eqb b lineFeed) (line ∷ linesBehind [] bs)
 abbrev pub linesIn : List ℕ → List (List ℕ)
 linesIn text = linesBehind [] text
 
--- the lines that a card prints behind any list of calls are each accepted by a fresh card, where
+-- the lines that a card prints after any list of calls are each accepted by a fresh card, where
 -- they have room for their replies, and set there what they were printed of
 unfoldable pub FeedsBack : ℕ → Type 0
 FeedsBack n = (calls : List Call) (reply store : ℕ) → shortestReply ≤ reply

@@ -39,7 +39,7 @@ abbrev pub connectorLines : ℕ
 connectorLines = ccaLine oneDigit + ccaLine addressDigits
 
 -- places from the one at i on, so many of them, each `M E=` with its number and LF, and so many
--- bytes behind it
+-- bytes after it
 unfoldable pub places : (first each i count : ℕ) → ℕ
 places first each i zero = 0
 places first each i (suc count) = (4 + (length (decimal (first + i)) + 1)) + (each + places first each (suc i) count)

@@ -24,7 +24,7 @@ linesText (line ∷ lines) = line ++ (lineFeed ∷ linesText lines)
 unfoldable pub commandsText : List Command → List ℕ
 commandsText commands = linesText (map commandText commands)
 
--- a number behind a word and before an ending, where it is given
+-- a number after a word and before an ending, where it is given
 unfoldable pub part : Bool → List ℕ → ℕ → List ℕ → List ℕ
 part given word v ending = cond given (word ++ (decimal v ++ ending)) []
 
@@ -33,7 +33,7 @@ unfoldable pub slotsText : Cell → List ℕ
 slotsText cell = commandsText (only (anySlot (rowOf (cell .kind) .used)) (SetSlots (pairsIn cell)))
 
 -- a line of one number, whose words have eight bytes at most; a slot's pair; a line of four pairs
--- behind `36CCB`
+-- after `36CCB`
 abbrev pub numberMost : ℕ
 numberMost = 8 + (maxDigits + 1)
 

@@ -28,7 +28,7 @@ printNumber n c size = when (tooLong n c size) 16
 abbrev pub printLength : ℕ → Card → (size : ℕ) → ℕ
 printLength n c size = cond (tooLong n c size) 0 (length (wiringText n c))
 
--- "the buffer is then untouched"; else the text stands at its front, and what lies beyond is as it
+-- "the buffer is then untouched"; else the text is at its front, and what lies beyond is as it
 -- was
 abbrev pub printedTo : ℕ → Card → (buffer : List ℕ) → List ℕ
 printedTo n c buffer = cond (tooLong n c (length buffer)) buffer (sets buffer 0 (wiringText n c))

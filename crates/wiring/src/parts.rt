@@ -1,4 +1,4 @@
-// The parts of a printed wiring, each written behind the last: a number behind its word, the slots
+// The parts of a printed wiring, each written after the last: a number after its word, the slots
 // of a cell, a cell, a connector.
 ghost use mathlib.Core.Path.{_≡_};
 ghost use Prim.Native.Nat.{_+_, _*_, _^_, _<_, _≤_};
@@ -17,7 +17,7 @@ use card::limits::FIRST_CELL;
 use card::limits::FIRST_CONNECTOR;
 use cells::cell::Cell;
 
-// `maxDigits`: of a number.
+// `maxDigits`: the most digits of a number.
 const DIGITS: usize = 10;
 
 // The most bytes of a line of one number, of a line of slots, of a cell and of a connector.
@@ -32,7 +32,7 @@ const CONNECTOR_MOST: usize = 3 * NUMBER_MOST;
 // `textMost`: any card's wiring has room here.
 pub const TEXT_MOST: usize = CELLS * CELL_MOST + (CONNECTORS * CONNECTOR_MOST + NUMBER_MOST);
 
-// A number behind a word and before an ending, where it is given. The place behind it.
+// A number after a word and before an ending, where it is given; the result is the place after it.
 pub(crate) fn put(
     out: &mut [u8; TEXT_MOST],
     at: usize,
@@ -129,7 +129,7 @@ pub(crate) fn put_cells(out: &mut [u8; TEXT_MOST], cells: [Cell; CELLS], n: u8) 
     at
 }
 
-// The lines of all connectors, behind those of the cells.
+// The lines of all connectors, after those of the cells.
 pub(crate) fn put_connectors(
     out: &mut [u8; TEXT_MOST],
     start: usize,

@@ -1,4 +1,4 @@
-// The public call: a card's wiring, written to a lent buffer.
+// The public call: a card's wiring, written to a buffer that the caller gives.
 ghost use mathlib.Core.Path.{_≡_};
 ghost use Prim.Native.Nat.{_≤_};
 ghost use lib.ListN.{length};
@@ -38,7 +38,7 @@ fn put_wiring(out: &mut [u8; TEXT_MOST], card: Card) -> usize
 
 // The settings of a card as lines, each ended by LF, written to the front of a buffer; beyond them
 // the buffer is as it was. Any card prints. k is 16 where the text is longer than the buffer, which
-// then stays.
+// then stays as it was.
 pub fn print(card: Card, buffer: &mut [u8]) -> Printed
     ensures { λ r. ⌜ r .k ≡ printNumber (cellsFor (card .size)) card (length (now (buffer .entry))) ⌝ }
     ensures { λ r. ⌜ r .len ≡ printLength (cellsFor (card .size)) card (length (now (buffer .entry))) ⌝ }

@@ -1,9 +1,9 @@
-// The wiring that an input holds, for programs that answer about it or hand it on.
+// The wiring that an input holds, for programs that answer about it or pass it on.
 //
 // A wiring with a refused line is not the one that was written, so there is none, unless the user
 // asks for it all the same. Each refused line is reported with the rule that refused it. An input
 // of a form that no card takes is reported, and nothing more is read.
-pub mod refused;
+pub mod refused; // how a refused line is reported
 
 ghost use Prim.Native.Nat.{_<_};
 ghost use Rattle.session.specs.Feed.{Ready};

@@ -158,11 +158,11 @@ ones-built f (suc n) =
 
 -- ---- a bit replaced
 
--- what stands below a place fits below it
+-- what is below a place fits below it
 low-lt : (w i : ℕ) → w % 2 ^ i < 2 ^ i
 low-lt w i = mod-lt w (pow-pos i)
 
--- the new bit on top of what stands below it
+-- the new bit on top of what is below it
 under-lt : (w i : ℕ) (b : Bool) → bitNumber b * 2 ^ i + w % 2 ^ i < 2 ^ suc i
 under-lt w i b = top-lt b i (w % 2 ^ i) (low-lt w i)
 

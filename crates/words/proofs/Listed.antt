@@ -39,7 +39,7 @@ module _ {A : Type 0} where
       rw (er, ev, drop-cons l i d h, add-one)
       (set-at (listed f i) (getD l i d) (drop (suc i) l) (f i) i (length-listed f i) ∙ sym (append-snoc (listed f i) (f i) (drop (suc i) l)))
 
-  -- behind the entries that were replaced stands what stood there
+  -- after the entries that were replaced the list is as it was
   pub behind-at : (f : ℕ → A) (i : ℕ) (l r : List A) (d : A) → r ≡ listed f i ++ drop i l → i < length l → getD r i d ≡ getD l i d
   behind-at f i l r d e h = rw (e, drop-cons l i d h) (getD-at (listed f i) (getD l i d) _ d i (length-listed f i))
 

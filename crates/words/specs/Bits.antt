@@ -19,7 +19,7 @@ unfoldable pub wordOf : (ℕ → Bool) → ℕ → ℕ
 wordOf f zero = 0
 wordOf f (suc n) = wordOf f n + bitNumber (f n) * 2 ^ n
 
--- the word w with bit i made b: what stands above it, b, and what stands below it
+-- the word w with bit i made b: what is above it, b, and what is below it
 unfoldable pub withBit : (w i : ℕ) (b : Bool) → ℕ
 withBit w i b = w / 2 ^ suc i * 2 ^ suc i + (bitNumber b * 2 ^ i + w % 2 ^ i)
 

@@ -1,3 +1,3 @@
--- What a reader must believe: the definitions that the contracts cite.
+-- What a reader must believe of words: their bits, and lists that are given entry by entry.
 pub mod Bits
 pub mod Listed

@@ -1,4 +1,4 @@
--- `input::next_line` meets its contract. The loop's invariant: the line so far and the bytes behind it are those that were pending and that reads gave.
+-- `input::next_line` meets its contract. The loop's invariant: the line so far and the bytes after it are those that were pending and that reads gave.
 -- The measure is the number of reads that are left.
 use Prim.Native.Nat.{ℕ}
 use mathlib.Core.Path.{_≡_, refl, subst}

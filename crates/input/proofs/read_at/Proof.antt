@@ -1,4 +1,4 @@
--- `input::read_at` meets its contract: what stands before the place is as it was.
+-- `input::read_at` meets its contract: what is before the place is as it was.
 use native.Mathlib.Omega.{arith}
 use lib.ListN.{take}
 use lib.Seq.{take-at, length-take-le}

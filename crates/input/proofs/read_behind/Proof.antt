@@ -1,4 +1,4 @@
--- `input::read_behind` meets its contract: the line stands at the front of the block, and the read leaves it there.
+-- `input::read_behind` meets its contract: the line is at the front of the block, and the read leaves it there.
 use Prim.Native.Nat.{ℕ, _≤_, _-_}
 use mathlib.Core.Path.{_≡_, sym, ap, _∙_}
 use native.Mathlib.Omega.{arith}

@@ -1,4 +1,4 @@
--- `plchart::put_field` meets its contract: the digits, and the mark behind them.
+-- `plchart::put_field` meets its contract: the digits, and the mark after them.
 use Prim.Native.Nat.{_+_, _≤_, _<_}
 use mathlib.Core.Path.{_≡_, refl}
 use mathlib.Core.List.{[], _∷_}

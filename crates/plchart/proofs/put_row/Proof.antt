@@ -1,4 +1,4 @@
--- `plchart::put_row` meets its contract: five fields, one behind the other.
+-- `plchart::put_row` meets its contract: five fields, one after the other.
 use Prim.Native.Nat.{_+_, _≤_}
 use mathlib.Core.Path.{_≡_, _∙_}
 use mathlib.Core.List.{_++_, append-assoc}

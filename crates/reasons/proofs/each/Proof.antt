@@ -1,4 +1,4 @@
--- `why::each` meets its contract: after i turns the first i entries are the reasons of the first i cells.
+-- `reasons::each` meets its contract: after i turns the first i entries are the reasons of the first i cells.
 use Prim.Native.Nat.{ℕ, _-_, _≤_, zero-le}
 use mathlib.Core.Path.{_≡_, refl}
 use mathlib.Core.List.{List, _++_}

@@ -1,4 +1,4 @@
--- `why::reasons` meets its contract: idle ticks have none; of one that runs the words are those of the tick, cut to the card's cells.
+-- `reasons::reasons` meets its contract: idle ticks have none; of one that runs the words are those of the tick, cut to the card's cells.
 use Prim.Native.Nat.{ℕ}
 use mathlib.Core.Path.{_≡_, refl, sym, ap, ap₂, subst, _∙_}
 use mathlib.Core.Bool.{Bool, true, false, cond}

@@ -1,4 +1,4 @@
--- `why::reasons_at` meets its contract: the slots read from the words what they read by the views of the two ticks.
+-- `reasons::reasons_at` meets its contract: the slots read from the words what they read by the views of the two ticks.
 use Prim.Native.Nat.{ℕ}
 use mathlib.Core.Path.{ap, ap₂, _∙_}
 use mathlib.Core.Bool.{Bool}

@@ -1,4 +1,4 @@
--- `why::ticked` meets its contract: the tick of either kind is that of the definition.
+-- `reasons::ticked` meets its contract: the tick of either kind is that of the definition.
 use mathlib.Core.Path.{sym, ap, _∙_}
 use mathlib.Core.Bool.{Bool}
 use Rattle.card.specs.Address.{cellsFor}

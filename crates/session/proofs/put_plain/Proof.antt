@@ -1,4 +1,4 @@
--- `session::put_plain` meets its contract: the reply without its ending, and LF behind it.
+-- `session::put_plain` meets its contract: the reply without its ending, and LF after it.
 use Prim.Native.Nat.{ℕ, _+_, _-_}
 use mathlib.Core.Path.{_≡_, ap, _∙_}
 use mathlib.Core.List.{[], _∷_}

@@ -1,4 +1,4 @@
--- `session::put_tick` meets its contract: each part is stored behind the last.
+-- `session::put_tick` meets its contract: each part is stored after the last.
 use mathlib.Core.List.{[], _∷_}
 use native.Mathlib.Omega.{arith}
 use lib.Dec.{lit≤}

@@ -1,4 +1,4 @@
--- `session::put_word` meets its contract: the byte goes behind the digits.
+-- `session::put_word` meets its contract: the byte goes after the digits.
 use Prim.Native.Nat.{ℕ, _+_}
 use mathlib.Core.Path.{sym, ap, ap₂, _∙_}
 use mathlib.Core.List.{List}

@@ -1,3 +1,4 @@
+-- `steady::advance` meets its contract.
 use borrow.Author.Needs.{needs}
 use Prim.Native.Nat.{ℕ, _≤_}
 use mathlib.Core.Path.{_≡_, ap, ap₂, subst, _∙_}

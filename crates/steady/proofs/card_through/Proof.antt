@@ -1,3 +1,4 @@
+-- `steady::card_through` meets its contract.
 use borrow.Author.Needs.{needs}
 use Rattle.steady.proofs.Made.{ran-through, idle-through}
 use Rattle.steady.proofs.card_through.Statement.{statement}

@@ -1,3 +1,4 @@
+-- `steady::cell_through` meets its contract.
 use Prim.Native.Nat.{ℕ}
 use mathlib.Core.Path.{ap}
 use Rattle.cells.specs.State.{stateOf, withState}

@@ -1,3 +1,4 @@
+-- `steady::made_of` meets its contract.
 use borrow.Author.Needs.{needs}
 use mathlib.Core.Path.{_∙_}
 use Rattle.steady.proofs.Cases.{made-one, made-more}

@@ -19,7 +19,7 @@ Inv-loop text at n v₀ i₀ v i =
 abbrev μ-loop : tie.MeasureT-loop
 μ-loop text at n v₀ i₀ v i = n - i
 
--- the byte at hand, and that it is a digit
+-- the current byte, and that it is a digit
 abbrev Byte : tie.At-loop Inv-loop μ-loop → ℕ
 Byte c = getD (c .before .args .text .now) (c .before .args .at + c .loop .i) 0
 

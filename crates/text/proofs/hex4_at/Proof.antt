@@ -25,7 +25,7 @@ abbrev μ-loop : tie.MeasureT-loop
 room : (c : tie.At-loop Inv-loop μ-loop) (d : ℕ) → d < 16 → c .loop .i < 4 → c .loop .value * 16 + d < 16 ^ 4
 room c d h l = fits 16 (c .loop .i) 4 (c .loop .value) d (c .loop .inv .1) h l
 
--- the byte at hand passed the test
+-- the current byte passed the test
 abbrev Byte : tie.Else1 Inv-loop μ-loop → ℕ
 Byte c =
     let l = c .before .before .before .before in

@@ -1,4 +1,4 @@
--- `text::put_numbered` meets its contract: three stores, one behind the other, make one text.
+-- `text::put_numbered` meets its contract: three stores, one after the other, make one text.
 use Prim.Native.Nat.{_+_, _≤_}
 use native.Mathlib.Omega.{arith}
 use lib.Dec.{lit≤}

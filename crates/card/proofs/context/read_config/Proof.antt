@@ -1,4 +1,4 @@
--- `card::context::read_config` meets its contract: by where the pointer stands.
+-- `card::context::read_config` meets its contract: by where the pointer is.
 use borrow.Author.Needs.{needs}
 use Rattle.card.proofs.context.read_config.Statement.{statement}
 use Rattle.card.proofs.context.read_config.Tie as tie

@@ -1,4 +1,4 @@
--- `card::edits::current_cell` meets its contract: the test is whether the pointer stands at one.
+-- `card::edits::current_cell` meets its contract: the test is whether the pointer is at one.
 use mathlib.Core.Path.{sym, _∙_}
 use native.Mathlib.Omega.{arith}
 use Rattle.card.specs.Address.{firstCell}

@@ -1,4 +1,4 @@
--- `card::edits::put_cell` meets its contract: one element is replaced, and its bit of the edits set, where the pointer stands at a cell.
+-- `card::edits::put_cell` meets its contract: one element is replaced, and its bit of the edits set, where the pointer is at a cell.
 use mathlib.Core.Path.{sym, _∙_}
 use native.Mathlib.Omega.{arith}
 use Rattle.card.specs.Address.{firstCell}

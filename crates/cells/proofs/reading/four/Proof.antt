@@ -1,3 +1,4 @@
+-- `cells::reading::four` meets its contract.
 use borrow.Author.Needs.{needs}
 use Rattle.cells.proofs.reading.four.Statement.{statement}
 use Rattle.cells.proofs.reading.four.Tie as tie

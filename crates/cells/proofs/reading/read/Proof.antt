@@ -1,3 +1,4 @@
+-- `cells::reading::read` meets its contract.
 use Rattle.cells.specs.Reading.{readFrom}
 use borrow.Author.Needs.{needs}
 use Rattle.cells.proofs.reading.read.Statement.{statement}

@@ -1,3 +1,4 @@
+-- `cells::reading::three` meets its contract.
 use borrow.Author.Needs.{needs}
 use Rattle.cells.proofs.reading.three.Statement.{statement}
 use Rattle.cells.proofs.reading.three.Tie as tie

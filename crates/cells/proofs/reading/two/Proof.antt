@@ -1,3 +1,4 @@
+-- `cells::reading::two` meets its contract.
 use borrow.Author.Needs.{needs}
 use Rattle.cells.proofs.reading.two.Statement.{statement}
 use Rattle.cells.proofs.reading.two.Tie as tie

@@ -76,7 +76,7 @@ next k n h a b c d e = omega arith
 last : (n : ℕ) → 20 ≤ n → (n ≡ 20 → ⊥) → (n ≡ 21 → ⊥) → (n ≡ 22 → ⊥) → typeCount ≤ n
 last n h a b c = omega arith
 
--- what the arms tell of the others: all types are passed
+-- what the arms say of the others: all types are passed
 all-missed : (n : ℕ)
     → ((((((((((((((((((((Unit {0} × (n ≡ 0 → ⊥)) × ((n ≡ 1) ⊎ ((n ≡ 12) ⊎ (n ≡ 18)) → ⊥)) × (n ≡ 2 → ⊥)) × (n ≡ 3 → ⊥)) × (n ≡ 4 → ⊥)) × (n ≡ 5 → ⊥))
     × (n ≡ 6 → ⊥)) × (n ≡ 7 → ⊥)) × (n ≡ 8 → ⊥)) × (n ≡ 9 → ⊥)) × (n ≡ 10 → ⊥)) × (n ≡ 11 → ⊥)) × (n ≡ 13 → ⊥)) × (n ≡ 14 → ⊥)) × (n ≡ 15 → ⊥))

@@ -7,7 +7,7 @@ use borrow.Author.Needs.{needs}
 use Rattle.cells.proofs.work.look.Statement.{statement}
 use Rattle.cells.proofs.work.look.Tie as tie
 
--- what the code read is what stands in the slot
+-- what the code read is what is in the slot
 tested : (v read slot t : Bool) → read ≡ slot → Bool·beq read v ≡ t → Bool·beq slot v ≡ t
 tested v read slot t e h = ap (λ (b : Bool). Bool·beq b v) (sym e) ∙ h
 

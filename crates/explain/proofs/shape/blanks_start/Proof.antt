@@ -1,4 +1,4 @@
--- `transcript::shape::blanks_start` meets its contract: it goes back from byte to byte.
+-- `explain::shape::blanks_start` meets its contract: it goes back from byte to byte.
 use Prim.Native.Nat.{_≤_}
 use native.Mathlib.Omega.{arith}
 use borrow.Author.Needs.{needs}

@@ -1,4 +1,4 @@
--- `transcript::shape::remark_start` meets its contract: a turn for each byte.
+-- `explain::shape::remark_start` meets its contract: a turn for each byte.
 use Prim.Native.Nat.{_≤_, _-_}
 use native.Mathlib.Omega.{arith}
 use lib.ListN.{length}

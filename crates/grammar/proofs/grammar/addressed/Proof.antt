@@ -1,4 +1,4 @@
--- `commands::grammar::addressed` meets its contract: each arm is a case of the definition.
+-- `grammar::grammar::addressed` meets its contract: each arm is a case of the definition.
 use Rattle.grammar.specs.Grammar.{addressed}
 use borrow.Author.Needs.{needs}
 use Rattle.grammar.proofs.grammar.addressed.Statement.{statement}

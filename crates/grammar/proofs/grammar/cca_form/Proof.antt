@@ -1,4 +1,4 @@
--- `commands::grammar::cca_form` meets its contract: each way is a case of the definition.
+-- `grammar::grammar::cca_form` meets its contract: each way is a case of the definition.
 use borrow.Author.Tests.{eq-eqb, ne-eqb}
 use Rattle.grammar.specs.Grammar.{ccaForm}
 use borrow.Author.Needs.{needs}

@@ -1,4 +1,4 @@
--- `commands::grammar::cca_write` meets its contract: each arm is a case of the definition.
+-- `grammar::grammar::cca_write` meets its contract: each arm is a case of the definition.
 use Rattle.grammar.specs.Grammar.{ccaWrite}
 use borrow.Author.Needs.{needs}
 use Rattle.grammar.proofs.grammar.cca_write.Statement.{statement}

@@ -1,4 +1,4 @@
--- `commands::grammar::ccb_form` meets its contract: each way is a case of the definition.
+-- `grammar::grammar::ccb_form` meets its contract: each way is a case of the definition.
 use Rattle.grammar.specs.Grammar.{ccbForm}
 use borrow.Author.Needs.{needs}
 use Rattle.grammar.proofs.grammar.ccb_form.Statement.{statement}

@@ -1,4 +1,4 @@
--- `commands::grammar::char_at` meets its contract: past the end a list reads as 0.
+-- `grammar::grammar::char_at` meets its contract: past the end a list reads as 0.
 use mathlib.Core.Path.{sym}
 use lib.ListN.{List·getD-eq-default}
 use borrow.Author.Needs.{needs}

@@ -1,4 +1,4 @@
--- `commands::grammar::is_whole` meets its contract: by `is_word`, and the lengths.
+-- `grammar::grammar::is_whole` meets its contract: by `is_word`, and the lengths.
 use Rattle.grammar.specs.Grammar.{isWhole}
 use borrow.Author.Needs.{needs}
 use Rattle.grammar.proofs.grammar.is_whole.Statement.{statement}

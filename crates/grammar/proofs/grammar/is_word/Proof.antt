@@ -1,4 +1,4 @@
--- `commands::grammar::is_word` meets its contract: after i turns what is left to show is the word without its first i bytes.
+-- `grammar::grammar::is_word` meets its contract: after i turns what is left to show is the word without its first i bytes.
 use borrow.Author.Needs.{needs}
 use Prim.Native.Nat.{_+_, _-_, _≤_, zero-le}
 use mathlib.Core.Path.{_≡_, sym, _∙_}

@@ -1,4 +1,4 @@
--- `commands::grammar::moved` meets its contract: each arm is a case of the definition.
+-- `grammar::grammar::moved` meets its contract: each arm is a case of the definition.
 use borrow.Author.Needs.{needs}
 use Rattle.grammar.proofs.grammar.moved.Statement.{statement}
 use Rattle.grammar.proofs.grammar.moved.Tie as tie

@@ -1,4 +1,4 @@
--- `commands::grammar::parse_line` meets its contract: each way is a case of the definition.
+-- `grammar::grammar::parse_line` meets its contract: each way is a case of the definition.
 use mathlib.Core.Path.{ap, _∙_}
 use borrow.Author.Tests.{le-leb, lt-leb}
 use Rattle.grammar.specs.Grammar.{longestLine, addressed, parse}

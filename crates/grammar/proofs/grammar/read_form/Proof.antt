@@ -1,4 +1,4 @@
--- `commands::grammar::read_form` meets its contract: each arm is a case of the definition.
+-- `grammar::grammar::read_form` meets its contract: each arm is a case of the definition.
 use Rattle.grammar.specs.Grammar.{readForm}
 use borrow.Author.Needs.{needs}
 use Rattle.grammar.proofs.grammar.read_form.Statement.{statement}

@@ -1,4 +1,4 @@
--- `commands::grammar::read_of` meets its contract: each arm is a case of the definition.
+-- `grammar::grammar::read_of` meets its contract: each arm is a case of the definition.
 use Rattle.grammar.specs.Grammar.{readOf}
 use borrow.Author.Needs.{needs}
 use Rattle.grammar.proofs.grammar.read_of.Statement.{statement}

@@ -1,4 +1,4 @@
--- `commands::grammar::slot_form` meets its contract: each arm is a case of the definition.
+-- `grammar::grammar::slot_form` meets its contract: each arm is a case of the definition.
 use Rattle.grammar.specs.Grammar.{slotForm}
 use borrow.Author.Needs.{needs}
 use Rattle.grammar.proofs.grammar.slot_form.Statement.{statement}

@@ -1,4 +1,4 @@
--- `commands::grammar::slot_of` meets its contract: each arm is a case of the definition.
+-- `grammar::grammar::slot_of` meets its contract: each arm is a case of the definition.
 use borrow.Author.Tests.{ne-eqb}
 use Rattle.grammar.specs.Grammar.{slotOf}
 use Rattle.grammar.proofs.grammar.slot_of.Statement.{statement}

@@ -1,4 +1,4 @@
--- `commands::grammar::to_end` meets its contract: each way is a case of the definition.
+-- `grammar::grammar::to_end` meets its contract: each way is a case of the definition.
 use borrow.Author.Tests.{le-leb, lt-leb}
 use Rattle.grammar.specs.Grammar.{toEnd}
 use borrow.Author.Needs.{needs}

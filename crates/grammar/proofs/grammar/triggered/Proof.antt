@@ -1,4 +1,4 @@
--- `commands::grammar::triggered` meets its contract: each arm is a case of the definition.
+-- `grammar::grammar::triggered` meets its contract: each arm is a case of the definition.
 use borrow.Author.Needs.{needs}
 use Rattle.grammar.proofs.grammar.triggered.Statement.{statement}
 use Rattle.grammar.proofs.grammar.triggered.Tie as tie

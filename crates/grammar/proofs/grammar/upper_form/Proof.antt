@@ -1,4 +1,4 @@
--- `commands::grammar::upper_form` meets its contract: a card has these cells exactly where its size is that of a large one.
+-- `grammar::grammar::upper_form` meets its contract: a card has these cells exactly where its size is that of a large one.
 use borrow.Author.Tests.{eq-eqb, ne-eqb}
 use Rattle.card.specs.Address.{cellRoom, cellsFor}
 use Rattle.grammar.specs.Grammar.{readOf}

@@ -1,4 +1,4 @@
--- `commands::grammar::write_of` meets its contract: each arm is a case of the definition.
+-- `grammar::grammar::write_of` meets its contract: each arm is a case of the definition.
 use Rattle.grammar.specs.Grammar.{writeOf}
 use borrow.Author.Needs.{needs}
 use Rattle.grammar.proofs.grammar.write_of.Statement.{statement}

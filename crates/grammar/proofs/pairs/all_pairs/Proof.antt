@@ -1,4 +1,4 @@
--- `lines::pairs::all_pairs` meets its contract: four steps, and the end of the line.
+-- `grammar::pairs::all_pairs` meets its contract: four steps, and the end of the line.
 use mathlib.Core.Path.{_≡_}
 use Rattle.grammar.specs.Grammar.{begun, pairRead, pairsOf}
 use borrow.Author.Needs.{needs}

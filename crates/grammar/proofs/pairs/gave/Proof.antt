@@ -1,4 +1,4 @@
--- `lines::pairs::gave` meets its contract: each arm is a case of the definition.
+-- `grammar::pairs::gave` meets its contract: each arm is a case of the definition.
 use Rattle.grammar.specs.Grammar.{gave}
 use borrow.Author.Needs.{needs}
 use Rattle.grammar.proofs.pairs.gave.Statement.{statement}

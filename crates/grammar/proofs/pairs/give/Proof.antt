@@ -1,4 +1,4 @@
--- `lines::pairs::give` meets its contract: each arm is a case of the definition.
+-- `grammar::pairs::give` meets its contract: each arm is a case of the definition.
 use Rattle.grammar.specs.Grammar.{give}
 use borrow.Author.Needs.{needs}
 use Rattle.grammar.proofs.pairs.give.Statement.{statement}

@@ -1,4 +1,4 @@
--- `lines::pairs::number_from` meets its contract: past the end there is no digit.
+-- `grammar::pairs::number_from` meets its contract: past the end there is no digit.
 use Rattle.grammar.proofs.Words.{number-past}
 use borrow.Author.Needs.{needs}
 use Rattle.grammar.proofs.pairs.number_from.Statement.{statement}

@@ -1,4 +1,4 @@
--- `lines::pairs::read_pair` meets its contract: one pair more where the line goes on, else nothing.
+-- `grammar::pairs::read_pair` meets its contract: one pair more where the line goes on, else nothing.
 use Prim.Native.Nat.{_+_}
 use native.Mathlib.Omega.{arith}
 use lib.ListN.{length}

@@ -1,4 +1,4 @@
--- `program::whole_number` meets its contract, from what `number_at` ensures.
+-- `program::arguments::whole_number` meets its contract, from what `number_at` ensures.
 use Rattle.program.specs.Words.{wholeNumber}
 use Rattle.program.proofs.Numbers.{number-small}
 use borrow.Author.Needs.{needs}

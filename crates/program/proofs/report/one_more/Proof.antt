@@ -1,4 +1,4 @@
--- `program::one_more` meets its contract.
+-- `program::report::one_more` meets its contract.
 use borrow.Author.Tests.{lt-ltb, le-ltb}
 use borrow.Author.Needs.{needs}
 use Rattle.program.proofs.report.one_more.Statement.{statement}

@@ -1,4 +1,4 @@
--- `program::show` meets its contract: the loop stores within the bytes.
+-- `program::report::show` meets its contract: the loop stores within the bytes.
 use Prim.Native.Nat.{_≤_, _-_}
 use mathlib.Core.Path.{_≡_}
 use lib.ListN.{length}

@@ -1,4 +1,4 @@
--- `rack::held::on_row` meets its contract: a walk of its code. The first n cards of the array are lent to `passes` as a row.
+-- `rack::held::on_row` meets its contract: a walk of its code. The first n cards of the array are given to `passes` as a row.
 use Rattle.rack.proofs.Walk.{ !, Atoms, Calls, FmC, Fun, Given, Heap, Is, List, Loops, Meets, Memory, Room, Routine, SProp, Stays, Tables}
 use Rattle.rack.proofs.Walk.{Triple, Ty, URA, Val, Walks, WpFn, WpFn-mono, [], _$_, _++_, _-_, _<_, _^_, _∵_, _∷_, _≡_, _≤_, _⊛_, addr, agg}
 use Rattle.rack.proofs.Walk.{alloc0, alloc1, and-then, arith, assigns, bin, by, cells, cited, done, emp, ends-at, ent, enter, entered, fact}

@@ -1,4 +1,4 @@
--- `rack::rack_calls::rack_load` meets its contract: a walk of its code. The row is lent to `look_each` and twice to `swap_at`; the bytes go to `load_in`.
+-- `rack::rack_calls::rack_load` meets its contract: a walk of its code. The row is given to `look_each` and twice to `swap_at`; the bytes go to `load_in`.
 use Rattle.rack.proofs.Walk.{ !, Atoms, Calls, FmC, Fun, GName, Given, Heap, Is, Lft, List, Loops, Meets, Memory, MutSlice, RefT, Room}
 use Rattle.rack.proofs.Walk.{Routine, SProp, Share, ShrSlice, Stays, Tables, Triple, Ty, URA, Val, Walks, WpFn, WpFn-mono, [], _$_, _-_, _∙_}
 use Rattle.rack.proofs.Walk.{_∵_, _∷_, _≡_, _⊛_, addr, agg, alloc0, alloc1, and-then, assigns, by, cited, done, emp, ends-at, ent, enter}

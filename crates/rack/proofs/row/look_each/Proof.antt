@@ -1,4 +1,4 @@
--- `rack::row::look_each` meets its contract: a walk of its code. The borrow is opened once, before the loop. A turn copies card i, and calls `look` on the copy.
+-- `rack::row::look_each` meets its contract: a walk of its code. The borrow is opened once, before the loop. A turn copies card i and calls `look` on the copy.
 use Rattle.rack.proofs.Walk.{ !, Atoms, Bool, Calls, Code, Contract, Env, Fun, GName, Given, Heap, Held, Is, Item, Lft, List, Loops, Meets}
 use Rattle.rack.proofs.Walk.{Memory, MutSlice, RefT, Room, Routine, SProp, Share, Stays, T, Tables, Triple, Ty, URA, Val, Walks, WpFn}
 use Rattle.rack.proofs.Walk.{WpFn-mono, [], _$_, _*_, _+_, _<_, _^_, _∙_, _∵_, _∷_, _≡_, _≤_, _⊛_, alloc0, alloc1, and-then, ap, arith, assign}

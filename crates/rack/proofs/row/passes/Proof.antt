@@ -1,4 +1,4 @@
--- `rack::row::passes` meets its contract: a walk of its code. The row is lent to `look_each` and to `each`; covered functions on plain values are called
+-- `rack::row::passes` meets its contract: a walk of its code. The row is given to `look_each` and to `each`; covered functions on plain values are called
 -- before and between.
 use Rattle.rack.proofs.Walk.{ !, Atoms, Calls, FmC, Fun, GName, Given, Heap, Is, Lft, List, Loops, Meets, Memory, MutSlice, RefT, Room}
 use Rattle.rack.proofs.Walk.{Routine, SProp, Share, Stays, Tables, Triple, Ty, URA, Val, Walks, WpFn, WpFn-mono, [], _$_, _∵_, _∷_, _≡_, _⊛_}

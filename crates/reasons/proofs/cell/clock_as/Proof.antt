@@ -1,4 +1,4 @@
--- `why::cell::clock_as` meets its contract: in each arm the family is known, and the definition answers by it.
+-- `reasons::cell::clock_as` meets its contract: in each arm the family is known, and the definition answers by it.
 use borrow.Author.Needs.{needs}
 use Rattle.reasons.proofs.cell.clock_as.Statement.{statement}
 use Rattle.reasons.proofs.cell.clock_as.Tie as tie

@@ -1,4 +1,4 @@
--- `why::cell::reasons_of` meets its contract: each reason is its callee's answer, by the type's row.
+-- `reasons::cell::reasons_of` meets its contract: each reason is its callee's answer, by the type's row.
 use mathlib.Core.Path.{ap, ap₂, _∙_}
 use Rattle.cells.specs.declared.table.Slots.{Slots}
 use Rattle.cells.specs.declared.table.Row.{Row}

@@ -1,4 +1,4 @@
--- `saved::record::encode_to` meets its contract: the fields are stored in three goes, each behind the last.
+-- `saved::record::encode_to` meets its contract: the fields are stored in three goes, each after the last.
 use mathlib.Core.Path.{refl}
 use native.Mathlib.Omega.{arith}
 use lib.ListN.{take}

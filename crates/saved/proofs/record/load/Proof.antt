@@ -1,4 +1,4 @@
--- `saved::record::load` meets its contract: the length tells the form.
+-- `saved::record::load` meets its contract: the length shows the form.
 use Prim.Native.Nat.{ℕ}
 use mathlib.Core.Path.{ap, ap₂, _∙_}
 use borrow.Author.Needs.{needs}

@@ -1,4 +1,4 @@
--- `saved::record::put_cell` meets its contract: head, configuration and slots, each behind the last.
+-- `saved::record::put_cell` meets its contract: head, configuration and slots, each after the last.
 use Prim.Native.Nat.{ℕ, _+_, _-_}
 use mathlib.Core.Path.{_≡_, ap, _∙_}
 use mathlib.Core.List.{List, [], _∷_, _++_}

@@ -9,7 +9,7 @@ use Rattle.saved.specs.Record.{narrowWidth, configWidth, recordLength}
 use Rattle.saved.proofs.record.width_of.Statement.{statement}
 use Rattle.saved.proofs.record.width_of.Tie as tie
 
--- the length tells the old form only on a small card
+-- the length shows the old form only on a small card
 told : (size len : ℕ) → let n = cellsFor size in
     cond (leb n cellCount && eqb len (recordLength n narrowWidth)) narrowWidth configWidth
     ≡ cond (not (eqb size cellRoom) && eqb len (recordLength cellCount narrowWidth)) narrowWidth configWidth

@@ -1,4 +1,4 @@
--- `session::run::enter` meets its contract: the line is entered, and what it prints stands behind what is printed already.
+-- `session::run::enter` meets its contract: the line is entered, and what it prints comes after what is printed already.
 use native.Mathlib.Omega.{arith}
 use Rattle.card.specs.Address.{cellsFor}
 use Rattle.session.specs.Session.{entered}

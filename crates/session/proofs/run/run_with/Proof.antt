@@ -1,4 +1,4 @@
--- `session::run::run_with` meets its contract: the invariant says where the run stands between two turns, and the measure is the number of reads that are left.
+-- `session::run::run_with` meets its contract: the invariant says where the run is between two turns, and the measure is the number of reads that are left.
 use Prim.Native.Nat.{_+_, _<_}
 use mathlib.Core.Path.{_≡_, refl}
 use mathlib.Core.Bool.{true}

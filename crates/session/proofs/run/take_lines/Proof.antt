@@ -1,4 +1,4 @@
--- `session::run::take_lines` meets its contract. The loop's invariant: the line from `start` to `end` has been taken and no more; at `end` stands its LF, or
+-- `session::run::take_lines` meets its contract. The loop's invariant: the line from `start` to `end` has been taken and no more; at `end` is its LF, or
 -- the block's end. The measure is what is left of the block.
 use Prim.Native.Nat.{_≤_, _<_, _+_, _*_, _-_}
 use mathlib.Core.Logic.{⊎-elim}

@@ -103,13 +103,13 @@ within at inside =
     let start = at .before .before .before .before .before in
     omega (arith, sixteen start, room start, inside)
 
--- the cells at hand
+-- the cells so far
 cells-so : (at : tie.At-loop Inv-loop μ-loop) → let set = at .before .before .before .before in
     let a = set .before .args in
     at .loop .next .cells ≡ upTo (a .n) (a .full) (a .card) (set .wires-of .result) (at .loop .i)
 cells-so at = ap (λ (c : Card). c .cells) (at .loop .inv .1)
 
--- the turn of cell i in the definition is that of the cell and the outputs at hand
+-- the turn of cell i in the definition is that of the cell and the outputs so far
 turn-here : (at : tie.At-loop Inv-loop μ-loop) → at .loop .i < count at → let l = at .loop in
     let set = at .before .before .before .before in
     let a = set .before .args in
@@ -196,7 +196,7 @@ put-card at {cells} e =
     let card = at .before .before .before .before .before .args .card in
     ap (λ (c : Card). seated c cells) (at .loop .inv .1) ∙ ap (seated card) e
 
--- behind the match the cells and the output are those of the definition
+-- after the match the cells and the output are those of the definition
 Met : tie.At-match-came Inv-loop μ-loop → Type 0
 Met m =
     let at = m .before .before .before .before .before .before .before .before in

@@ -1,3 +1,4 @@
+-- `ticks::view::sees` meets its contract.
 use Prim.Native.Nat.{ℕ, _*_, _-_, _%_, _^_, _<_, _+_}
 use mathlib.Core.Path.{_≡_}
 use native.Mathlib.Nat.{one-mul, mod-eq-of-lt}

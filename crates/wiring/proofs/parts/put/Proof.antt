@@ -1,4 +1,4 @@
--- `printed::parts::put` meets its contract: three stores, one behind the other.
+-- `wiring::parts::put` meets its contract: three stores, one after the other.
 use Prim.Native.Nat.{_+_, _≤_}
 use mathlib.Core.Path.{refl, sym}
 use mathlib.Core.List.{append-assoc}

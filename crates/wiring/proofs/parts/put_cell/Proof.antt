@@ -1,4 +1,4 @@
--- `printed::parts::put_cell` meets its contract: three lines of one number, the third where the type has a configuration, and the slots.
+-- `wiring::parts::put_cell` meets its contract: three lines of one number, the third where the type has a configuration, and the slots.
 use Prim.Native.Nat.{ℕ, _+_}
 use mathlib.Core.Path.{_≡_, ap}
 use mathlib.Core.Bool.{true}

@@ -1,4 +1,4 @@
--- `printed::parts::put_cells` meets its contract: after i turns the lines of the first i entries are written.
+-- `wiring::parts::put_cells` meets its contract: after i turns the lines of the first i entries are written.
 use Prim.Native.Nat.{ℕ, _-_}
 use mathlib.Core.Path.{_≡_, subst}
 use mathlib.Core.List.{List}

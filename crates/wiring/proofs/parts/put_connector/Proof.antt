@@ -1,4 +1,4 @@
--- `printed::parts::put_connector` meets its contract: three lines of one number.
+-- `wiring::parts::put_connector` meets its contract: three lines of one number.
 use Prim.Native.Nat.{ℕ, _+_}
 use mathlib.Core.Path.{_≡_, ap}
 use mathlib.Core.Bool.{true}

@@ -1,4 +1,4 @@
--- `printed::parts::put_connectors` meets its contract: after k turns the lines of the first k entries are written.
+-- `wiring::parts::put_connectors` meets its contract: after k turns the lines of the first k entries are written.
 use Prim.Native.Nat.{_-_}
 use mathlib.Core.Path.{_≡_, ap}
 use mathlib.Core.List.{List}

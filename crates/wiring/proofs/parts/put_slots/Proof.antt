@@ -1,4 +1,4 @@
--- `printed::parts::put_slots` meets its contract: each used slot is a part of the line, and the line ends.
+-- `wiring::parts::put_slots` meets its contract: each used slot is a part of the line, and the line ends.
 use mathlib.Core.Path.{_≡_, refl, sym, ap}
 use mathlib.Core.List.{[]}
 use native.Mathlib.Nat.{add-zero}

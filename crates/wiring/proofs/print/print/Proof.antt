@@ -1,4 +1,4 @@
--- `printed::print::print` meets its contract: the text is written where any fits, and copied where it has room.
+-- `wiring::print::print` meets its contract: the text is written where any fits, and copied where it has room.
 use Prim.Native.Nat.{ℕ, _-_, _≤_, _<_, zero-le}
 use mathlib.Core.Path.{_≡_, ap, _∙_}
 use mathlib.Core.List.{List}

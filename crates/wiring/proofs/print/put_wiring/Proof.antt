@@ -1,4 +1,4 @@
--- `printed::print::put_wiring` meets its contract: the cells, the connectors and the trigger, one behind the other.
+-- `wiring::print::put_wiring` meets its contract: the cells, the connectors and the trigger, one after the other.
 use Prim.Native.Nat.{ℕ, _≤_}
 use mathlib.Core.Path.{ap, _∙_}
 use mathlib.Core.Bool.{true}
