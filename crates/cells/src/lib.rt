@@ -1,4 +1,5 @@
 pub mod cell;
+mod families;
 mod named;
 pub mod reading;
 pub mod step;
