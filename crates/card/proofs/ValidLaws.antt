@@ -373,7 +373,8 @@ module _ (n : ℕ) (c : Card) (ok : validCard n c ≡ true) where
 -- ---- a fresh card
 
 pub fresh-valid : (n : ℕ) → validCard n (freshOf n) ≡ true
-unfolding validCard wellFormed each fromEach kindAt sourceAt bitAt wordOf listed badClock frontDriven every validConnector badConnectorType badAddress permittedBase
+unfolding validCard wellFormed each fromEach kindAt sourceAt bitAt wordOf listed badClock frontDriven every validConnector badConnectorType badAddress
+    permittedBase
 fresh-valid n =
     let room = replicate (cellRoom - n) freshCell in
     let all : take n (replicate n freshCell ++ room) ≡ replicate n freshCell = take-at (replicate n freshCell) room n (length-replicate n freshCell) in

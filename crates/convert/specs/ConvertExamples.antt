@@ -3,7 +3,8 @@
 -- them are others, and where the buffer is short.
 use Prim.Native.Nat.{ℕ}
 use mathlib.Core.Path.{_≡_, refl}
-use mathlib.Core.List.{List, [], _∷_, _++_, map}
+use mathlib.Core.Bool.{true}
+use mathlib.Core.List.{List, [], _∷_, _++_}
 use lib.ListN.{take, replicate}
 use Rattle.words.specs.Listed.{listed}
 use Rattle.cells.specs.Table.{rowOf}
@@ -14,7 +15,8 @@ use Rattle.card.specs.Valid.{validConnector, valid}
 use Rattle.saved.specs.Record.{bigEndian, cellField, connectorField, fieldsFrom, encode, bigValue, cellIn, connectorIn, normalCell, sameBytes, loadNumberAs}
 use Rattle.saved.specs.Record.{loadNumber, normalRecord}
 use Rattle.saved.specs.RecordExamples.{whole, part, oldCell, old, changed, constantField, large, oldLarge}
-use Rattle.convert.specs.Convert.{narrowCell, tooLong, isBlank, readsAbove, slotsBelow, sourceBelow, aboveSmall, convertNumber, otherForm, convertLength, convertedTo}
+use Rattle.convert.specs.Convert.{narrowCell, tooLong, isBlank, readsAbove, slotsBelow, sourceBelow, aboveSmall}
+use Rattle.convert.specs.Convert.{convertNumber, otherForm, convertLength, convertedTo}
 
 -- `whole` has durations 4294967295 and 70000 and the constant 258. With durations that two bytes
 -- hold it has the settings of `old`, 276 bytes
@@ -98,14 +100,20 @@ numbers =
     ∷ []
 
 abbrev Agree : List (List ℕ × List ℕ) → Type 0
-Agree rows = map (λ (e : List ℕ × List ℕ). e .0) rows ≡ map (λ (e : List ℕ × List ℕ). e .1) rows
+Agree rows = every (λ (e : List ℕ × List ℕ). sameBytes (e .0) (e .1)) rows ≡ true
 
 examples : Agree table
-unfolding fitting fittingOne oldOne number result whole part oldCell old changed listed rowOf permittedBase badClock frontDriven badCellType badConnectorType badAddress validSlot validSlots validCell validConnector every valid bigEndian cellField connectorField fieldsFrom encode bigValue cellIn normalCell connectorIn sameBytes loadNumberAs loadNumber normalRecord narrowCell tooLong isBlank readsAbove slotsBelow sourceBelow aboveSmall convertNumber otherForm convertLength convertedTo
+unfolding fitting fittingOne oldOne number result whole part oldCell old changed listed rowOf permittedBase badClock frontDriven badCellType badConnectorType
+    badAddress validSlot validSlots validCell validConnector every valid bigEndian cellField connectorField fieldsFrom encode bigValue cellIn normalCell
+    connectorIn sameBytes loadNumberAs loadNumber normalRecord narrowCell tooLong isBlank readsAbove slotsBelow sourceBelow aboveSmall convertNumber otherForm
+    convertLength convertedTo
 examples = refl
 
 number-examples : Agree numbers
-unfolding fitting fittingOne oldOne number result whole part oldCell old changed listed rowOf permittedBase badClock frontDriven badCellType badConnectorType badAddress validSlot validSlots validCell validConnector every valid bigEndian cellField connectorField fieldsFrom encode bigValue cellIn normalCell connectorIn sameBytes loadNumberAs loadNumber normalRecord narrowCell tooLong isBlank readsAbove slotsBelow sourceBelow aboveSmall convertNumber otherForm convertLength convertedTo
+unfolding fitting fittingOne oldOne number result whole part oldCell old changed listed rowOf permittedBase badClock frontDriven badCellType badConnectorType
+    badAddress validSlot validSlots validCell validConnector every valid bigEndian cellField connectorField fieldsFrom encode bigValue cellIn normalCell
+    connectorIn sameBytes loadNumberAs loadNumber normalRecord narrowCell tooLong isBlank readsAbove slotsBelow sourceBelow aboveSmall convertNumber otherForm
+    convertLength convertedTo
 number-examples = refl
 
 -- ---- "The converter of ticket 8 takes the longer record where the small card can hold it"
@@ -179,25 +187,43 @@ largeSources =
     ∷ []
 
 large-examples : Agree largeForms
-unfolding fitting fittingOne fittingLarge oldOne above number result whole part oldCell old changed constantField large oldLarge listed rowOf permittedBase badClock frontDriven badCellType badConnectorType badAddress validSlot validSlots validCell validConnector every valid bigEndian cellField connectorField fieldsFrom encode bigValue cellIn normalCell connectorIn sameBytes loadNumberAs loadNumber normalRecord narrowCell tooLong isBlank readsAbove slotsBelow sourceBelow aboveSmall convertNumber otherForm convertLength convertedTo
+unfolding fitting fittingOne fittingLarge oldOne above number result whole part oldCell old changed constantField large oldLarge listed rowOf permittedBase
+    badClock frontDriven badCellType badConnectorType badAddress validSlot validSlots validCell validConnector every valid bigEndian cellField connectorField
+    fieldsFrom encode bigValue cellIn normalCell connectorIn sameBytes loadNumberAs loadNumber normalRecord narrowCell tooLong isBlank readsAbove slotsBelow
+    sourceBelow aboveSmall convertNumber otherForm convertLength convertedTo
 large-examples = refl
 
 load-examples : Agree largeLoads
-unfolding fitting fittingOne fittingLarge oldOne above number result whole part oldCell old changed constantField large oldLarge listed rowOf permittedBase badClock frontDriven badCellType badConnectorType badAddress validSlot validSlots validCell validConnector every valid bigEndian cellField connectorField fieldsFrom encode bigValue cellIn normalCell connectorIn sameBytes loadNumberAs loadNumber normalRecord narrowCell tooLong isBlank readsAbove slotsBelow sourceBelow aboveSmall convertNumber otherForm convertLength convertedTo
+unfolding fitting fittingOne fittingLarge oldOne above number result whole part oldCell old changed constantField large oldLarge listed rowOf permittedBase
+    badClock frontDriven badCellType badConnectorType badAddress validSlot validSlots validCell validConnector every valid bigEndian cellField connectorField
+    fieldsFrom encode bigValue cellIn normalCell connectorIn sameBytes loadNumberAs loadNumber normalRecord narrowCell tooLong isBlank readsAbove slotsBelow
+    sourceBelow aboveSmall convertNumber otherForm convertLength convertedTo
 load-examples = refl
 
 long-examples : Agree largeLong
-unfolding fitting fittingOne fittingLarge oldOne above number result whole part oldCell old changed constantField large oldLarge listed rowOf permittedBase badClock frontDriven badCellType badConnectorType badAddress validSlot validSlots validCell validConnector every valid bigEndian cellField connectorField fieldsFrom encode bigValue cellIn normalCell connectorIn sameBytes loadNumberAs loadNumber normalRecord narrowCell tooLong isBlank readsAbove slotsBelow sourceBelow aboveSmall convertNumber otherForm convertLength convertedTo
+unfolding fitting fittingOne fittingLarge oldOne above number result whole part oldCell old changed constantField large oldLarge listed rowOf permittedBase
+    badClock frontDriven badCellType badConnectorType badAddress validSlot validSlots validCell validConnector every valid bigEndian cellField connectorField
+    fieldsFrom encode bigValue cellIn normalCell connectorIn sameBytes loadNumberAs loadNumber normalRecord narrowCell tooLong isBlank readsAbove slotsBelow
+    sourceBelow aboveSmall convertNumber otherForm convertLength convertedTo
 long-examples = refl
 
 set-examples : Agree largeSet
-unfolding fitting fittingOne fittingLarge oldOne above number result whole part oldCell old changed constantField large oldLarge listed rowOf permittedBase badClock frontDriven badCellType badConnectorType badAddress validSlot validSlots validCell validConnector every valid bigEndian cellField connectorField fieldsFrom encode bigValue cellIn normalCell connectorIn sameBytes loadNumberAs loadNumber normalRecord narrowCell tooLong isBlank readsAbove slotsBelow sourceBelow aboveSmall convertNumber otherForm convertLength convertedTo
+unfolding fitting fittingOne fittingLarge oldOne above number result whole part oldCell old changed constantField large oldLarge listed rowOf permittedBase
+    badClock frontDriven badCellType badConnectorType badAddress validSlot validSlots validCell validConnector every valid bigEndian cellField connectorField
+    fieldsFrom encode bigValue cellIn normalCell connectorIn sameBytes loadNumberAs loadNumber normalRecord narrowCell tooLong isBlank readsAbove slotsBelow
+    sourceBelow aboveSmall convertNumber otherForm convertLength convertedTo
 set-examples = refl
 
 read-examples : Agree largeReads
-unfolding fitting fittingOne fittingLarge oldOne above number result whole part oldCell old changed constantField large oldLarge listed rowOf permittedBase badClock frontDriven badCellType badConnectorType badAddress validSlot validSlots validCell validConnector every valid bigEndian cellField connectorField fieldsFrom encode bigValue cellIn normalCell connectorIn sameBytes loadNumberAs loadNumber normalRecord narrowCell tooLong isBlank readsAbove slotsBelow sourceBelow aboveSmall convertNumber otherForm convertLength convertedTo
+unfolding fitting fittingOne fittingLarge oldOne above number result whole part oldCell old changed constantField large oldLarge listed rowOf permittedBase
+    badClock frontDriven badCellType badConnectorType badAddress validSlot validSlots validCell validConnector every valid bigEndian cellField connectorField
+    fieldsFrom encode bigValue cellIn normalCell connectorIn sameBytes loadNumberAs loadNumber normalRecord narrowCell tooLong isBlank readsAbove slotsBelow
+    sourceBelow aboveSmall convertNumber otherForm convertLength convertedTo
 read-examples = refl
 
 source-examples : Agree largeSources
-unfolding fitting fittingOne fittingLarge oldOne above number result whole part oldCell old changed constantField large oldLarge listed rowOf permittedBase badClock frontDriven badCellType badConnectorType badAddress validSlot validSlots validCell validConnector every valid bigEndian cellField connectorField fieldsFrom encode bigValue cellIn normalCell connectorIn sameBytes loadNumberAs loadNumber normalRecord narrowCell tooLong isBlank readsAbove slotsBelow sourceBelow aboveSmall convertNumber otherForm convertLength convertedTo
+unfolding fitting fittingOne fittingLarge oldOne above number result whole part oldCell old changed constantField large oldLarge listed rowOf permittedBase
+    badClock frontDriven badCellType badConnectorType badAddress validSlot validSlots validCell validConnector every valid bigEndian cellField connectorField
+    fieldsFrom encode bigValue cellIn normalCell connectorIn sameBytes loadNumberAs loadNumber normalRecord narrowCell tooLong isBlank readsAbove slotsBelow
+    sourceBelow aboveSmall convertNumber otherForm convertLength convertedTo
 source-examples = refl

@@ -24,7 +24,8 @@ use Rattle.card.specs.Fresh.{fresh, freshOf}
 use Rattle.card.specs.Valid.{badConfig, noConfig}
 use Rattle.grammar.specs.Grammar.{isWord, isWhole, toEnd, slotOf, writeOf, ccaWrite, ccaRead, ccaForm, readForm, cardForm, plainForm, addressed, parse}
 use Rattle.lines.specs.Refusal.{refusal}
-use Rattle.lines.specs.Line.{ending, shortestReply, changeFor, responseTo, decision, decisionFor, lineDecision, lineOutcome, replyOf, lineReply, lineResult}
+use Rattle.lines.specs.Line.{ending, shortestReply, changeFor, responseTo, decision, decisionFor, lineDecision}
+use Rattle.lines.specs.Line.{lineOutcome, replyOf, lineReply, lineResult}
 
 -- a line, the lengths of the reply buffer and of the store; its number, and the length of its reply
 pub record Row : Type 0 where
@@ -75,7 +76,9 @@ expected : Row → ℕ × ℕ
 expected e = (e .k, e .len)
 
 examples : (map (given cellCount) rows ≡ map expected rows) × (map (given cellRoom) largeRows ≡ map expected largeRows)
-unfolding given expected listed isDigit digitsOf leads plain numberIn numberAt decimalFrom decimal fresh currentCell currentConnector isWord isWhole toEnd slotOf writeOf ccaWrite ccaRead ccaForm readForm cardForm plainForm addressed parse refusal changed changeFor responseTo decision decisionFor lineDecision lineOutcome replyOf lineReply kindAt sourceAt withKind withSource each fromEach wellFormed bitAt wordOf
+unfolding given expected listed isDigit digitsOf leads plain numberIn numberAt decimalFrom decimal fresh currentCell currentConnector isWord isWhole toEnd
+    slotOf writeOf ccaWrite ccaRead ccaForm readForm cardForm plainForm addressed parse refusal changed changeFor responseTo decision decisionFor lineDecision
+    lineOutcome replyOf lineReply kindAt sourceAt withKind withSource each fromEach wellFormed bitAt wordOf
 examples = (refl, refl)
 
 -- the longest reply: the duration of a timer, in a buffer of 16 bytes
@@ -86,7 +89,10 @@ longestReply : List ℕ
 longestReply = lineReply cellCount (afterLine (setType cellCount fresh 9) "36CCA Z=4294967295") (bytesOf "36CCA Z?") shortestReply 0
 
 longest-reply : (longestReply ≡ bytesOf ":A 4294967295" ++ ending) × (length longestReply ≡ 15)
-unfolding afterLine longestReply listed valueBy isDigit digitsOf leads plain numberIn numberAt decimalFrom decimal rowOf fresh currentCell currentConnector putCell typed setType configuredState configured setConfig configShown badConfig noConfig isWord isWhole toEnd slotOf writeOf ccaWrite ccaRead ccaForm readForm cardForm plainForm addressed parse refusal changed changeFor responseTo decision decisionFor lineDecision lineOutcome replyOf lineReply kindAt sourceAt withKind withSource each fromEach wellFormed bitAt wordOf
+unfolding afterLine longestReply listed valueBy isDigit digitsOf leads plain numberIn numberAt decimalFrom decimal rowOf fresh currentCell currentConnector
+    putCell typed setType configuredState configured setConfig configShown badConfig noConfig isWord isWhole toEnd slotOf writeOf ccaWrite ccaRead ccaForm
+    readForm cardForm plainForm addressed parse refusal changed changeFor responseTo decision decisionFor lineDecision lineOutcome replyOf lineReply kindAt
+    sourceAt withKind withSource each fromEach wellFormed bitAt wordOf
 longest-reply = (refl, refl)
 
 -- "The reply is at the front of the reply buffer": what is beyond it stays, and so does a store
@@ -99,5 +105,7 @@ left reply store text =
 untouched : (left 20 3 "W E" ≡ (bytesOf ":A 1\r\n" ++ replicate 14 7, replicate 3 7))
     × (left 20 3 "36SS Z" ≡ (bytesOf ":N-1\r\n" ++ replicate 14 7, replicate 3 7))
     × (left 15 3 "W E" ≡ (replicate 15 7, replicate 3 7))
-unfolding left listed isDigit digitsOf leads plain numberIn numberAt decimalFrom decimal fresh currentCell currentConnector isWord isWhole toEnd slotOf writeOf ccaWrite ccaRead ccaForm readForm cardForm plainForm addressed parse refusal changed changeFor responseTo decision decisionFor lineDecision lineOutcome replyOf lineReply kindAt sourceAt withKind withSource each fromEach wellFormed bitAt wordOf
+unfolding left listed isDigit digitsOf leads plain numberIn numberAt decimalFrom decimal fresh currentCell currentConnector isWord isWhole toEnd slotOf writeOf
+    ccaWrite ccaRead ccaForm readForm cardForm plainForm addressed parse refusal changed changeFor responseTo decision decisionFor lineDecision lineOutcome
+    replyOf lineReply kindAt sourceAt withKind withSource each fromEach wellFormed bitAt wordOf
 untouched = (refl, refl, refl)

@@ -141,7 +141,11 @@ numbers =
     ∷ []
 
 examples : map (λ (e : ℕ × ℕ). e .0) numbers ≡ map (λ (e : ℕ × ℕ). e .1) numbers
-unfolding listed numberWith number at typedCard frontCard withBit wordOf bitAt valueBy isDigit digitsOf leads plain numberIn numberAt rowOf currentCell currentConnector putCell typed setType setTrigger fresh permittedBase badPlace badCellType badConnectorType badClock badConfig noConfig unusedSlot badAddress badStateAs badState noState frontDriven presetTable settingOf offered presetCell presetSource setsFront preset isWord isWhole toEnd slotOf gave give pairRead pairsOf writeOf ccaWrite ccaRead ccaForm slotForm ccbForm readOf readForm cardForm plainForm addressed parse alone refusal changed changeFor responseTo decision decisionFor lineDecision lineOutcome kindAt sourceAt withKind withSource each fromEach wellFormed
+unfolding listed numberWith number at typedCard frontCard withBit wordOf bitAt valueBy isDigit digitsOf leads plain numberIn numberAt rowOf currentCell
+    currentConnector putCell typed setType setTrigger fresh permittedBase badPlace badCellType badConnectorType badClock badConfig noConfig unusedSlot
+    badAddress badStateAs badState noState frontDriven presetTable settingOf offered presetCell presetSource setsFront preset isWord isWhole toEnd slotOf gave
+    give pairRead pairsOf writeOf ccaWrite ccaRead ccaForm slotForm ccbForm readOf readForm cardForm plainForm addressed parse alone refusal changed changeFor
+    responseTo decision decisionFor lineDecision lineOutcome kindAt sourceAt withKind withSource each fromEach wellFormed
 examples = refl
 
 -- ---- the exact wording of a reply
@@ -178,5 +182,9 @@ replies =
     ∷ []
 
 texts : map (λ (e : String × String). replyTo (e .0)) replies ≡ map (λ (e : String × String). bytesOf (e .1)) replies
-unfolding replyTo told listed withBit wordOf bitAt valueBy isDigit digitsOf leads plain numberIn numberAt decimalFrom decimal rowOf currentCell currentConnector putCell typed setType setTrigger fresh permittedBase badPlace badCellType badConnectorType badClock badConfig noConfig unusedSlot badAddress badStateAs badState noState frontDriven presetTable settingOf offered presetCell presetSource setsFront preset isWord isWhole toEnd slotOf gave give pairRead pairsOf writeOf ccaWrite ccaRead ccaForm slotForm ccbForm readOf readForm cardForm plainForm addressed parse alone refusal changed changeFor responseTo decision decisionFor lineDecision lineOutcome replyOf lineReply kindAt sourceAt withKind withSource each fromEach wellFormed
+unfolding replyTo told listed withBit wordOf bitAt valueBy isDigit digitsOf leads plain numberIn numberAt decimalFrom decimal rowOf currentCell currentConnector
+    putCell typed setType setTrigger fresh permittedBase badPlace badCellType badConnectorType badClock badConfig noConfig unusedSlot badAddress badStateAs
+    badState noState frontDriven presetTable settingOf offered presetCell presetSource setsFront preset isWord isWhole toEnd slotOf gave give pairRead pairsOf
+    writeOf ccaWrite ccaRead ccaForm slotForm ccbForm readOf readForm cardForm plainForm addressed parse alone refusal changed changeFor responseTo decision
+    decisionFor lineDecision lineOutcome replyOf lineReply kindAt sourceAt withKind withSource each fromEach wellFormed
 texts = refl

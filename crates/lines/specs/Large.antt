@@ -69,7 +69,9 @@ numbers =
 
 number-table : map (λ (e : (ℕ × ℕ) × (ℕ × ℕ)). e .0) numbers ≡ map (λ (e : (ℕ × ℕ) × (ℕ × ℕ)). e .1) numbers
 unfolding both fresh and2 front listed withBit wordOf bitAt valueBy isDigit digitsOf leads plain numberIn numberAt rowOf currentCell
-    currentConnector putCell typed setType setTrigger permittedBase badPlace unusedSlot badAddress presetTable settingOf offered presetCell presetSource setsFront preset
+    currentConnector putCell typed setType setTrigger permittedBase badPlace unusedSlot badAddress presetTable settingOf offered presetCell presetSource
+    setsFront preset
     isWord isWhole toEnd slotOf gave give pairRead pairsOf writeOf ccaWrite ccaRead ccaForm slotForm ccbForm readOf readForm cardForm plainForm
-    addressed parse refusal changed changeFor responseTo decision decisionFor lineDecision lineOutcome kindAt sourceAt withKind withSource each fromEach wellFormed
+    addressed parse refusal changed changeFor responseTo decision decisionFor lineDecision lineOutcome kindAt sourceAt withKind withSource
+    each fromEach wellFormed
 number-table = refl

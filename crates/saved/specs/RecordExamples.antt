@@ -4,7 +4,8 @@
 -- record.
 use Prim.Native.Nat.{ℕ, _+_, _*_, _/_, _%_}
 use mathlib.Core.Path.{_≡_, refl}
-use mathlib.Core.List.{List, [], _∷_, _++_, map}
+use mathlib.Core.Bool.{true}
+use mathlib.Core.List.{List, [], _∷_, _++_}
 use lib.ListN.{length, set, take, drop, replicate}
 use Rattle.words.specs.Bits.{bitAt, wordOf}
 use Rattle.words.specs.Listed.{listed}
@@ -160,6 +161,11 @@ constantRead v =
     let bytes = changed ((9, v / 16777216) ∷ (10, v / 65536 % 256) ∷ (11, v / 256 % 256) ∷ (12, v % 256) ∷ []) whole in
     configShown (normalCell (cellIn configWidth bytes 0)) ∷ []
 
+-- rows of what is given and what is expected: the bytes of each row are the same. One test of all
+-- rows is computed much faster than two lists of results are compared
+abbrev pub Agree : List (List ℕ × List ℕ) → Type 0
+Agree rows = every (λ (e : List ℕ × List ℕ). sameBytes (e .0) (e .1)) rows ≡ true
+
 -- given, expected
 abbrev table : List (List ℕ × List ℕ)
 table =
@@ -279,8 +285,11 @@ table =
     ∷ (load (changed ((8, 19) ∷ []) whole ++ (0 ∷ [])), 14 ∷ [])
     ∷ []
 
-examples : map (λ (e : List ℕ × List ℕ). e .0) table ≡ map (λ (e : List ℕ × List ℕ). e .1) table
-unfolding whole part oldCell old changed saved pointerAfter countedCard talliesAfter cellRead connectorRead load with constantRead configShown listed rowOf fresh permittedBase badClock frontDriven badCellType badConnectorType badAddress validSlot validSlots validCell validConnector every valid bigEndian cellField connectorField fieldsFrom encode bigValue cellIn normalCell connectorIn bitAt wordOf kindAt sourceAt each fromEach recordOf sameBytes loadNumberAs loadedAs loadNumber loaded
+examples : Agree table
+unfolding whole part oldCell old changed saved pointerAfter countedCard talliesAfter cellRead connectorRead load with constantRead configShown listed rowOf
+    fresh permittedBase badClock frontDriven badCellType badConnectorType badAddress validSlot validSlots validCell validConnector every valid bigEndian
+    cellField connectorField fieldsFrom encode bigValue cellIn normalCell connectorIn bitAt wordOf kindAt sourceAt each fromEach recordOf sameBytes loadNumberAs
+    loadedAs loadNumber loaded
 examples = refl
 
 -- ---- document 02, "Thirty-two cells": "A record has 32 cell fields and 516 bytes, the only length
@@ -296,9 +305,6 @@ loadLarge bytes = loadNumber cellRoom bytes ∷ []
 
 withLarge : List (ℕ × ℕ) → List ℕ
 withLarge changes = loadLarge (changed changes wired)
-
-abbrev Agree : List (List ℕ × List ℕ) → Type 0
-Agree rows = map (λ (e : List ℕ × List ℕ). e .0) rows ≡ map (λ (e : List ℕ × List ℕ). e .1) rows
 
 -- the bytes of it, and that it loads and is saved as the same bytes but for its constant 258
 abbrev largeTable : List (List ℕ × List ℕ)
@@ -345,18 +351,8 @@ largeValues =
     ∷ (withLarge ((425, 17) ∷ (479, 224) ∷ (78, 32) ∷ []), 0 ∷ [])
     ∷ []
 
-large-examples : Agree largeTable
-unfolding whole part oldCell old constantField large oldLarge wired changed load loadLarge withLarge listed rowOf permittedBase badClock frontDriven badCellType badConnectorType badAddress validSlot validSlots validCell validConnector every valid bigEndian cellField connectorField fieldsFrom encode bigValue cellIn normalCell connectorIn bitAt wordOf kindAt sourceAt each fromEach recordOf sameBytes loadNumberAs loadedAs loadNumber loaded
-large-examples = refl
-
-length-examples : Agree largeLengths
-unfolding whole part oldCell old constantField large oldLarge wired changed load loadLarge withLarge listed rowOf permittedBase badClock frontDriven badCellType badConnectorType badAddress validSlot validSlots validCell validConnector every valid bigEndian cellField connectorField fieldsFrom encode bigValue cellIn normalCell connectorIn sameBytes loadNumberAs loadNumber
-length-examples = refl
-
-head-examples : Agree largeHeads
-unfolding whole part oldCell old constantField large oldLarge wired changed load loadLarge withLarge listed rowOf permittedBase badClock frontDriven badCellType badConnectorType badAddress validSlot validSlots validCell validConnector every valid bigEndian cellField connectorField fieldsFrom encode bigValue cellIn normalCell connectorIn sameBytes loadNumberAs loadNumber
-head-examples = refl
-
-value-examples : Agree largeValues
-unfolding whole part oldCell old constantField large oldLarge wired changed load loadLarge withLarge listed rowOf permittedBase badClock frontDriven badCellType badConnectorType badAddress validSlot validSlots validCell validConnector every valid bigEndian cellField connectorField fieldsFrom encode bigValue cellIn normalCell connectorIn sameBytes loadNumberAs loadNumber
-value-examples = refl
+large-examples : Agree largeTable × Agree largeLengths × Agree largeHeads × Agree largeValues
+unfolding whole part oldCell old constantField large oldLarge wired changed load loadLarge withLarge listed rowOf permittedBase badClock frontDriven badCellType
+    badConnectorType badAddress validSlot validSlots validCell validConnector every valid bigEndian cellField connectorField fieldsFrom encode bigValue cellIn
+    normalCell connectorIn bitAt wordOf kindAt sourceAt each fromEach recordOf sameBytes loadNumberAs loadedAs loadNumber loaded
+large-examples = (refl, refl, refl, refl)

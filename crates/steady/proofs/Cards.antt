@@ -32,7 +32,8 @@ use Rattle.ticks.specs.Tick.{Turn, turnBy, outputsBelow, turned, wiresOf, lines
 use Rattle.ticks.specs.Rest.{steadyWires}
 use Rattle.ticks.proofs.Cases.{by-tick, tick-own, tick-other, all-or-named}
 use Rattle.ticks.proofs.Ticks.{outputs-built}
-use Rattle.steady.specs.Steady.{quickTicks, cellHolds, cellThrough, least, leastHolds, sameWords, sameOutputs, sameBut, steadyFrom, steadyFor, talliedFor, cellsThrough, cardThrough}
+use Rattle.steady.specs.Steady.{quickTicks, cellHolds, cellThrough, least, leastHolds, sameWords, sameOutputs, sameBut}
+use Rattle.steady.specs.Steady.{steadyFrom, steadyFor, talliedFor, cellsThrough, cardThrough}
 use Rattle.steady.proofs.Cells.{turn-through, through-itself, through-zero}
 use Rattle.steady.proofs.Tallied.{tallied-zero, tallied-next}
 use Rattle.steady.proofs.Turns.{steadyReads, steadyTurn, turn-steady, first-turn, first-out, steady-turned}
@@ -124,7 +125,8 @@ module _ (n : ℕ) (c : Card) (input : Input) (same : sameBut c (ticked n false 
 
   fits : o < 2 ^ n
   unfolding o m turned
-  fits = subst (λ (x : ℕ). x < 2 ^ n) (sym (kept .outputs)) (built-fits _ n _ (outputs-built n false (c .cells) (c .edited) (wiresOf m (lines n c input .levels)) n))
+  fits = subst (λ (x : ℕ). x < 2 ^ n) (sym (kept .outputs))
+      (built-fits _ n _ (outputs-built n false (c .cells) (c .edited) (wiresOf m (lines n c input .levels)) n))
 
   whole : o % 2 ^ n ≡ o
   unfolding o m

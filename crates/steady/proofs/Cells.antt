@@ -17,7 +17,8 @@ use Rattle.cells.specs.declared.cell.Worked.{Worked}
 use Rattle.cells.specs.declared.cell.Cell.{Cell}
 use Rattle.cells.specs.State.{state, stateOf, withState}
 use Rattle.cells.specs.Table.{rowOf, masked}
-use Rattle.cells.specs.Work.{pulses, largestCount, trigger, taken, shotBusy, delayBusy, nextCount, nextPulse, raised, countedUp, activeAfter, keptActive, workAs, workOut}
+use Rattle.cells.specs.Work.{pulses, largestCount, trigger, taken, shotBusy, delayBusy, nextCount, nextPulse, raised}
+use Rattle.cells.specs.Work.{countedUp, activeAfter, keptActive, workAs, workOut}
 use Rattle.cells.specs.Wake.{stirredAs, stirred, wakes}
 use Rattle.cells.proofs.Laws.{wakes-splits, disagree-self}
 use Rattle.ticks.specs.Tick.{Turn, turnTo, workedTurn, sleptTurn, rulesName, turnBy}
@@ -43,7 +44,8 @@ pub data Way (config x y m : ℕ) : Type 0 where
 pub way : (config x y m : ℕ) → suc m ≤ countHolds config x y → Way config x y m
 unfolding countHolds
 way config x y m =
-    by-equal x y (λ b. suc m ≤ cond b 4294967295 (cond (eqb y config) 0 (cond (eqb x (y + 1)) y (cond (eqb y (x + 1)) (largestCount - x) 0))) → Way config x y m)
+    by-equal x y (λ b. suc m ≤ cond b 4294967295 (cond (eqb y config) 0 (cond (eqb x (y + 1)) y (cond (eqb y (x + 1)) (largestCount - x) 0)))
+    → Way config x y m)
     (λ e _. stays e)
     (λ ne. by-equal y config (λ b. suc m ≤ cond b 0 (cond (eqb x (y + 1)) y (cond (eqb y (x + 1)) (largestCount - x) 0)) → Way config x y m)
     (λ _ h. absurd (not-suc-le-zero h))
@@ -147,7 +149,8 @@ falls-as Nothing config s r y m e ex h ne = absurd (omega (arith, ap (λ (t : St
 falls-as Constant config s r y m e ex h ne = absurd (omega (arith, ap (λ (t : State). t .count .0) e))
 falls-as (Gate g) config s r y m e ex h ne = absurd (omega (arith, ap (λ (t : State). t .count .0) e))
 falls-as (Flop f) config s r y m e ex h ne = absurd (omega (arith, ap (λ (t : State). t .count .0) e))
-falls-as (Counter k) config s r y m e ex h ne = absurd (counted-not (r .z) (activeAfter k r (s .count .0) (s .bit) && r .y) (s .count .0) y (ap (λ (t : State). t .count .0) e) ex (omega arith))
+falls-as (Counter k) config s r y m e ex h ne = absurd (counted-not (r .z) (activeAfter k r (s .count .0) (s .bit)
+    && r .y) (s .count .0) y (ap (λ (t : State). t .count .0) e) ex (omega arith))
 falls-as (OneShot t) config s r y m e ex h ne =
     let x = s .count .0 in
     let z = y + 1 - m in

@@ -85,7 +85,8 @@ module _ (n : ℕ) where
       let made : 0 + length kinds ≡ madeOf k (steadyFor n c input) = omega (arith, e) in
       let same = ends-at c input s kinds 0 ∙ ap (λ (m : ℕ). quickTicks n c input m .card) made in (
         end-append (afterCall n) c (ticksWith n input kinds) behind ∙ ap (λ (d : Card). end n d behind) same,
-        answers-append (afterCall n) (answer n) c (ticksWith n input kinds) behind ∙ ap (λ (d : Card). answers n c (ticksWith n input kinds) ++ answers n d behind) same,
+        answers-append (afterCall n) (answer n) c (ticksWith n input kinds) behind
+            ∙ ap (λ (d : Card). answers n c (ticksWith n input kinds) ++ answers n d behind) same,
       )
 
   pub answers-for-ticks : AnswersForTicks n

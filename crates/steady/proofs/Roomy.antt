@@ -16,7 +16,8 @@ use Rattle.card.specs.declared.change.Change.the-variants.{Nothing, Pointer, Tr
 use Rattle.card.specs.declared.tallies.Tallies.{Tallies}
 use Rattle.card.specs.Address.{cellRoom}
 use Rattle.card.specs.Change.{changed}
-use Rattle.card.specs.Edits.{atCell, atConnector, clearedCell, putCell, putConnectors, move, setTrigger, home, setType, setConfig, setState, setSlots, setConnectorType, setSource}
+use Rattle.card.specs.Edits.{atCell, atConnector, clearedCell, putCell, putConnectors, move, setTrigger, home, setType}
+use Rattle.card.specs.Edits.{setConfig, setState, setSlots, setConnectorType, setSource}
 use Rattle.card.specs.Fresh.{freshCell, freshOf}
 use Rattle.card.specs.Presets.{preset}
 use Rattle.card.specs.Tally.{ticks, standstill, talliedBy}

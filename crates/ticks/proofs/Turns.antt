@@ -65,7 +65,8 @@ as-long X Y g l n e = sym (length-map l g) ∙ e
 -- a step that the code takes is the turn of the definition: whether the rules name the cell, the
 -- cell and its output
 module _ (full : Bool) (cell : Cell) (edited out : Bool) (now last : Slots) (r : Stepped)
-    (is : StepsTo r full (rulesName cell edited now last) (stateOf cell) (workOut (cell .kind) (cell .config) (stateOf cell) now) (lookedAt (cell .kind) now)) where
+    (is : StepsTo r full (rulesName cell edited now last) (stateOf cell)
+    (workOut (cell .kind) (cell .config) (stateOf cell) now) (lookedAt (cell .kind) now)) where
   abbrev worked : Worked
   worked = workOut (cell .kind) (cell .config) (stateOf cell) now
 

@@ -73,5 +73,7 @@ table =
     ∷ []
 
 examples : map (λ (e : List ℕ × List ℕ). e .0) table ≡ map (λ (e : List ℕ × List ℕ). e .1) table
-unfolding handed loadedCard told after idle-after bitAt wordOf listed rowOf taken workAs workOut stirredAs stirred disagree wakes fresh levelAt readsLevels reads slotsRead mixed view effectiveSample kindAt sourceAt drivenWord levelsFrom linesOf readNow readLast named turnAt outputsBelow turned counted talliedBy tick
+unfolding handed loadedCard told after idle-after bitAt wordOf listed rowOf taken workAs workOut stirredAs stirred disagree wakes fresh levelAt readsLevels
+    reads slotsRead mixed view effectiveSample kindAt sourceAt drivenWord levelsFrom linesOf readNow readLast named turnAt outputsBelow turned counted talliedBy
+    tick
 examples = refl

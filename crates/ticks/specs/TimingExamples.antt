@@ -60,20 +60,23 @@ after = full 0x0000 ∷ quick 0x0200 ∷ idling 0x0000 ∷ idling 0x0200 ∷ qui
 delayed : run (timed 9 2) (trigger ∷ after)
     ≡ (0, 0, 2) ∷ (0, 0, 2) ∷ (0, 0, 1) ∷ (0, 0, 1) ∷ (0, 0, 1) ∷ (0, 0, 1) ∷ (1, 1, 0) ∷ (1, 1, 0) ∷ (0, 0, 0) ∷ []
 unfolding timed quick full idling trigger after run ones onesIn bitAt wordOf listed rowOf taken workAs workOut stirredAs stirred disagree wakes fresh levelAt
-    readsLevels reads slotsRead mixed view effectiveSample kindAt sourceAt drivenWord pulledWord levelsFrom linesOf readNow readLast named turnAt outputsBelow turned counted talliedBy tick
+    readsLevels reads slotsRead mixed view effectiveSample kindAt sourceAt drivenWord pulledWord levelsFrom linesOf readNow readLast named turnAt outputsBelow
+    turned counted talliedBy tick
 delayed = refl
 
 shot : run (timed 8 2) (trigger ∷ after)
     ≡ (1, 1, 2) ∷ (1, 1, 2) ∷ (1, 1, 1) ∷ (1, 0, 1) ∷ (1, 0, 1) ∷ (1, 1, 1) ∷ (0, 0, 0) ∷ (0, 0, 0) ∷ (0, 0, 0) ∷ []
 unfolding timed quick full idling trigger after run ones onesIn bitAt wordOf listed rowOf taken workAs workOut stirredAs stirred disagree wakes fresh levelAt
-    readsLevels reads slotsRead mixed view effectiveSample kindAt sourceAt drivenWord pulledWord levelsFrom linesOf readNow readLast named turnAt outputsBelow turned counted talliedBy tick
+    readsLevels reads slotsRead mixed view effectiveSample kindAt sourceAt drivenWord pulledWord levelsFrom linesOf readNow readLast named turnAt outputsBelow
+    turned counted talliedBy tick
 shot = refl
 
 -- the longest duration does not wrap
 longest : (run (timed 15 4294967295) (quick 0x0100 ∷ quick 0x0000 ∷ quick 0x0200 ∷ []) ≡ (0, 0, 4294967295) ∷ (0, 0, 4294967295) ∷ (0, 0, 4294967294) ∷ [])
     × (run (timed 14 4294967295) (quick 0x0100 ∷ quick 0x0000 ∷ quick 0x0200 ∷ []) ≡ (1, 1, 4294967295) ∷ (1, 1, 4294967295) ∷ (1, 1, 4294967294) ∷ [])
 unfolding timed quick full idling trigger after run ones onesIn bitAt wordOf listed rowOf taken workAs workOut stirredAs stirred disagree wakes fresh levelAt
-    readsLevels reads slotsRead mixed view effectiveSample kindAt sourceAt drivenWord pulledWord levelsFrom linesOf readNow readLast named turnAt outputsBelow turned counted talliedBy tick
+    readsLevels reads slotsRead mixed view effectiveSample kindAt sourceAt drivenWord pulledWord levelsFrom linesOf readNow readLast named turnAt outputsBelow
+    turned counted talliedBy tick
 longest = (refl, refl)
 
 -- of each tick the woken set, the answer's cell word, and the count. The second trigger comes
@@ -89,17 +92,20 @@ again = quick 0x0000 ∷ quick 0x0100 ∷ quick 0x0200 ∷ quick 0x0000 ∷ quic
 
 ignored-shot : wakings (timed 14 2) (quick 0x0100 ∷ again) ≡ (1, 1, 2) ∷ (0, 1, 2) ∷ (1, 1, 2) ∷ (1, 1, 1) ∷ (0, 1, 1) ∷ (1, 0, 0) ∷ []
 unfolding timed quick wakings again ones onesIn bitAt wordOf listed rowOf taken workAs workOut stirredAs stirred disagree wakes fresh levelAt readsLevels
-    reads slotsRead mixed view effectiveSample kindAt sourceAt drivenWord pulledWord levelsFrom linesOf readNow readLast named turnAt outputsBelow turned counted talliedBy tick
+    reads slotsRead mixed view effectiveSample kindAt sourceAt drivenWord pulledWord levelsFrom linesOf readNow readLast named turnAt outputsBelow turned
+    counted talliedBy tick
 ignored-shot = refl
 
 ignored-delay : wakings (timed 15 2) (quick 0x0100 ∷ again) ≡ (1, 0, 2) ∷ (0, 0, 2) ∷ (1, 0, 2) ∷ (1, 0, 1) ∷ (0, 0, 1) ∷ (1, 1, 0) ∷ []
 unfolding timed quick wakings again ones onesIn bitAt wordOf listed rowOf taken workAs workOut stirredAs stirred disagree wakes fresh levelAt readsLevels
-    reads slotsRead mixed view effectiveSample kindAt sourceAt drivenWord pulledWord levelsFrom linesOf readNow readLast named turnAt outputsBelow turned counted talliedBy tick
+    reads slotsRead mixed view effectiveSample kindAt sourceAt drivenWord pulledWord levelsFrom linesOf readNow readLast named turnAt outputsBelow turned
+    counted talliedBy tick
 ignored-delay = refl
 
 obeyed : wakings (timed 8 2) (quick 0x0100 ∷ again) ≡ (1, 1, 2) ∷ (0, 1, 2) ∷ (1, 1, 2) ∷ (1, 1, 1) ∷ (0, 1, 1) ∷ (1, 1, 2) ∷ []
 unfolding timed quick wakings again ones onesIn bitAt wordOf listed rowOf taken workAs workOut stirredAs stirred disagree wakes fresh levelAt readsLevels
-    reads slotsRead mixed view effectiveSample kindAt sourceAt drivenWord pulledWord levelsFrom linesOf readNow readLast named turnAt outputsBelow turned counted talliedBy tick
+    reads slotsRead mixed view effectiveSample kindAt sourceAt drivenWord pulledWord levelsFrom linesOf readNow readLast named turnAt outputsBelow turned
+    counted talliedBy tick
 obeyed = refl
 
 -- ---- what the promises ask is met by these runs
@@ -110,18 +116,21 @@ next kind t = afterTick cellCount (timed kind 2) t
 -- of every duration from 1 on
 takes-first : (d : ℕ) → 1 ≤ d → TakesTrigger cellCount (timed 9 d) (own cellCount (timed 9 d) trigger) 0
 unfolding timed quick trigger takes takesAs bitAt wordOf listed rowOf taken workAs workOut stirredAs stirred disagree wakes fresh levelAt readsLevels reads
-    slotsRead mixed view effectiveSample kindAt sourceAt drivenWord pulledWord levelsFrom linesOf readNow readLast named turnAt outputsBelow turned counted talliedBy tick
+    slotsRead mixed view effectiveSample kindAt sourceAt drivenWord pulledWord levelsFrom linesOf readNow readLast named turnAt outputsBelow turned counted
+    talliedBy tick
 takes-first d some = record { timer = refl; duration = some; ran = refl; took = refl }
 
 -- three pulses, at none of which the reset is high or a trigger is taken
 three-pulses : (pulsesIn (readings cellCount (next 9 trigger) after 0) ≡ 3) × ResetLow (readings cellCount (next 9 trigger) after 0)
 unfolding timed quick full idling trigger after next pulsesIn ResetLow readingsIn ones onesIn bitAt wordOf listed rowOf taken workAs workOut stirredAs stirred
-    disagree wakes fresh levelAt readsLevels reads slotsRead mixed view effectiveSample kindAt sourceAt drivenWord pulledWord levelsFrom linesOf readNow readLast named turnAt outputsBelow turned counted talliedBy tick
+    disagree wakes fresh levelAt readsLevels reads slotsRead mixed view effectiveSample kindAt sourceAt drivenWord pulledWord levelsFrom linesOf readNow
+    readLast named turnAt outputsBelow turned counted talliedBy tick
 three-pulses = (refl, (refl, (refl, (refl, (refl, (refl, (refl, tt)))))))
 
 none-taken : Throughout cellCount (Bool × Input) (own cellCount) TakesNone (next 9 trigger) after 0
 unfolding timed quick full idling trigger after next takes takesAs Throughout ones onesIn bitAt wordOf listed rowOf taken workAs workOut stirredAs stirred
-    disagree wakes fresh levelAt readsLevels reads slotsRead mixed view effectiveSample kindAt sourceAt drivenWord pulledWord levelsFrom linesOf readNow readLast named turnAt outputsBelow turned counted talliedBy tick
+    disagree wakes fresh levelAt readsLevels reads slotsRead mixed view effectiveSample kindAt sourceAt drivenWord pulledWord levelsFrom linesOf readNow
+    readLast named turnAt outputsBelow turned counted talliedBy tick
 none-taken = (λ _. refl, (λ _. refl, (λ _. refl, (λ _. refl, (λ _. refl, (λ _. refl, (λ _. refl, (λ _. refl, tt))))))))
 
 -- the tick that makes a one-shot of type 14 free is among those that ignore triggers; a tick more
@@ -134,6 +143,8 @@ still-ignoring =
     ignoring k 2 (pulsesBefore rs) ∷ ignoring k 2 (pulsesBefore more) ∷ []
 
 freed : still-ignoring ≡ true ∷ false ∷ []
-unfolding still-ignoring timed quick again next pulsesBefore readingsIn ones onesIn bitAt wordOf listed rowOf taken workAs workOut stirredAs stirred disagree wakes
-    fresh levelAt readsLevels reads slotsRead mixed view effectiveSample kindAt sourceAt drivenWord pulledWord levelsFrom linesOf readNow readLast named turnAt outputsBelow turned counted talliedBy tick
+unfolding still-ignoring timed quick again next pulsesBefore readingsIn ones onesIn bitAt wordOf listed rowOf taken workAs workOut stirredAs stirred disagree
+    wakes
+    fresh levelAt readsLevels reads slotsRead mixed view effectiveSample kindAt sourceAt drivenWord pulledWord levelsFrom linesOf readNow readLast named turnAt
+    outputsBelow turned counted talliedBy tick
 freed = refl

@@ -25,9 +25,6 @@ use Rattle.card.proofs.card.Memory.Laws as MLaws
 use Rattle.cells.specs.declared.cell.Ticks.{Ticks}
 use Rattle.cells.proofs.cell.Ticks as ST
 use Rattle.cells.proofs.cell.Ticks.Laws as SLaws
-use Rattle.card.specs.declared.tallies.Tallies.{Tallies}
-use Rattle.card.proofs.tallies.Tallies as WT
-use Rattle.card.proofs.tallies.Tallies.Laws as WLaws
 use Rattle.card.specs.declared.card.Connectors.{Connectors}
 use Rattle.card.proofs.card.Connectors as CT
 use Rattle.card.proofs.card.Connectors.Laws as CLaws
@@ -82,9 +79,6 @@ A′ = AT.the-row
 abbrev pub av : Answer → Val
 av x = LL.val AT.the-type ALaws.the-laws x
 
-abbrev pub a-vals : Answer → List Val
-a-vals = LL.vals AT.the-type ALaws.the-laws
-
 pub a-tells : Tells A′ (Is A′) (λ y. av y ∷ [])
 a-tells = LL.tells AT.the-type ALaws.the-laws
 
@@ -110,9 +104,6 @@ pub b-tells : Tells B′ (Is B′) (λ y. bv y ∷ [])
 b-tells = LL.tells BT.the-type BLaws.the-laws
 
 module _ {M : Type 1} (𝓤 : URA M) (H : Heap 𝓤) (A : Atoms 𝓤) where
-  pub b-makes : Makes 𝓤 H A B′ (Is B′)
-  b-makes = (LL.makes BT.the-type BLaws.the-plain) 𝓤 H A
-
   pub b-typed : Given 𝓤 H A → (x : Brief) → Is B′ x (bv x ∷ []) → T (hasTy (lone (B′ .mir)) (bv x)) × WT (bv x)
   b-typed W x is = LL.lawful BT.the-type BLaws.the-laws 𝓤 H A W .typed x _ is .0
 
@@ -131,9 +122,6 @@ pub k-tells : Tells K′ (Is K′) (λ y. kv y ∷ [])
 k-tells = LL.tells KT.the-type KLaws.the-laws
 
 module _ {M : Type 1} (𝓤 : URA M) (H : Heap 𝓤) (A : Atoms 𝓤) where
-  pub k-makes : Makes 𝓤 H A K′ (Is K′)
-  k-makes = (LL.makes KT.the-type KLaws.the-plain) 𝓤 H A
-
   pub k-typed : Given 𝓤 H A → (x : Ticked) → Is K′ x (kv x ∷ []) → T (hasTy (lone (K′ .mir)) (kv x)) × WT (kv x)
   k-typed W x is = LL.lawful KT.the-type KLaws.the-laws 𝓤 H A W .typed x _ is .0
 
@@ -144,9 +132,6 @@ L′ = LT.the-row
 
 abbrev pub lv : Lines → Val
 lv x = LL.val LT.the-type LLaws.the-laws x
-
-abbrev pub l-vals : Lines → List Val
-l-vals = LL.vals LT.the-type LLaws.the-laws
 
 pub l-tells : Tells L′ (Is L′) (λ y. lv y ∷ [])
 l-tells = LL.tells LT.the-type LLaws.the-laws
@@ -166,12 +151,6 @@ M′ = MT.the-row
 abbrev pub mv : Memory → Val
 mv x = LL.val MT.the-type MLaws.the-laws x
 
-abbrev pub m-vals : Memory → List Val
-m-vals = LL.vals MT.the-type MLaws.the-laws
-
-pub m-tells : Tells M′ (Is M′) (λ y. mv y ∷ [])
-m-tells = LL.tells MT.the-type MLaws.the-laws
-
 module _ {M : Type 1} (𝓤 : URA M) (H : Heap 𝓤) (A : Atoms 𝓤) where
   pub m-makes : Makes 𝓤 H A M′ (Is M′)
   m-makes = (LL.makes MT.the-type MLaws.the-plain) 𝓤 H A
@@ -187,39 +166,9 @@ S′ = ST.the-row
 abbrev pub sv : Ticks → Val
 sv x = LL.val ST.the-type SLaws.the-laws x
 
-abbrev pub s-vals : Ticks → List Val
-s-vals = LL.vals ST.the-type SLaws.the-laws
-
-pub s-tells : Tells S′ (Is S′) (λ y. sv y ∷ [])
-s-tells = LL.tells ST.the-type SLaws.the-laws
-
 module _ {M : Type 1} (𝓤 : URA M) (H : Heap 𝓤) (A : Atoms 𝓤) where
-  pub s-makes : Makes 𝓤 H A S′ (Is S′)
-  s-makes = (LL.makes ST.the-type SLaws.the-plain) 𝓤 H A
-
   pub s-typed : Given 𝓤 H A → (x : Ticks) → Is S′ x (sv x ∷ []) → T (hasTy (lone (S′ .mir)) (sv x)) × WT (sv x)
   s-typed W x is = LL.lawful ST.the-type SLaws.the-laws 𝓤 H A W .typed x _ is .0
-
--- ---- Tallies
-
-abbrev pub W′ : RattleType
-W′ = WT.the-row
-
-abbrev pub tv : Tallies → Val
-tv x = LL.val WT.the-type WLaws.the-laws x
-
-abbrev pub t-vals : Tallies → List Val
-t-vals = LL.vals WT.the-type WLaws.the-laws
-
-pub t-tells : Tells W′ (Is W′) (λ y. tv y ∷ [])
-t-tells = LL.tells WT.the-type WLaws.the-laws
-
-module _ {M : Type 1} (𝓤 : URA M) (H : Heap 𝓤) (A : Atoms 𝓤) where
-  pub t-makes : Makes 𝓤 H A W′ (Is W′)
-  t-makes = (LL.makes WT.the-type WLaws.the-plain) 𝓤 H A
-
-  pub t-typed : Given 𝓤 H A → (x : Tallies) → Is W′ x (tv x ∷ []) → T (hasTy (lone (W′ .mir)) (tv x)) × WT (tv x)
-  t-typed W x is = LL.lawful WT.the-type WLaws.the-laws 𝓤 H A W .typed x _ is .0
 
 -- ---- Connectors
 
@@ -228,12 +177,6 @@ C′ = CT.the-row
 
 abbrev pub nv : Connectors → Val
 nv x = LL.val CT.the-type CLaws.the-laws x
-
-abbrev pub n-vals : Connectors → List Val
-n-vals = LL.vals CT.the-type CLaws.the-laws
-
-pub n-tells : Tells C′ (Is C′) (λ y. nv y ∷ [])
-n-tells = LL.tells CT.the-type CLaws.the-laws
 
 module _ {M : Type 1} (𝓤 : URA M) (H : Heap 𝓤) (A : Atoms 𝓤) where
   pub n-makes : Makes 𝓤 H A C′ (Is C′)

@@ -64,9 +64,11 @@ table =
     ∷ []
 
 one-table : map (λ (e : List ℕ × List ℕ). e .0) table ≡ map (λ (e : List ℕ × List ℕ). e .1) table
-unfolding printedCell longCard decimal decimalFrom rowOf fresh cellCommands connectorCommands commandsFrom wiring pairsText commandText linesText commandsText wiringText kindAt sourceAt each bitAt listed
+unfolding printedCell longCard decimal decimalFrom rowOf fresh cellCommands connectorCommands commandsFrom wiring pairsText commandText linesText commandsText
+    wiringText kindAt sourceAt each bitAt listed
 one-table = refl
 
 long-valid : validCard cellCount longCard ≡ true
-unfolding longCard rowOf permittedBase badCellType badConnectorType badClock badAddress frontDriven validSlot validSlots validCell validConnector every valid validCard kindAt sourceAt withKind withSource each fromEach wellFormed bitAt wordOf listed
+unfolding longCard rowOf permittedBase badCellType badConnectorType badClock badAddress frontDriven validSlot validSlots validCell validConnector every valid
+    validCard kindAt sourceAt withKind withSource each fromEach wellFormed bitAt wordOf listed
 long-valid = refl

@@ -19,7 +19,11 @@ unfolding leastHolds
 loop-holds c = (zero-le, refl)
 
 loop-again : tie.Need-loop-again Inv-loop μ-loop
-loop-again c = (omega arith, c .least .ensures ∙ least-next _ _ _ _ _ (c .before .before .before .before .before .loop .inv .1) (c .before .cell-holds .ensures))
+loop-again c = (
+  omega arith,
+  c .least .ensures
+      ∙ least-next _ _ _ _ _ (c .before .before .before .before .before .loop .inv .1) (c .before .cell-holds .ensures),
+)
 
 returns : tie.Need-returns Inv-loop μ-loop
 returns c =

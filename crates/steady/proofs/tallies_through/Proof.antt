@@ -23,7 +23,8 @@ use Rattle.steady.proofs.total_after.Reads as total-after-reads
 use Rattle.words.proofs.bit.Reads as bit-reads
 
 abbrev Inv-loop : tie.InvT-loop
-Inv-loop named m n total d next₀ i₀ i-end next i = (i ≤ n) × ((next .cells ≡ listed (λ i. countedFor (bitAt named i) d (getD (next₀ .cells) i (ticks 0))) i ++ drop i (next₀ .cells)) × (next .total ≡ next₀ .total))
+Inv-loop named m n total d next₀ i₀ i-end next i = (i ≤ n)
+    × ((next .cells ≡ listed (λ i. countedFor (bitAt named i) d (getD (next₀ .cells) i (ticks 0))) i ++ drop i (next₀ .cells)) × (next .total ≡ next₀ .total))
 
 abbrev μ-loop : tie.MeasureT-loop
 μ-loop named m n total d next₀ i₀ i-end next i = n - i

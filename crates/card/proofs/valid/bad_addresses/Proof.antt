@@ -12,4 +12,5 @@ returns c =
     λ i. slots (x .refused .ensures i) (y .refused2 .ensures i) (z .refused3 .ensures i) (c .refused4 .ensures i)
 
 pub bad-addresses-spec : {M : Type 1} → statement M
-bad-addresses-spec = tie.close (tie.spec (λ c κs. search needs) (λ c κs. search needs) (λ c κs. search needs) (λ c κs. search needs) (λ c κs. search needs) returns)
+bad-addresses-spec = tie.close
+    (tie.spec (λ c κs. search needs) (λ c κs. search needs) (λ c κs. search needs) (λ c κs. search needs) (λ c κs. search needs) returns)

@@ -47,4 +47,5 @@ returns-2 c =
 pub full-tick-spec : {M : Type 1} → statement M
 full-tick-spec =
     tie.close
-    (tie.spec (λ c κs. search needs) (λ c κs. search needs) returns (λ c κs. search needs) (λ c κs. search needs) (λ c κs. search needs) turn-each-requires returns-2)
+    (tie.spec (λ c κs. search needs) (λ c κs. search needs) returns (λ c κs. search needs) (λ c κs. search needs)
+    (λ c κs. search needs) turn-each-requires returns-2)

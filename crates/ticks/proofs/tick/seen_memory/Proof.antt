@@ -18,4 +18,5 @@ returns c =
     }
 
 pub seen-memory-spec : {M : Type 1} → statement M
-seen-memory-spec = tie.close (tie.spec (λ c. search needs) (λ c κs. search needs) (λ c. search needs) (λ c κs. search needs) (λ c. search needs) (λ c κs. search needs) returns)
+seen-memory-spec = tie.close
+    (tie.spec (λ c. search needs) (λ c κs. search needs) (λ c. search needs) (λ c κs. search needs) (λ c. search needs) (λ c κs. search needs) returns)

@@ -169,7 +169,8 @@ taken s =
     let was = bitAt (a .card .edited) (l .i) in
     let turn = turn-here at (asked .before .loop-test .taken) in
     let is = subst
-    (λ (b : Bool). StepsTo r (a .full) (rulesName old b now last) (stateOf old) (workOut (old .kind) (old .config) (stateOf old) now) (lookedAt (old .kind) now))
+    (λ (b : Bool). StepsTo r (a .full) (rulesName old b now last) (stateOf old)
+    (workOut (old .kind) (old .config) (stateOf old) now) (lookedAt (old .kind) now))
     (asked .bit .ensures) (s .stepped .ensures _ _ _ (l .inv .4) (l .inv .5)) in
     record {
       names = sym (ap (λ (t : Turn). t .named) turn ∙ step-named (a .full) old was out now last r is);

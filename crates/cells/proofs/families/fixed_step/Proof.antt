@@ -1,9 +1,9 @@
--- `cells::step::fixed_step` meets its contract: only an edit names it.
+-- `cells::families::fixed_step` meets its contract: only an edit names it.
 use mathlib.Core.Path.{refl}
 use Rattle.cells.proofs.Steps.{step-worked, step-slept}
 use borrow.Author.Needs.{needs}
-use Rattle.cells.proofs.step.fixed_step.Statement.{statement}
-use Rattle.cells.proofs.step.fixed_step.Tie as tie
+use Rattle.cells.proofs.families.fixed_step.Statement.{statement}
+use Rattle.cells.proofs.families.fixed_step.Tie as tie
 
 returns : tie.Need-returns
 returns c s = step-worked _ _ _ s _ _ refl _ _ (c .if1 .taken) (λ out. refl) refl

@@ -1,4 +1,4 @@
--- `cells::step::gated_step` meets its contract: what is asked is what the definition asks, and the
+-- `cells::families::gated_step` meets its contract: what is asked is what the definition asks, and the
 -- work is its callee's.
 use mathlib.Core.Path.{_≡_, refl, ap, _∙_}
 use mathlib.Core.Bool.{Bool, _||_}
@@ -7,8 +7,8 @@ use Rattle.cells.specs.State.{state}
 use Rattle.cells.specs.Wake.{counterStirred, stirredAs}
 use Rattle.cells.proofs.Steps.{gated-on, step-worked, step-slept}
 use borrow.Author.Needs.{needs}
-use Rattle.cells.proofs.step.gated_step.Statement.{statement}
-use Rattle.cells.proofs.step.gated_step.Tie as tie
+use Rattle.cells.proofs.families.gated_step.Statement.{statement}
+use Rattle.cells.proofs.families.gated_step.Tie as tie
 
 returns : tie.Need-returns
 unfolding stirredAs

@@ -1,12 +1,12 @@
--- `cells::step::lookup4_step` meets its contract: what is asked is what the definition asks, and
+-- `cells::families::lookup4_step` meets its contract: what is asked is what the definition asks, and
 -- the work is its callee's.
 use mathlib.Core.Path.{_≡_, refl, ap, _∙_}
 use mathlib.Core.Bool.{Bool, _||_}
 use Rattle.cells.specs.Work.{keeping, gateOut, lookupOut, workAs}
 use Rattle.cells.proofs.Steps.{step-worked, step-slept}
 use borrow.Author.Needs.{needs}
-use Rattle.cells.proofs.step.lookup4_step.Statement.{statement}
-use Rattle.cells.proofs.step.lookup4_step.Tie as tie
+use Rattle.cells.proofs.families.lookup4_step.Statement.{statement}
+use Rattle.cells.proofs.families.lookup4_step.Tie as tie
 
 returns : tie.Need-returns
 unfolding workAs

@@ -1,11 +1,11 @@
--- `cells::step::look_step` meets its contract: the work is its callee's.
+-- `cells::families::look_step` meets its contract: the work is its callee's.
 use mathlib.Core.Path.{refl, ap}
 use Rattle.cells.specs.declared.work.Looked.{Looked}
 use Rattle.cells.specs.Work.{keeping}
 use Rattle.cells.proofs.Steps.{step-worked, step-slept}
 use borrow.Author.Needs.{needs}
-use Rattle.cells.proofs.step.look_step.Statement.{statement}
-use Rattle.cells.proofs.step.look_step.Tie as tie
+use Rattle.cells.proofs.families.look_step.Statement.{statement}
+use Rattle.cells.proofs.families.look_step.Tie as tie
 
 returns : tie.Need-returns
 returns c s =
