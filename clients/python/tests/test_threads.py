@@ -99,6 +99,40 @@ def test_rack() -> None:
     assert [rack.card(n).tallies().ticks for n in (1, 2)] == [3000, 3000]
 
 
+def test_answers_of_a_rack() -> None:
+    """Each answer of a rack is whole: its levels are those of the tick that it answers."""
+    rack = Rack(4)
+
+    def ticks(sample: int) -> None:
+        for _ in range(4000):
+            for answer in rack.tick(4 * [sample], backplane=sample):
+                assert answer.levels == sample << 8 | sample
+
+    assert not together([lambda: ticks(0x00), lambda: ticks(0xFF), lambda: ticks(0xA5)])
+    assert rack.card(1).tallies().ticks == 12000
+
+
+def test_rack_closed_under_way() -> None:
+    """A rack that one thread closes raises `Closed` in the others, whatever they call, and nothing else."""
+    record = Card().record()
+
+    def forever(call: Callable[[], object]) -> None:
+        while True:
+            call()
+
+    for _ in range(20):
+        rack = Rack(2)
+        calls: List[Callable[[], object]] = [
+            lambda: rack.tick([0, 0]),
+            lambda: rack.line(1, "W E"),
+            lambda: rack.load(2, record),
+            lambda: rack.card(2).tallies(),
+            rack.start,
+        ]
+        raised = together([lambda call=call: forever(call) for call in calls] + [rack.close])
+        assert [type(error) for error in raised] == len(calls) * [Closed]
+
+
 def test_closed_under_way() -> None:
     """A card that one thread closes raises `Closed` in the others, and nothing else."""
     for _ in range(20):
