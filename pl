@@ -1,7 +1,7 @@
 #!/bin/sh
 # pl NAME [WORD..]: runs the program target/bin/NAME, for make and scripts. A program has no exit
-# status of its own, so this ends with 1 where the program wrote to the error output or a line of its
-# output is a refusal (:N-k), with 2 where it did not run to its end, and else with 0.
+# status of its own, so this ends with 1 where the program wrote to the error output or a line of
+# its output is a refusal (:N-k), with 2 where it did not run to its end, and else with 0.
 usage='usage: pl NAME [WORD..]: runs target/bin/NAME, and ends with 1 where it refused or reported something'
 case ${1:-} in
 -h | --help) echo "$usage"; exit 0 ;;

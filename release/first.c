@@ -27,8 +27,9 @@ int main(void)
     trigger_fresh_at(&card);
     for (size_t i = 0; i < sizeof wiring / sizeof wiring[0]; i++) {
         size_t len;
-        uint8_t refused = trigger_line_at(&card, (const uint8_t *)wiring[i], strlen(wiring[i]), reply, sizeof reply, store,
-                                          sizeof store, &len);
+        const uint8_t *line = (const uint8_t *)wiring[i];
+        uint8_t refused =
+            trigger_line_at(&card, line, strlen(wiring[i]), reply, sizeof reply, store, sizeof store, &len);
         printf("%.*s\n", (int)len - 2, (const char *)reply); /* a reply ends with CR LF */
         if (refused != 0)
             return 1;
