@@ -2,11 +2,13 @@
 //
 //     card CARD KIND N [show]
 //
-// CARD is fresh, counter, busy, still, delay (of hours, which runs) or wakeN (N cells wake in each tick), of sixteen cells, or with -32 after it of thirty-two; KIND
-// is full, quick, idle (quick, at a clock code that is not the card's) or none (the loop without ticks); with plain- before it the ticks are those of the card of
-// plain.rs, each compared with the library's where `show` is given. It prints a checksum of the driven and the cell words, and how
-// many cells all ticks woke. With `show` it prints what plrun is to be given for the same wiring and ticks, and on standard error what plrun must answer
-// to the ticks.
+// CARD is fresh, counter, busy, still, delay (of hours, which runs) or wakeN (N cells wake in each
+// tick), of sixteen cells, or with -32 after it of thirty-two; KIND is full, quick, idle (quick, at
+// a clock code that is not the card's) or none (the loop without ticks); with plain- before it the
+// ticks are those of the card of plain.rs, each compared with the library's where `show` is given.
+// It prints a checksum of the driven and the cell words, and how many cells all ticks woke. With
+// `show` it prints what plrun is to be given for the same wiring and ticks, and on standard error
+// what plrun must answer to the ticks.
 use std::hint::black_box;
 
 use trigger::{Answer, Card, Input};
@@ -91,7 +93,15 @@ fn waking(n: u32, cells: u32) -> Vec<String> {
 // A delay of two hours in cell 1, clocked in every tick; the others as `still`.
 fn delay(cells: u32) -> Vec<String> {
     let mut lines = still(cells);
-    lines.extend(["M E=1", "36CCA Y=15", "36CCA Z=28800000", "36CCB X=192 Y=192"].map(String::from));
+    lines.extend(
+        [
+            "M E=1",
+            "36CCA Y=15",
+            "36CCA Z=28800000",
+            "36CCB X=192 Y=192",
+        ]
+        .map(String::from),
+    );
     lines
 }
 
@@ -125,14 +135,18 @@ fn main() {
         _ => panic!("card CARD KIND N [show]"),
     };
     let n: u32 = n.parse().expect("a number of ticks");
-    let (by_hand, kind) = kind.strip_prefix("plain-").map_or((false, kind), |kind| (true, kind));
+    let (by_hand, kind) = kind
+        .strip_prefix("plain-")
+        .map_or((false, kind), |kind| (true, kind));
     let turn = match kind {
         "full" => Turn::Full,
         "quick" | "idle" => Turn::Quick,
         "none" => Turn::None,
         _ => panic!("full, quick, idle or none"),
     };
-    let (name, cells) = name.strip_suffix("-32").map_or((name, 16), |name| (name, 32));
+    let (name, cells) = name
+        .strip_suffix("-32")
+        .map_or((name, 16), |name| (name, 32));
     let mut random = Random(1);
     let lines = match name {
         "fresh" => Vec::new(),
@@ -148,7 +162,11 @@ fn main() {
     if shown && !by_hand {
         lines.iter().for_each(|text| println!("{text}"));
     }
-    let mut card = if cells == 32 { Card::fresh_large() } else { Card::fresh() };
+    let mut card = if cells == 32 {
+        Card::fresh_large()
+    } else {
+        Card::fresh()
+    };
     lines.iter().for_each(|text| line(&mut card, text));
     let mut plain = Plain::of(&card);
     let moving = name == "busy";
@@ -174,10 +192,18 @@ fn main() {
         checksum = checksum.rotate_left(1) ^ u32::from(answer.driven) << 16 ^ answer.cells;
         woken += u64::from(answer.count);
         if shown && by_hand {
-            let ours = if matches!(turn, Turn::Full) { card.full_tick(input) } else { card.quick_tick(input) };
+            let ours = if matches!(turn, Turn::Full) {
+                card.full_tick(input)
+            } else {
+                card.quick_tick(input)
+            };
             // the plain card starts with all cells edited
-            let same = ours == answer || i == 0 && (ours.driven, ours.cells) == (answer.driven, answer.cells);
-            assert!(same, "{name}, tick {i}: {ours} of the library, {answer} by hand");
+            let same = ours == answer
+                || i == 0 && (ours.driven, ours.cells) == (answer.driven, answer.cells);
+            assert!(
+                same,
+                "{name}, tick {i}: {ours} of the library, {answer} by hand"
+            );
         } else if shown {
             show(&answer, input, kind);
         }

@@ -1,9 +1,12 @@
-//! A card written in Rust by hand and proved by nobody, to compare instructions with. It keeps a plan of its wiring, which is made where the card is wired and believed
-//! from then on: of each cell the bases of its level slots, as words, and which cells have a slot that is high in every tick. The benchmark holds its answers to those of
-//! the library on every card that it counts.
+//! A card written in Rust by hand and proved by nobody, to compare instructions with. It keeps a
+//! plan of its wiring, which is made where the card is wired and believed from then on: of each
+//! cell the bases of its level slots, as words, and which cells have a slot that is high in every
+//! tick. The benchmark holds its answers to those of the library on every card that it counts.
 use trigger::{Answer, Card, Cell, Input};
 
-const LEVEL: [u8; 23] = [0, 13, 3, 7, 15, 3, 3, 3, 4, 4, 15, 15, 13, 3, 4, 4, 4, 4, 13, 13, 13, 4, 4];
+const LEVEL: [u8; 23] = [
+    0, 13, 3, 7, 15, 3, 3, 3, 4, 4, 15, 15, 13, 3, 4, 4, 4, 4, 13, 13, 13, 4, 4,
+];
 
 /// What a cell does, by the family of its type.
 #[derive(Clone, Copy)]
@@ -63,7 +66,10 @@ fn reads(quarters: &[u64; 4], address: u8) -> bool {
 
 impl Plain {
     pub fn of(card: &Card) -> Plain {
-        let blank = Unit { cell: card.cells()[0], levels: [0; 3] };
+        let blank = Unit {
+            cell: card.cells()[0],
+            levels: [0; 3],
+        };
         let mut units = [blank; 32];
         let mut always = 0;
         for (i, cell) in card.cells().iter().enumerate() {
@@ -76,7 +82,10 @@ impl Plain {
                     always |= 1 << i;
                 }
             }
-            units[i] = Unit { cell: *cell, levels };
+            units[i] = Unit {
+                cell: *cell,
+                levels,
+            };
         }
         let n = card.cells().len() as u32;
         let wires = card.connectors();
@@ -111,20 +120,37 @@ impl Plain {
         }
         let sample = input.sample & input.attached | !input.attached & 0xff00;
         let wired = self.open_drain & !self.push_pull;
-        (driven, sample & !(self.push_pull | wired) | driven & self.push_pull | driven & sample & wired)
+        (
+            driven,
+            sample & !(self.push_pull | wired) | driven & self.push_pull | driven & sample & wired,
+        )
     }
 
     #[inline(always)]
     fn views(&self, cells: u32, last: u32, earlier: u32, levels: u16) -> Views {
-        let [now, before, then] = [word(cells, levels), word(last, self.levels[0]), word(earlier, self.levels[1])];
-        let moved = [now ^ before, rose(now, before) ^ rose(before, then), fell(now, before) ^ fell(before, then)];
-        Views { now: quarters(now, before), moved }
+        let [now, before, then] = [
+            word(cells, levels),
+            word(last, self.levels[0]),
+            word(earlier, self.levels[1]),
+        ];
+        let moved = [
+            now ^ before,
+            rose(now, before) ^ rose(before, then),
+            fell(now, before) ^ fell(before, then),
+        ];
+        Views {
+            now: quarters(now, before),
+            moved,
+        }
     }
 
     /// A quick tick where no word has changed in the last two ticks: only cells on 192 can wake.
     #[inline(always)]
     fn sleeps(&self, levels: u16) -> bool {
-        let still = self.outputs[0] == self.outputs[1] && self.outputs[1] == self.outputs[2] && self.levels[0] == levels && self.levels[1] == levels;
+        let still = self.outputs[0] == self.outputs[1]
+            && self.outputs[1] == self.outputs[2]
+            && self.levels[0] == levels
+            && self.levels[1] == levels;
         if self.edited != 0 || !still {
             return false;
         }
@@ -142,7 +168,13 @@ impl Plain {
 
     pub fn tick(&mut self, full: bool, input: Input) -> Answer {
         if input.code != self.trigger {
-            return Answer { ran: false, driven: 0, cells: 0, woken: 0, count: 0 };
+            return Answer {
+                ran: false,
+                driven: 0,
+                cells: 0,
+                woken: 0,
+                count: 0,
+            };
         }
         let (driven, levels) = self.drive(input);
         let [last, second, third] = self.outputs;
@@ -164,7 +196,10 @@ impl Plain {
                     out = u32::from(work(&mut unit.cell, &views.now)) << i;
                 }
                 let turned = cells ^ out & bit ^ cells & bit;
-                let (b, e) = (before ^ (before ^ last) & bit, earlier ^ (earlier ^ second) & bit);
+                let (b, e) = (
+                    before ^ (before ^ last) & bit,
+                    earlier ^ (earlier ^ second) & bit,
+                );
                 if turned != cells || b != before || e != earlier {
                     (cells, before, earlier) = (turned, b, e);
                     views = self.views(cells, before, earlier, levels);
@@ -183,8 +218,18 @@ impl Plain {
                 left &= left - 1;
             }
         }
-        let woken = if full { u32::MAX >> (32 - self.n) } else { named };
-        Answer { ran: true, driven, cells, woken, count: woken.count_ones() }
+        let woken = if full {
+            u32::MAX >> (32 - self.n)
+        } else {
+            named
+        };
+        Answer {
+            ran: true,
+            driven,
+            cells,
+            woken,
+            count: woken.count_ones(),
+        }
     }
 }
 
@@ -218,7 +263,9 @@ fn work(cell: &mut Cell, seen: &[u64; 4]) -> bool {
         7 => return high(0) ^ high(1),
         10 => return high(3) && high(2) && high(1) && high(0),
         11 => return high(3) || high(2) || high(1) || high(0),
-        8 | 9 | 14..=17 => return time(cell, high(0) || cell.kind > 15 && high(3), high(1), high(2)),
+        8 | 9 | 14..=17 => {
+            return time(cell, high(0) || cell.kind > 15 && high(3), high(1), high(2))
+        }
         19..=22 => return count(cell, [high(0), high(1), high(2), high(3)]),
         1 => !high(2) && (high(3) || if high(1) { high(0) } else { cell.bit }),
         12 => {
@@ -228,10 +275,21 @@ fn work(cell: &mut Cell, seen: &[u64; 4]) -> bool {
                 cell.bit
             }
         }
-        18 => !high(2) && if high(1) { !high(3) && high(0) } else { cell.bit },
+        18 => {
+            !high(2)
+                && if high(1) {
+                    !high(3) && high(0)
+                } else {
+                    cell.bit
+                }
+        }
         13 => {
             if high(2) {
-                if cell.bit { !high(1) } else { high(0) }
+                if cell.bit {
+                    !high(1)
+                } else {
+                    high(0)
+                }
             } else {
                 cell.bit
             }
@@ -262,7 +320,11 @@ fn time(cell: &mut Cell, trigger: bool, clock: bool, reset: bool) -> bool {
             cell.pulse = false;
         }
     }
-    if delay { cell.pulse } else { cell.count > 0 }
+    if delay {
+        cell.pulse
+    } else {
+        cell.count > 0
+    }
 }
 
 #[inline(always)]

@@ -1,6 +1,7 @@
 /*
- * How much stack each call of the libraries takes: the call runs in a thread of its own on a stack that was filled with one byte, and the deepest byte that
- * is another one afterwards tells. What the thread itself takes, counted with a call that does nothing, is taken off.
+ * How much stack each call of the libraries takes: the call runs in a thread of its own on a stack
+ * that was filled with one byte, and the deepest byte that is another one afterwards tells. What
+ * the thread itself takes, counted with a call that does nothing, is taken off.
  */
 #include <pthread.h>
 #include <stdio.h>
@@ -40,7 +41,8 @@ static void tick_row_full(void) { rack_tick(row, TRIGGER_RACK, true, rack_input)
 static void tick_row_quick(void) { rack_tick(row, TRIGGER_RACK, false, rack_input); }
 static void line_to_row(void)
 {
-    rack_line(row, TRIGGER_RACK, 1, (const uint8_t *)given, strlen(given), reply, sizeof reply, row_store, sizeof row_store);
+    rack_line(row, TRIGGER_RACK, 1, (const uint8_t *)given, strlen(given), reply, sizeof reply, row_store,
+              sizeof row_store);
 }
 static void load_to_row(void) { rack_load(row, TRIGGER_RACK, 1, row_store, sizeof row_store); }
 
@@ -59,7 +61,8 @@ static long depth(void (*call)(void))
     if (stack == NULL)
         exit(2);
     memset(stack, PAINT, STACK);
-    if (pthread_attr_init(&attr) || pthread_attr_setstack(&attr, stack, STACK) || pthread_create(&thread, &attr, run, &call) || pthread_join(thread, NULL))
+    if (pthread_attr_init(&attr) || pthread_attr_setstack(&attr, stack, STACK) ||
+        pthread_create(&thread, &attr, run, &call) || pthread_join(thread, NULL))
         exit(2);
     while (free_bytes < STACK && stack[free_bytes] == PAINT)
         free_bytes++;
@@ -78,7 +81,10 @@ static void wire(const char *lines[], void (*function)(void))
     }
 }
 
-/* The card that is measured: a preset of sixteen cells, one of connectors, and a timer; and a row whose first card has that preset of cells. */
+/*
+ * The card that is measured: a preset of sixteen cells, one of connectors, and a timer; and a row
+ * whose first card has that preset of cells.
+ */
 static void prepare(int large)
 {
     const char *lines[] = {"36CCA X=4", "36CCA X=19", "M E=1", "36CCA Y=14", "36CCB X=41 Y=192", "36SS Z", NULL};
@@ -130,6 +136,7 @@ int main(void)
     };
     printf("%-34s %8s %8s\n", "call", "16 cells", "32 cells");
     for (size_t i = 0; i < sizeof calls / sizeof calls[0]; i++)
-        printf("%-34s %8ld %8ld\n", calls[i].name, call(calls[i].line, calls[i].function, 0), call(calls[i].line, calls[i].function, 1));
+        printf("%-34s %8ld %8ld\n", calls[i].name, call(calls[i].line, calls[i].function, 0),
+               call(calls[i].line, calls[i].function, 1));
     return 0;
 }

@@ -1,6 +1,7 @@
 /*
- * The constants of the header held to the library: the last of each range is taken and the next refused, and each refusal that a line, a load, a print or a rack can meet comes
- * with its name. It prints what is not as the header says, and nothing else.
+ * The constants of the header held to the library: the last of each range is taken and the next
+ * refused, and each refusal that a line, a load, a print or a rack can meet comes with its name. It
+ * prints what is not as the header says, and nothing else.
  */
 #include <stdio.h>
 #include <string.h>
@@ -21,7 +22,8 @@ static void must(bool holds, const char *what)
 static int line(const char *text)
 {
     uint8_t reply[TRIGGER_REPLY], store[TRIGGER_LARGE_RECORD];
-    trigger_answered a = trigger_line(card, (const uint8_t *)text, strlen(text), reply, sizeof reply, store, sizeof store);
+    trigger_answered a =
+        trigger_line(card, (const uint8_t *)text, strlen(text), reply, sizeof reply, store, sizeof store);
     card = a.card;
     return a.k;
 }
@@ -41,7 +43,10 @@ static void range(const char *command, int first, int last, int refusal)
     must(with(command, last + 1) == refusal, command);
 }
 
-/* Each type by what it has: a slot F, a configuration of this size, a state of this size; none is -1. */
+/*
+ * Each type by what it has: a slot F, a configuration of this size, a state of this size; none is
+ * -1.
+ */
 static void type(int kind, bool f, long long configuration, long long state)
 {
     char text[40];
@@ -91,8 +96,11 @@ static void ranges(void)
     must(with("M E=", TRIGGER_TTL0) == 0, "TTL0");
     range("36CCA Y=", TRIGGER_INPUT, TRIGGER_PUSH_PULL, TRIGGER_REFUSED_TYPE);
     for (int kind = TRIGGER_INPUT; kind <= TRIGGER_PUSH_PULL; kind++)
-        must(with("36CCA Y=", kind) == 0 && trigger_connector_type(&card, TRIGGER_TTL0 - TRIGGER_BNC1) == kind, "a connector's type");
-    must(with("36CCA Z=", TRIGGER_HIGH) == 0 && with("36CCA Z=", TRIGGER_NEVER) == 0 && with("36CCA Z=", TRIGGER_EACH_TICK) == 0, "addresses without a base");
+        must(with("36CCA Y=", kind) == 0 && trigger_connector_type(&card, TRIGGER_TTL0 - TRIGGER_BNC1) == kind,
+             "a connector's type");
+    must(with("36CCA Z=", TRIGGER_HIGH) == 0 && with("36CCA Z=", TRIGGER_NEVER) == 0 &&
+             with("36CCA Z=", TRIGGER_EACH_TICK) == 0,
+         "addresses without a base");
     must(with("36CCA Z=", TRIGGER_CONNECTORS_END - 1 + TRIGGER_FALL) == 0, "the last address");
     must(with("36CCA Z=", TRIGGER_CONNECTORS_END + TRIGGER_FALL) == TRIGGER_REFUSED_ADDRESS, "one after it");
     line("M E=33");
@@ -124,7 +132,10 @@ static int line_to(trigger_card *row, size_t row_len, const char *text)
     return rack_line(row, row_len, 1, (const uint8_t *)text, strlen(text), reply, sizeof reply, store, 0).k;
 }
 
-/* A rack has up to TRIGGER_RACK cards. With four, each may have four push-pull front connectors and none a fifth. */
+/*
+ * A rack has up to TRIGGER_RACK cards. With four, each may have four push-pull front connectors and
+ * none a fifth.
+ */
 static void racks(void)
 {
     trigger_card row[TRIGGER_RACK + 1];

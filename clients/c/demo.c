@@ -17,13 +17,18 @@ typedef struct {
     bool shows_lines;
 } session;
 
-/* A one-shot of two pulses, started by TTL0, shown at BNC3; a delay of 70000 pulses of TTL1; the place read; a line that is refused. */
+/*
+ * A one-shot of two pulses, started by TTL0, shown at BNC3; a delay of 70000 pulses of TTL1; the
+ * place read; a line that is refused.
+ */
 static const char *const wiring[] = {
     "M E=1",         "36CCA Y=14",     "36CCA Z=2", "36CCB X=41 Y=192", "M E=2", "36CCA Y=9",
     "36CCA Z=70000", "36CCB X=1 Y=42", "M E=35",    "36CCA Z=1",        "W E",   "36CCB X=1",
 };
 
-/* Buffers of just the length that is needed, so that a checker of memory sees a byte beyond them. */
+/*
+ * Buffers of just the length that is needed, so that a checker of memory sees a byte beyond them.
+ */
 static uint8_t *buffer(size_t len)
 {
     uint8_t *bytes = calloc(len, 1);
@@ -38,7 +43,8 @@ static uint8_t *buffer(size_t len)
 static void line(session *s, const char *text)
 {
     uint8_t *reply = buffer(TRIGGER_REPLY);
-    trigger_answered a = trigger_line(s->card, (const uint8_t *)text, strlen(text), reply, TRIGGER_REPLY, s->store, TRIGGER_RECORD);
+    trigger_answered a = trigger_line(s->card, (const uint8_t *)text, strlen(text), reply, TRIGGER_REPLY, s->store,
+                                      TRIGGER_RECORD);
     s->card = a.card;
     if (s->shows_lines)
         puts(text);

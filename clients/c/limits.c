@@ -1,6 +1,7 @@
 /*
- * The calls at the limits of their buffers: of just the length that is needed, one byte less, and none. Every buffer has its own memory, so that a
- * checker of memory sees a byte beyond it. It prints what is not as the header says, and nothing else.
+ * The calls at the limits of their buffers: of just the length that is needed, one byte less, and
+ * none. Every buffer has its own memory, so that a checker of memory sees a byte beyond it. It
+ * prints what is not as the header says, and nothing else.
  */
 #include <stdio.h>
 #include <stdlib.h>
@@ -36,7 +37,10 @@ static bool all_sevens(const uint8_t *bytes, size_t len)
     return true;
 }
 
-/* The number that a line gets with buffers of these lengths. Where it is refused, the store must be as it was. */
+/*
+ * The number that a line gets with buffers of these lengths. Where it is refused, the store must be
+ * as it was.
+ */
 static int line(trigger_card *card, const char *text, size_t reply_len, size_t store_len)
 {
     size_t len = strlen(text);
@@ -127,21 +131,30 @@ static void large(void)
     free(old);
 }
 
-/* What depends on a line: TTL0 with cell 32 on its inverse and BNC1 from cell 32, a push-pull line, and places that are no connector's. */
+/*
+ * What depends on a line: TTL0 with cell 32 on its inverse and BNC1 from cell 32, a push-pull line,
+ * and places that are no connector's.
+ */
 static void survey(void)
 {
     trigger_card card = trigger_fresh_large();
-    must(line(&card, "M E=32", TRIGGER_REPLY, 0) == 0 && line(&card, "36CCA Y=5", TRIGGER_REPLY, 0) == 0, "an AND2 in cell 32");
+    must(line(&card, "M E=32", TRIGGER_REPLY, 0) == 0 && line(&card, "36CCA Y=5", TRIGGER_REPLY, 0) == 0,
+         "an AND2 in cell 32");
     must(line(&card, "36CCB X=105 Y=64", TRIGGER_REPLY, 0) == 0, "the inverse of TTL0");
-    must(line(&card, "M E=33", TRIGGER_REPLY, 0) == 0 && line(&card, "36CCA Z=32", TRIGGER_REPLY, 0) == 0, "BNC1 from cell 32");
+    must(line(&card, "M E=33", TRIGGER_REPLY, 0) == 0 && line(&card, "36CCA Z=32", TRIGGER_REPLY, 0) == 0,
+         "BNC1 from cell 32");
     trigger_surveyed back = trigger_survey(card, 41), front = trigger_survey(card, 33), none = trigger_survey(card, 49);
     must(back.k == 0 && back.cells == UINT32_C(0x80000000) && back.connectors == 0x0101, "what depends on TTL0");
     must(front.k == 0 && front.cells == 0 && front.connectors == 0, "nothing depends on a push-pull line");
     must(none.k == 5 && none.cells == 0 && none.connectors == 0, "no connector");
-    must(trigger_survey(card, UINT64_MAX).k == 5 && trigger_survey(card, UINT64_C(0x100000029)).k == 5, "a place past all");
+    must(trigger_survey(card, UINT64_MAX).k == 5 && trigger_survey(card, UINT64_C(0x100000029)).k == 5,
+         "a place past all");
 }
 
-/* A full tick of a fresh card names no cell; an edited one is named; the tick that brings the total to the limit still counts, and no other does. */
+/*
+ * A full tick of a fresh card names no cell; an edited one is named; the tick that brings the total
+ * to the limit still counts, and no other does.
+ */
 static void tallies(void)
 {
     trigger_input input = {.code = 0, .sample = 0, .attached = 0xffff};
@@ -177,8 +190,10 @@ int main(void)
     must(print(&card, TRIGGER_TEXT, &len) == 0, "any wiring has room");
     must(print(&card, len, &none) == 0 && none == len, "a buffer of the text's length");
     must(print(&card, len - 1, &none) == 16 && print(&card, 0, &none) == 16, "a buffer with no room for the text");
-    must(convert(TRIGGER_RECORD, TRIGGER_OLD_RECORD) == 14 && convert(0, TRIGGER_RECORD) == 14, "sevens are no record to convert");
-    must(convert(TRIGGER_RECORD, TRIGGER_OLD_RECORD - 1) == 1 && convert(TRIGGER_OLD_RECORD, 0) == 1, "a buffer with no room for the result");
+    must(convert(TRIGGER_RECORD, TRIGGER_OLD_RECORD) == 14 && convert(0, TRIGGER_RECORD) == 14,
+         "sevens are no record to convert");
+    must(convert(TRIGGER_RECORD, TRIGGER_OLD_RECORD - 1) == 1 && convert(TRIGGER_OLD_RECORD, 0) == 1,
+         "a buffer with no room for the result");
     there_and_back(trigger_fresh());
     survey();
     tallies();

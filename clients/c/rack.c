@@ -1,4 +1,7 @@
-/* Two cards hand a pulse over the backplane: card 1 pulls TTL0 low while its one-shot is on, and card 2 starts one of its own when TTL0 falls. */
+/*
+ * Two cards hand a pulse over the backplane: card 1 pulls TTL0 low while its one-shot is on, and
+ * card 2 starts one of its own when TTL0 falls.
+ */
 #include <stdio.h>
 #include <string.h>
 
@@ -29,8 +32,9 @@ int main(void)
     if (rack_start(row, 2) != 0)
         return 1;
     for (size_t i = 0; i < sizeof lines / sizeof lines[0]; i++) {
+        const uint8_t *text = (const uint8_t *)lines[i].text;
         trigger_replied r =
-            rack_line(row, 2, lines[i].number, (const uint8_t *)lines[i].text, strlen(lines[i].text), reply, sizeof reply, store, 0);
+            rack_line(row, 2, lines[i].number, text, strlen(lines[i].text), reply, sizeof reply, store, 0);
         printf("%zu %s: %.*s\n", lines[i].number, lines[i].text, (int)r.len - 2, (const char *)reply);
     }
     for (size_t i = 0; i < sizeof bnc1; i++) {

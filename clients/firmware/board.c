@@ -1,7 +1,9 @@
 /*
- * A board on Linux, for float.c: the standard input is a script. A row `N w a` lets N ticks of the clock pass with levels w and attached word a, hex; any other row
- * is a line that comes in. It prints what was driven, tick by tick: `N T` and the driven word for N ticks in a row. Replies are printed as they come. The last row
- * says how often the processor woke, and in how many ticks; what wakes it is a tick that it waited for, a row of ticks with other levels, and a line.
+ * A board on Linux, for float.c: the standard input is a script. A row `N w a` lets N ticks of the
+ * clock pass with levels w and attached word a, hex; any other row is a line that comes in. It
+ * prints what was driven, tick by tick: `N T` and the driven word for N ticks in a row. Replies are
+ * printed as they come. The last row says how often the processor woke, and in how many ticks; what
+ * wakes it is a tick that it waited for, a row of ticks with other levels, and a line.
  */
 #include "bare/bare.h"
 #include "board.h"
@@ -16,7 +18,9 @@ static bool number(const char **at, uint32_t base, uint32_t *n)
     const char *start = *at;
     for (*n = 0;; (*at)++) {
         char c = **at;
-        uint32_t digit = c >= '0' && c <= '9' ? (uint32_t)(c - '0') : c >= 'a' && c <= 'f' ? (uint32_t)(c - 'a') + 10 : base;
+        uint32_t digit = c >= '0' && c <= '9'   ? (uint32_t)(c - '0')
+                         : c >= 'a' && c <= 'f' ? (uint32_t)(c - 'a') + 10
+                                                : base;
         if (digit >= base)
             return *at != start;
         *n = *n * base + digit;
@@ -29,7 +33,8 @@ static bool is_ticks(void)
     const char *at = (const char *)row;
     uint32_t n, w, a;
     row[row_len] = 0;
-    if (!number(&at, 10, &n) || *at++ != ' ' || !number(&at, 16, &w) || *at++ != ' ' || !number(&at, 16, &a) || *at != 0)
+    if (!number(&at, 10, &n) || *at++ != ' ' || !number(&at, 16, &w) || *at++ != ' ' || !number(&at, 16, &a) ||
+        *at != 0)
         return false;
     ticks_left = n;
     levels = (uint16_t)w;
@@ -84,7 +89,10 @@ static board_event off(void)
     return BOARD_OFF;
 }
 
-/* The outputs keep their word while the processor sleeps. What the last tick of a wait drives is known at the next. */
+/*
+ * The outputs keep their word while the processor sleeps. What the last tick of a wait drives is
+ * known at the next.
+ */
 board_event board_wait(uint32_t most, uint32_t *ticks)
 {
     static bool last;

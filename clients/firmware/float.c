@@ -1,11 +1,16 @@
 /*
- * The loop of a float: it samples, asks for how many ticks nothing but counts changes, and sleeps through them; then it makes the ticks that have passed, drives the
- * outputs, and obeys the line that woke it. Its memory is below; the library has none of its own. docs/PERFORMANCE.md has the bytes.
+ * The loop of a float: it samples, asks for how many ticks nothing but counts changes, and sleeps
+ * through them; then it makes the ticks that have passed, drives the outputs, and obeys the line
+ * that woke it. Its memory is below; the library has none of its own. docs/PERFORMANCE.md has the
+ * bytes.
  */
 #include "board.h"
 #include "trigger.h"
 
-/* A card of sixteen cells takes ticks of clock 0 until a line says otherwise; the board's timer is that clock. */
+/*
+ * A card of sixteen cells takes ticks of clock 0 until a line says otherwise; the board's timer is
+ * that clock.
+ */
 #define CLOCK 0
 #define LONGEST_LINE 80
 
@@ -13,7 +18,10 @@ static trigger_card card;
 static trigger_input input;
 static uint8_t record[TRIGGER_RECORD];
 
-/* The settings that were saved last, on a fresh card; without a record, or with one that is refused, the card stays fresh. */
+/*
+ * The settings that were saved last, on a fresh card; without a record, or with one that is
+ * refused, the card stays fresh.
+ */
 static void power_up(void)
 {
     size_t len = board_read_record(record, sizeof record);
@@ -22,7 +30,10 @@ static void power_up(void)
         trigger_load_at(&card, record, len);
 }
 
-/* The ticks for which the outputs may stay as they are, and the one after them, with the input as it is now. */
+/*
+ * The ticks for which the outputs may stay as they are, and the one after them, with the input as
+ * it is now.
+ */
 static uint32_t sample(void)
 {
     input.code = CLOCK;
@@ -32,7 +43,10 @@ static uint32_t sample(void)
     return steady < TRIGGER_FOREVER ? steady + 1 : steady;
 }
 
-/* The ticks that have passed since the input was sampled: they saw that input, whatever has come since. */
+/*
+ * The ticks that have passed since the input was sampled: they saw that input, whatever has come
+ * since.
+ */
 static void catch_up(uint32_t ticks)
 {
     trigger_answer answer;

@@ -1,12 +1,15 @@
-/* What the functions of the proved modules take beside the structs of trigger.h: for at.c and rack_at.c. */
+/*
+ * What the functions of the proved modules take beside the structs of trigger.h: for at.c and
+ * rack_at.c.
+ */
 #ifndef INNER_H
 #define INNER_H
 
 #include "trigger.h"
 
 /*
- * Bytes, or a row of cards, as a module takes them: a pointer in eight bytes, and a length of eight on
- * every processor.
+ * Bytes, or a row of cards, as a module takes them: a pointer in eight bytes, and a length of eight
+ * on every processor.
  */
 typedef struct {
     const void *start;

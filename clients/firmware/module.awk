@@ -1,9 +1,10 @@
-# The sizes of what crosses the calls of the module of a library (-v library=NAME), read off its text: a
-# line of C for each argument that is passed by a pointer, where argument 0 of a call with a result is
-# the result; and the distance from card to card of a row, where it has one. Each call must read such an
-# argument by one copy and nothing else, and write its result by one copy at its end. Then a call changes
-# nothing that it is given, and the result may lie anywhere. A call whose name ends in _in changes its
-# argument 1, a card, where it is. It ends with 1, and says why, where the module is another.
+# The sizes of what crosses the calls of the module of a library (-v library=NAME), read off its
+# text: a line of C for each argument that is passed by a pointer, where argument 0 of a call with a
+# result is the result; and the distance from card to card of a row, where it has one. Each call
+# must read such an argument by one copy and nothing else, and write its result by one copy at its
+# end. Then a call changes nothing that it is given, and the result may lie anywhere. A call whose
+# name ends in _in changes its argument 1, a card, where it is. It ends with 1, and says why, where
+# the module is another.
 
 function fault(text) {
     print "module: " name ": " text > "/dev/stderr"

@@ -2,8 +2,10 @@
  * Racks through calls by pointers, for the comparison with stored output.
  *
  *     racks               two cards hand a pulse over the backplane, and it prints what clients/c/rack.c prints
- *     racks sessions      a stored session of racks comes in at the standard input, a call in each line, and each is answered as stored in crates/plrack:
- *                         rack N [32], start, load NUMBER HEX, line NUMBER ROOM TEXT, tick CODE F|Q and a sample and what is attached in hex, of the backplane and of each front
+ *     racks sessions      a stored session of racks comes in at the standard input, a call in
+ *                         each line, and each is answered as stored in crates/plrack: rack N [32],
+ *                         start, load NUMBER HEX, line NUMBER ROOM TEXT, tick CODE F|Q and a sample
+ *                         and what is attached in hex, of the backplane and of each front
  */
 #include "bare/bare.h"
 #include "trigger.h"
@@ -63,8 +65,10 @@ static void wire(size_t number, const char *text)
 
 static void hand_over(void)
 {
-    static const char *const first[] = {"36CCA Y=14", "36CCA Z=2", "36CCB X=33 Y=192", "M E=41", "36CCA Y=1", "36CCA Z=65"};
-    static const char *const second[] = {"36CCA Y=14", "36CCA Z=3", "36CCB X=233 Y=192", "M E=35", "36CCA Y=2", "36CCA Z=1"};
+    static const char *const first[] = {"36CCA Y=14", "36CCA Z=2", "36CCB X=33 Y=192",
+                                        "M E=41",     "36CCA Y=1", "36CCA Z=65"};
+    static const char *const second[] = {"36CCA Y=14", "36CCA Z=3", "36CCB X=233 Y=192",
+                                         "M E=35",     "36CCA Y=2", "36CCA Z=1"};
     static const uint8_t bnc1[] = {0, 0, 1, 0, 0, 0, 0, 0};
     row_len = 2;
     if (rack_start_at(row, row_len) != 0)

@@ -1,11 +1,14 @@
 /*
- * The card through calls by pointers, for the comparison with stored sessions. Lines come in at the standard input.
+ * The card through calls by pointers, for the comparison with stored sessions. Lines come in at the
+ * standard input.
  *
  *     session                 answers as plrun does
- *     session SIZE FORM       runs a session as crates/gate_sessions does: SIZE is `small` or `large`, FORM is what is printed
+ *     session SIZE FORM       runs a session as crates/gate_sessions does: SIZE is `small` or
+ *                             `large`, FORM is what is printed
  *     session records         takes records in hex, as crates/gate_tables
  *
- * Before each tick it asks whether the card is at rest, which must leave the card as it was; a card at rest must wake nobody. It ends with 1 where that fails.
+ * Before each tick it asks whether the card is at rest, which must leave the card as it was; a card
+ * at rest must wake nobody. It ends with 1 where that fails.
  */
 #include "bare/bare.h"
 #include "trigger.h"
@@ -153,7 +156,10 @@ static void put_tallies(void)
     put_text("\n");
 }
 
-/* The total and the tallies of the cells after `# `, one blank between them: the card is handed in with these numbers. */
+/*
+ * The total and the tallies of the cells after `# `, one blank between them: the card is handed in
+ * with these numbers.
+ */
 static void set_tallies(const uint8_t *line, size_t len)
 {
     uint32_t numbers[1 + TRIGGER_CELLS] = {0};
@@ -305,7 +311,8 @@ static void take_row(const uint8_t *row, size_t len)
         answer_load(bytes, (size_t)n, false);
         return;
     }
-    if (len >= 5 && len <= 1100 && row[4] == ' ' && word_at(row, &room) && room <= 620 && (n = bytes_in(row + 5, len - 5, bytes)) >= 0) {
+    if (len >= 5 && len <= 1100 && row[4] == ' ' && word_at(row, &room) && room <= 620 &&
+        (n = bytes_in(row + 5, len - 5, bytes)) >= 0) {
         answer_conversion(bytes, (size_t)n, room);
         return;
     }

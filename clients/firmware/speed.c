@@ -1,7 +1,9 @@
 /*
- * Ticks of a card, for a count of instructions: `speed CARD KIND N` makes N ticks, of the kind full, quick, idle (of another clock), rest (asks whether the card is at
- * rest), steady (asks for how many ticks it is steady), advance (makes a thousand at once) or none. CARD is fresh, counter (presets 4 and 19), delay (of two hours in
- * cell 1, which runs), or busy: sixteen JK flip-flops that toggle in every tick.
+ * Ticks of a card, for a count of instructions: `speed CARD KIND N` makes N ticks, of the kind
+ * full, quick, idle (of another clock), rest (asks whether the card is at rest), steady (asks for
+ * how many ticks it is steady), advance (makes a thousand at once) or none. CARD is fresh, counter
+ * (presets 4 and 19), delay (of two hours in cell 1, which runs), or busy: sixteen JK flip-flops
+ * that toggle in every tick.
  */
 #include "bare/bare.h"
 #include "trigger.h"
@@ -9,13 +11,16 @@
 static trigger_card card;
 static uint8_t reply[TRIGGER_REPLY], store[TRIGGER_RECORD];
 
-static const char *const places[TRIGGER_SMALL] = {"M E=1", "M E=2",  "M E=3",  "M E=4",  "M E=5",  "M E=6",  "M E=7",  "M E=8",
-                                                  "M E=9", "M E=10", "M E=11", "M E=12", "M E=13", "M E=14", "M E=15", "M E=16"};
+static const char *const places[TRIGGER_SMALL] = {
+    "M E=1", "M E=2",  "M E=3",  "M E=4",  "M E=5",  "M E=6",  "M E=7",  "M E=8",
+    "M E=9", "M E=10", "M E=11", "M E=12", "M E=13", "M E=14", "M E=15", "M E=16",
+};
 
 static void line(const char *text)
 {
     size_t len;
-    if (trigger_line_at(&card, (const uint8_t *)text, length(text), reply, sizeof reply, store, sizeof store, &len) != 0) {
+    if (trigger_line_at(&card, (const uint8_t *)text, length(text), reply, sizeof reply, store, sizeof store, &len) !=
+        0) {
         put_text("a line was refused\n");
         stop(1);
     }

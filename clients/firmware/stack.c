@@ -1,6 +1,7 @@
 /*
- * How much stack each call takes: it runs on a stack of its own that was filled with one byte, and the deepest byte that is another one afterwards tells. What
- * the way there takes, counted with a call that does nothing, is taken off.
+ * How much stack each call takes: it runs on a stack of its own that was filled with one byte, and
+ * the deepest byte that is another one afterwards tells. What the way there takes, counted with a
+ * call that does nothing, is taken off.
  */
 #include "bare/bare.h"
 #include "trigger.h"
@@ -27,7 +28,10 @@ static void quick_tick(void) { trigger_quick_tick_at(&card, &input, &answer); }
 static void at_rest(void) { trigger_at_rest_at(&card, &input); }
 static void steady_for(void) { trigger_steady_for_at(&card, &input); }
 static void advance(void) { trigger_advance_at(&card, &input, 1000, &answer); }
-static void line(void) { trigger_line_at(&card, (const uint8_t *)given, length(given), reply, sizeof reply, store, sizeof store, &len); }
+static void line(void)
+{
+    trigger_line_at(&card, (const uint8_t *)given, length(given), reply, sizeof reply, store, sizeof store, &len);
+}
 static void load(void) { trigger_load_at(&card, store, record_len); }
 static void print(void) { trigger_print_at(&card, text, sizeof text, &len); }
 static void convert(void) { trigger_convert_at(store, record_len, text, sizeof text, &len); }
@@ -36,7 +40,11 @@ static void read_tallies(void) { trigger_read_tallies_at(&card, &tallies); }
 static void start_row(void) { rack_start_at(row, TRIGGER_RACK); }
 static void tick_row_full(void) { rack_tick_at(row, TRIGGER_RACK, true, &rack_input, &ticked); }
 static void tick_row_quick(void) { rack_tick_at(row, TRIGGER_RACK, false, &rack_input, &ticked); }
-static void line_to_row(void) { rack_line_at(row, TRIGGER_RACK, 1, (const uint8_t *)given, length(given), reply, sizeof reply, row_store, sizeof row_store, &len); }
+static void line_to_row(void)
+{
+    rack_line_at(row, TRIGGER_RACK, 1, (const uint8_t *)given, length(given), reply, sizeof reply, row_store,
+                 sizeof row_store, &len);
+}
 static void load_to_row(void) { rack_load_at(row, TRIGGER_RACK, 1, row_store, sizeof row_store); }
 
 static uint32_t depth(void (*call)(void))
@@ -65,7 +73,10 @@ static void wire(const char *text_of_line, void (*function)(void))
     }
 }
 
-/* The card that is measured: a preset of sixteen cells, one of connectors, a timer, and its record in the store. The first card of the row has the same preset. */
+/*
+ * The card that is measured: a preset of sixteen cells, one of connectors, a timer, and its record
+ * in the store. The first card of the row has the same preset.
+ */
 static void prepare(bool large)
 {
     static const char *const lines[] = {"36CCA X=4", "36CCA X=19", "M E=1", "36CCA Y=14", "36CCB X=41 Y=192", "36SS Z"};

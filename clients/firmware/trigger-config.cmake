@@ -1,5 +1,5 @@
-# find_package(trigger), and target_link_libraries(program trigger::trigger), or trigger::rack for calls on a row of cards: the header and the libraries that lie beside this
-# file.
+# find_package(trigger), and target_link_libraries(program trigger::trigger), or trigger::rack for
+# calls on a row of cards: the header and the libraries of the folder that this file is in.
 get_filename_component(trigger_prefix "${CMAKE_CURRENT_LIST_DIR}/../../.." ABSOLUTE)
 if(NOT TARGET trigger::trigger)
     add_library(trigger::trigger STATIC IMPORTED)

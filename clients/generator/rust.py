@@ -85,12 +85,18 @@ def indented(lines, by=4):
 
 
 # ---- a full tick
-# By value a tick costs less than in place where its result is written in the place of the card that was given: so the crate
-# keeps a card with room for an answer after it.
+# By value a tick costs less than in place where its result is written in the place of the card that
+# was given: so the crate keeps a card with room for an answer after it.
 
 TICKED = "pub fn full_tick(ticked: &mut Ticked, input: Input) -> Answer {"
-BY_VALUE_TICK = ["let to: *mut Ticked = ticked;", "unsafe { (*library::trigger_full_tick(to, (*to).card, input)).answer }"]
-BY_POINTER_TICK = ["unsafe { library::trigger_full_tick_at(&mut ticked.card, &input, &mut ticked.answer) };", "ticked.answer"]
+BY_VALUE_TICK = [
+    "let to: *mut Ticked = ticked;",
+    "unsafe { (*library::trigger_full_tick(to, (*to).card, input)).answer }",
+]
+BY_POINTER_TICK = [
+    "unsafe { library::trigger_full_tick_at(&mut ticked.card, &input, &mut ticked.answer) };",
+    "ticked.answer",
+]
 
 
 def full_tick(lines):
@@ -258,7 +264,8 @@ def raw(calls, docs, constants):
     blocks += [struct_of(s, docs, derived + (["Default"] if s in by_callers else [])) for s in shared]
     blocks += [LAYOUT.rstrip(), "\n".join(layout_of(s) for s in shared)]
     by_values = [struct_of(s, {}, []) for s in apart] + ["\n".join(layout_of(s) for s in apart)]
-    by_values += [library(others + [full], value_extern), full_tick(BY_VALUE_TICK)] + [by_value(call) for call in others]
+    by_values += [library(others + [full], value_extern), full_tick(BY_VALUE_TICK)]
+    by_values += [by_value(call) for call in others]
     by_pointers = [library(chosen, pointer_extern), full_tick(BY_POINTER_TICK)] + [by_pointer(call) for call in others]
     blocks.append(module(BY_VALUE, SAFE % "Where a call is given `to`, it writes all that this points to.", by_values))
     blocks.append(module("not(%s)" % BY_VALUE, SAFE % "A result is written whole.", by_pointers))

@@ -108,8 +108,8 @@ bool same(const void *bytes, size_t len, const char *text)
 }
 
 /*
- * The whole words of a copy, eight bytes or four where both ends are aligned to them, eight of them in a turn: about what a C library does. How many bytes these
- * are.
+ * The whole words of a copy, eight bytes or four where both ends are aligned to them, eight of them
+ * in a turn: about what a C library does. How many bytes these are.
  */
 #define COPY(word) \
     { \

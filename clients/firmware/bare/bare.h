@@ -1,4 +1,7 @@
-/* What a program without a C library has here: standard input and output of Linux, numbers in text, and the length of a string. */
+/*
+ * What a program without a C library has here: standard input and output of Linux, numbers in text,
+ * and the length of a string.
+ */
 #ifndef BARE_H
 #define BARE_H
 

@@ -1,5 +1,6 @@
 /*
- * A program without a C library, for Linux on the four processors: its entry, system calls, and a call on another stack.
+ * A program without a C library, for Linux on the four processors: its entry, system calls, and a
+ * call on another stack.
  *
  *     long system_call(long number, long a, long b, long c)
  *     void call_on(void (*function)(void), void *top)

@@ -78,6 +78,22 @@ def test_picture(monkeypatch: pytest.MonkeyPatch) -> None:
     assert card._repr_svg_() is None and Rack(1).card(1)._repr_svg_() is None
 
 
+@pytest.mark.skipif(PLDRAW is None, reason="target/bin/pldraw is not built")
+def test_what_is_kept(monkeypatch: pytest.MonkeyPatch) -> None:
+    """Ticks that no line can ask for are not in the picture, and a card does not keep lines for ever."""
+    monkeypatch.setenv("TRIGGER_CARD_PLDRAW", str(PLDRAW))
+    card, other = _ticked(), _ticked()
+    for _ in range(400):
+        assert not other.tick(0, clock=200).ran
+    assert card._repr_svg_() == other._repr_svg_()
+    for _ in range(10_000):
+        card.line("W E")
+    assert card._repr_svg_() is None
+    card.power_up(card.record())
+    card.tick(0)
+    assert "<svg" in card._repr_svg_()
+
+
 def test_no_picture(monkeypatch: pytest.MonkeyPatch, tmp_path: Path) -> None:
     """Without pldraw, or with one that fails, there is no picture, and nothing is raised."""
     monkeypatch.setenv("PATH", str(tmp_path))

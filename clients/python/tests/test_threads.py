@@ -4,7 +4,7 @@ from __future__ import annotations
 
 import sys
 import threading
-from typing import Callable, Iterator, List
+from typing import Any, Callable, Iterator, List, Tuple
 
 import pytest
 
@@ -97,6 +97,57 @@ def test_rack() -> None:
 
     assert not together([ticks, ticks, ticks])
     assert [rack.card(n).tallies().ticks for n in (1, 2)] == [3000, 3000]
+
+
+def test_answers_of_a_rack() -> None:
+    """Each answer of a rack is whole: its levels are those of the tick that it answers."""
+    rack = Rack(4)
+
+    def ticks(sample: int) -> None:
+        for _ in range(4000):
+            for answer in rack.tick(4 * [sample], backplane=sample):
+                assert answer.levels == sample << 8 | sample
+
+    assert not together([lambda: ticks(0x00), lambda: ticks(0xFF), lambda: ticks(0xA5)])
+    assert rack.card(1).tallies().ticks == 12000
+
+
+RECORD = Card().record()
+CALLS: List[Tuple[str, Callable[[Any], object]]] = [
+    ("Card.line", lambda card: card.line("W E")),
+    ("Card.wire", lambda card: card.wire("M E=1")),
+    ("Card.wiring", lambda card: card.wiring()),
+    ("Card.record", lambda card: card.record()),
+    ("Card.store", lambda card: card.store),
+    ("Card.power_up", lambda card: card.power_up(RECORD)),
+    ("Card.tick", lambda card: card.tick(0)),
+    ("Card.run", lambda card: card.run([0])),
+    ("Card.at_rest", lambda card: card.at_rest(0)),
+    ("Card.survey", lambda card: card.survey("TTL0")),
+    ("Card.tallies", lambda card: card.tallies()),
+    ("Card.copy", lambda card: card.copy()),
+    ("Card._repr_svg_", lambda card: card._repr_svg_()),
+    ("Card.close", lambda card: card.close()),
+    ("Rack.start", lambda rack: rack.start()),
+    ("Rack.tick", lambda rack: rack.tick([0, 0])),
+    ("Rack.line", lambda rack: rack.line(1, "W E")),
+    ("Rack.load", lambda rack: rack.load(2, RECORD)),
+    ("Rack.card", lambda rack: rack.card(1)),
+    ("Rack.close", lambda rack: rack.close()),
+]
+
+
+@pytest.mark.parametrize("name,call", CALLS, ids=[name for name, _ in CALLS])
+def test_each_call_waits(name: str, call: Callable[[Any], object]) -> None:
+    """A call waits until the one of another thread has ended."""
+    shared: Any = Card() if name.startswith("Card") else Rack(2)
+    thread = threading.Thread(target=call, args=(shared,))
+    with shared._lock:
+        thread.start()
+        thread.join(0.1)
+        assert thread.is_alive()
+    thread.join(60)
+    assert not thread.is_alive()
 
 
 def test_closed_under_way() -> None:

@@ -9,7 +9,7 @@ from pathlib import Path
 from typing import List, Optional, Sequence, Tuple, Union
 
 LIMIT = 10_000
-"""Ticks that are kept. A card that has made more is not drawn until it powers up again."""
+"""Ticks that are kept, and lines. A card that was given more is not drawn until it powers up again."""
 
 # pldraw keeps so many ticks.
 _DRAWN = 300
@@ -18,29 +18,35 @@ _Tick = Tuple[int, int, int, bool]
 
 
 class History:
-    """The lines and ticks that a card was given, or None of them once the ticks were too many."""
+    """The lines and ticks that a card was given, or None of them once there were too many."""
 
-    __slots__ = ("_calls", "_ticks")
+    __slots__ = ("_calls", "_ticks", "_lines")
 
     def __init__(self, wiring: Sequence[bytes] = ()) -> None:
         self._calls: Optional[List[Union[bytes, _Tick]]] = list(wiring)
         self._ticks = 0
+        self._lines = len(wiring)
 
     def copy(self) -> History:
         """The same calls, kept by themselves."""
         other = History()
         other._calls = None if self._calls is None else list(self._calls)
-        other._ticks = self._ticks
+        other._ticks, other._lines = self._ticks, self._lines
         return other
 
     def lines(self, texts: Sequence[bytes]) -> None:
         """Lines that were accepted."""
         if self._calls is not None:
-            self._calls.extend(texts)
+            self._lines += len(texts)
+            if self._lines > LIMIT:
+                self._calls = None
+            else:
+                self._calls.extend(texts)
 
     def tick(self, call: _Tick) -> None:
         """A tick: clock, sample, attached word, and whether it was a full one."""
-        if self._calls is not None:
+        # A tick of a clock that no line can choose never runs, and plrun has no form for it.
+        if self._calls is not None and call[0] <= 9:
             self._ticks += 1
             if self._ticks > LIMIT:
                 self._calls = None
@@ -87,8 +93,7 @@ NOT_KEPT = _not_kept()
 
 def _tick_line(call: _Tick) -> bytes:
     clock, sample, attached, full = call
-    # A tick of a clock that no line can choose never runs, and plrun has no form for it.
-    return b"T %d %04x %04x %c\n" % (clock, sample, attached, b"F" if full else b"Q") if clock <= 9 else b""
+    return b"T %d %04x %04x %c\n" % (clock, sample, attached, b"F" if full else b"Q")
 
 
 def pldraw() -> Optional[str]:

@@ -50,19 +50,26 @@ fn read_line(buffer: &mut [u8]) -> Option<usize> {
 
 fn word(digits: &[u8]) -> Option<u16> {
     let hex = |byte: &u8| matches!(byte, b'0'..=b'9' | b'a'..=b'f');
-    let text = core::str::from_utf8(digits).ok().filter(|_| digits.iter().all(hex))?;
+    let text = core::str::from_utf8(digits)
+        .ok()
+        .filter(|_| digits.iter().all(hex))?;
     u16::from_str_radix(text, 16).ok()
 }
 
 /// A tick line, exact to the byte: its input, and whether it is full.
 fn tick(line: &[u8]) -> Option<(Input, bool)> {
-    let [b'T', b' ', code @ b'0'..=b'9', b' ', words @ .., b' ', kind @ (b'F' | b'Q')] = line else {
+    let [b'T', b' ', code @ b'0'..=b'9', b' ', words @ .., b' ', kind @ (b'F' | b'Q')] = line
+    else {
         return None;
     };
     if words.len() != 9 || words[4] != b' ' {
         return None;
     }
-    let input = Input { code: code - b'0', sample: word(&words[..4])?, attached: word(&words[5..])? };
+    let input = Input {
+        code: code - b'0',
+        sample: word(&words[..4])?,
+        attached: word(&words[5..])?,
+    };
     Some((input, *kind == b'F'))
 }
 
@@ -70,8 +77,16 @@ fn tick(line: &[u8]) -> Option<(Input, bool)> {
 fn enter(card: &mut Card, store: &mut [u8], line: &[u8]) -> fmt::Result {
     let large = card.cells().len() == 32;
     if let Some((input, full)) = tick(line) {
-        let answer = if full { card.full_tick(input) } else { card.quick_tick(input) };
-        return if large { writeln!(Output, "{answer:#}") } else { writeln!(Output, "{answer}") };
+        let answer = if full {
+            card.full_tick(input)
+        } else {
+            card.quick_tick(input)
+        };
+        return if large {
+            writeln!(Output, "{answer:#}")
+        } else {
+            writeln!(Output, "{answer}")
+        };
     }
     if line == b"L" {
         return match card.load(store) {
@@ -94,6 +109,8 @@ extern "C" fn main(arguments: i32, _: *const *const u8) -> i32 {
         enter(&mut card, store, &line[..len]).expect("the output takes all");
     }
     let mut text = [0; TEXT];
-    Output.write_str(card.print(&mut text).expect("any wiring has room")).expect("the output takes all");
+    Output
+        .write_str(card.print(&mut text).expect("any wiring has room"))
+        .expect("the output takes all");
     0
 }

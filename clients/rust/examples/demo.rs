@@ -6,7 +6,8 @@ use std::process::ExitCode;
 
 use trigger::{Card, Input, RECORD, TEXT};
 
-/// A one-shot of two pulses, started by TTL0, shown at BNC3; a delay of 70000 pulses of TTL1; the place read; a line that is refused.
+/// A one-shot of two pulses, started by TTL0, shown at BNC3; a delay of 70000 pulses of TTL1; the
+/// place read; a line that is refused.
 const WIRING: [&str; 12] = [
     "M E=1",
     "36CCA Y=14",

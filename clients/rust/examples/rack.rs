@@ -1,4 +1,5 @@
-//! Two cards hand a pulse over the backplane: card 1 pulls TTL0 low while its one-shot is on, and card 2 starts one of its own when TTL0 falls.
+//! Two cards hand a pulse over the backplane: card 1 pulls TTL0 low while its one-shot is on, and
+//! card 2 starts one of its own when TTL0 falls.
 use trigger::{Card, Front, Rack, RackCard, RackInput, RACK};
 
 const LINES: [(usize, &str); 12] = [
@@ -21,12 +22,24 @@ fn main() {
     let mut rack = Rack(&mut cards);
     rack.start().expect("a rack");
     for (number, text) in LINES {
-        println!("{number} {text}: {}", rack.line(number, text.as_bytes(), &mut []));
+        println!(
+            "{number} {text}: {}",
+            rack.line(number, text.as_bytes(), &mut [])
+        );
     }
     for bnc1 in [0, 0, 1, 0, 0, 0, 0, 0] {
-        let mut fronts = [Front { sample: 0, attached: 0xff }; RACK];
+        let mut fronts = [Front {
+            sample: 0,
+            attached: 0xff,
+        }; RACK];
         fronts[0].sample = bnc1;
-        let input = RackInput { code: 0, sample: 0xff, attached: 0xff, count: 2, fronts };
+        let input = RackInput {
+            code: 0,
+            sample: 0xff,
+            attached: 0xff,
+            count: 2,
+            fronts,
+        };
         let answers = rack.tick(false, input).expect("a rack");
         println!("{}; {}", answers[0], answers[1]);
     }

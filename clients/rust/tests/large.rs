@@ -1,4 +1,5 @@
-//! The stored sessions of a card of thirty-two cells: what its lines and ticks answer and the wiring it prints at the end must be what crates/gate_sessions prints.
+//! The stored sessions of a card of thirty-two cells: what its lines and ticks answer and the
+//! wiring it prints at the end must be what crates/gate_sessions prints.
 use trigger::{Card, LARGE_RECORD, TEXT};
 
 mod stored;
@@ -7,7 +8,8 @@ mod stored;
 fn stored_sessions() {
     for run in stored::runs("session") {
         assert!(run.large, "{}", run.row);
-        let (mut card, mut store, mut printed) = (Card::fresh_large(), [0; LARGE_RECORD], String::new());
+        let (mut card, mut store, mut printed) =
+            (Card::fresh_large(), [0; LARGE_RECORD], String::new());
         for line in &run.lines {
             printed += &stored::entered(&mut card, line, &mut store);
             printed.push('\n');

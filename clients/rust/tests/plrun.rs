@@ -1,5 +1,6 @@
-//! Lines, loads and ticks drawn from a fixed sequence of numbers, given to a card and to plrun: they must answer alike, and plprint must print the
-//! wiring that the card prints. Both programs are taken from target/bin.
+//! Lines, loads and ticks drawn from a fixed sequence of numbers, given to a card and to plrun:
+//! they must answer alike, and plprint must print the wiring that the card prints. Both programs
+//! are taken from target/bin.
 use std::io::Write;
 use std::process::{Command, Stdio};
 
@@ -113,7 +114,8 @@ fn but_total(card: &Card) -> String {
     format!("{card:?}").replace(&format!("total: {} }}", card.tallies().total), "}")
 }
 
-/// The card after a tick, which a tick of the other kind must give too, and what the question for rest said of it before.
+/// The card after a tick, which a tick of the other kind must give too, and what the question for
+/// rest said of it before.
 fn ticked(card: &mut Card, full: bool, input: Input) -> String {
     let (before, mut by_full, mut by_quick) = (*card, *card, *card);
     let answers = (by_full.full_tick(input), by_quick.quick_tick(input));

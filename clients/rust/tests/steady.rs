@@ -1,5 +1,7 @@
-//! Ticks made at once against ticks made one by one. Wirings, inputs and lines are drawn from a fixed sequence of numbers: a card that sleeps as long as it is steady
-//! must drive what a card drives that ticks, in every tick, and must be the same card whenever it wakes; its tallies are part of it.
+//! Ticks made at once against ticks made one by one. Wirings, inputs and lines are drawn from a
+//! fixed sequence of numbers: a card that sleeps as long as it is steady must drive what a card
+//! drives that ticks, in every tick, and must be the same card whenever it wakes; its tallies are
+//! part of it.
 use trigger::{Card, Input, FOREVER, RECORD};
 
 /// A fixed sequence of numbers.
@@ -38,16 +40,29 @@ fn line(random: &mut Random) -> String {
     match random.below(5) {
         0 => format!("M E={}", 1 + random.below(8)),
         1 => format!("36CCA Y={}", random.of(&TYPES)),
-        2 => format!("36CCA Z={}", random.of(&[0, 1, 2, 3, 7, 50, 400, 70_000, 4_294_967_295u32])),
-        3 => format!("36CCA F={}", random.of(&[0, 1, 2, 5, 300, 65_530, 65_535, 4_000_000_000u32])),
-        _ => format!("36CCB X={} Y={} Z={}", address(random, false), address(random, random.0 & 3 != 0), address(random, false)),
+        2 => format!(
+            "36CCA Z={}",
+            random.of(&[0, 1, 2, 3, 7, 50, 400, 70_000, 4_294_967_295u32])
+        ),
+        3 => format!(
+            "36CCA F={}",
+            random.of(&[0, 1, 2, 5, 300, 65_530, 65_535, 4_000_000_000u32])
+        ),
+        _ => {
+            let (x, y) = (address(random, false), address(random, random.0 & 3 != 0));
+            format!("36CCB X={x} Y={y} Z={}", address(random, false))
+        }
     }
 }
 
 fn rewire(random: &mut Random, cards: [&mut Card; 2]) {
     let text = line(random);
     let mut stores = [[0; RECORD]; 2];
-    let replies: Vec<_> = cards.into_iter().zip(&mut stores).map(|(card, store)| card.line(text.as_bytes(), store)).collect();
+    let replies: Vec<_> = cards
+        .into_iter()
+        .zip(&mut stores)
+        .map(|(card, store)| card.line(text.as_bytes(), store))
+        .collect();
     assert_eq!(replies[0], replies[1], "{text}");
 }
 
@@ -56,7 +71,11 @@ fn sleeping_is_ticking() {
     let mut random = Random(0x5ead_1e55);
     let (mut ticks, mut wakings) = (0, 0);
     for start in 0..400 {
-        let fresh = if start % 4 == 0 { Card::fresh_large() } else { Card::fresh() };
+        let fresh = if start % 4 == 0 {
+            Card::fresh_large()
+        } else {
+            Card::fresh()
+        };
         let (mut sleeper, mut ticker) = (fresh, fresh);
         for _ in 0..40 {
             rewire(&mut random, [&mut sleeper, &mut ticker]);
@@ -74,7 +93,10 @@ fn sleeping_is_ticking() {
                 let asleep = steady.min(left);
                 for _ in 0..asleep {
                     let answer = ticker.quick_tick(input);
-                    assert!(!answer.ran || answer.driven == driven, "a tick that was slept through drives another word");
+                    assert!(
+                        !answer.ran || answer.driven == driven,
+                        "a tick that was slept through drives another word"
+                    );
                 }
                 let due = if asleep == left { asleep } else { asleep + 1 };
                 let last = (due > asleep).then(|| ticker.quick_tick(input));
@@ -106,7 +128,11 @@ fn sleeping_is_ticking() {
 #[test]
 fn none_and_forever() {
     let mut card = Card::fresh();
-    let input = Input { code: 0, sample: 0, attached: 0xffff };
+    let input = Input {
+        code: 0,
+        sample: 0,
+        attached: 0xffff,
+    };
     let before = card;
     let none = card.advance(input, 0);
     assert_eq!((none.made, none.answer.ran), (0, false));

@@ -1,4 +1,5 @@
-//! The stored sessions that ask for the tallies, up to the first line that hands a card in with others: the card must answer what crates/gate_sessions prints.
+//! The stored sessions that ask for the tallies, up to the first line that hands a card in with
+//! others: the card must answer what crates/gate_sessions prints.
 use std::fmt::Write;
 
 use trigger::{Card, LARGE_RECORD, RECORD};
@@ -21,14 +22,29 @@ fn answer(card: &mut Card, cells: usize, store: &mut [u8], line: &[u8]) -> Strin
 #[test]
 fn stored_tallies() {
     for run in stored::runs("tallies") {
-        let (mut card, cells, room) = if run.large { (Card::fresh_large(), 32, LARGE_RECORD) } else { (Card::fresh(), 16, RECORD) };
+        let (mut card, cells, room) = if run.large {
+            (Card::fresh_large(), 32, LARGE_RECORD)
+        } else {
+            (Card::fresh(), 16, RECORD)
+        };
         let mut store = [0; LARGE_RECORD];
-        assert_eq!(run.lines.len(), run.printed.lines().count(), "{}: a row for each line", run.row);
+        assert_eq!(
+            run.lines.len(),
+            run.printed.lines().count(),
+            "{}: a row for each line",
+            run.row
+        );
         for (line, row) in run.lines.iter().zip(run.printed.lines()) {
             if line.starts_with(b"# ") {
                 break;
             }
-            assert_eq!(answer(&mut card, cells, &mut store[..room], line), row, "{}: {}", run.row, line.escape_ascii());
+            assert_eq!(
+                answer(&mut card, cells, &mut store[..room], line),
+                row,
+                "{}: {}",
+                run.row,
+                line.escape_ascii()
+            );
         }
     }
 }

@@ -17,7 +17,10 @@ pub struct Run {
 
 /// The bytes before each LF; a last line that has not ended is none.
 fn lines_of(input: &[u8]) -> Vec<Vec<u8>> {
-    let mut lines: Vec<Vec<u8>> = input.split(|byte| *byte == b'\n').map(<[u8]>::to_vec).collect();
+    let mut lines: Vec<Vec<u8>> = input
+        .split(|byte| *byte == b'\n')
+        .map(<[u8]>::to_vec)
+        .collect();
     lines.pop();
     lines
 }
@@ -39,12 +42,19 @@ pub fn runs(form: &str) -> Vec<Run> {
     assert_eq!(left.next(), None, "each row is in the stored output");
     let mut runs = Vec::new();
     for (row, printed) in sections {
-        let [size, file, wanted] = row.split(' ').collect::<Vec<_>>()[..] else { continue };
+        let [size, file, wanted] = row.split(' ').collect::<Vec<_>>()[..] else {
+            continue;
+        };
         if wanted != form || printed.starts_with("? ") {
             continue;
         }
         let input = read(format!("{CRATE}/data/{file}")).expect("a session");
-        runs.push(Run { row: row.into(), large: size == "large", lines: lines_of(&input), printed });
+        runs.push(Run {
+            row: row.into(),
+            large: size == "large",
+            lines: lines_of(&input),
+            printed,
+        });
     }
     assert!(!runs.is_empty());
     runs
@@ -53,11 +63,20 @@ pub fn runs(form: &str) -> Vec<Run> {
 /// A tick line of plrun, exact to the byte.
 fn tick(line: &[u8]) -> Option<(Input, bool)> {
     let text = std::str::from_utf8(line).ok()?;
-    let small = |word: &str| word.len() == 4 && word.bytes().all(|b| b.is_ascii_digit() || (b'a'..=b'f').contains(&b));
+    let small = |word: &str| {
+        word.len() == 4
+            && word
+                .bytes()
+                .all(|b| b.is_ascii_digit() || (b'a'..=b'f').contains(&b))
+    };
     let [t, code, sample, attached, kind] = text.split(' ').collect::<Vec<_>>()[..] else {
         return None;
     };
-    let exact = t == "T" && code.len() == 1 && small(sample) && small(attached) && (kind == "F" || kind == "Q");
+    let exact = t == "T"
+        && code.len() == 1
+        && small(sample)
+        && small(attached)
+        && (kind == "F" || kind == "Q");
     if !exact {
         return None;
     }
@@ -72,9 +91,17 @@ fn tick(line: &[u8]) -> Option<(Input, bool)> {
 
 /// What one line of a session prints. The store is as long as a record of the card.
 pub fn entered(card: &mut Card, line: &[u8], store: &mut [u8]) -> String {
-    let show = |answer: Answer| if store.len() == LARGE_RECORD { format!("{answer:#}") } else { answer.to_string() };
+    let show = |answer: Answer| {
+        if store.len() == LARGE_RECORD {
+            format!("{answer:#}")
+        } else {
+            answer.to_string()
+        }
+    };
     if line == b"L" {
-        return card.load(store).map_or_else(|refusal| refusal.to_string(), |()| ":A".into());
+        return card
+            .load(store)
+            .map_or_else(|refusal| refusal.to_string(), |()| ":A".into());
     }
     match (line.first(), tick(line)) {
         (Some(b'T'), None) => ":N-2".into(),
