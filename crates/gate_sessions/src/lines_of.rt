@@ -16,7 +16,7 @@ use session::LONGEST_PRINT;
 use ticks::rest::at_rest;
 
 // The record of a card of thirty-two cells; that of a card of sixteen is shorter.
-const STORE: usize = 516;
+pub const STORE: usize = 516;
 
 // A line, and what it prints.
 pub fn answered(card: Card, line: &[u8], store: &mut [u8]) -> Card {

@@ -8,9 +8,14 @@
 //     survey    what depends on each connector at the end, and on places that are no connector
 //     rests     what each tick prints, and whether the card is then at rest
 //     tallies   what each line prints; lines that start with `#` ask for the tallies
+//     explain   what plexplain writes; `asleep` with the cells that sleep
+//     rows      the same as rows of JSON; `rows-asleep` with the cells that sleep
+//     check     what plcheck writes of a transcript
 // Each run starts with its row. Where it cannot be run, `?` and the reason follow.
 mod both; // a session by plrun's loop and in memory
+mod checked; // what plcheck writes of a transcript
 mod ending; // the card that a session leaves
+mod explained; // what plexplain writes of a session
 mod lines_of; // what each line prints
 mod tallies; // sessions that ask for the tallies
 
@@ -19,6 +24,7 @@ ghost use lib.ListN.{length};
 use card::limits::LARGE;
 use card::limits::SMALL;
 use check::same;
+use explained::style;
 use input::BUFFER;
 use input::LINE;
 use input::Reader;
@@ -34,6 +40,11 @@ enum Form {
     Survey,
     Rests,
     Tallies,
+    Explain,
+    Asleep,
+    Rows,
+    RowsAsleep,
+    Check,
     Unknown,
 }
 
@@ -90,21 +101,50 @@ fn form_of(word: &[u8]) -> Form {
     if same(word, b"tallies") {
         return Form::Tallies;
     }
+    text_form_of(word)
+}
+
+// The forms of a program for people.
+fn text_form_of(word: &[u8]) -> Form {
+    if same(word, b"explain") {
+        return Form::Explain;
+    }
+    if same(word, b"asleep") {
+        return Form::Asleep;
+    }
+    if same(word, b"rows") {
+        return Form::Rows;
+    }
+    if same(word, b"rows-asleep") {
+        return Form::RowsAsleep;
+    }
+    if same(word, b"check") {
+        return Form::Check;
+    }
     Form::Unknown
 }
 
-// A run on an open file.
-fn run(file: i32, path: &[u8], size: u8, form: Form) {
-    if let Form::Plrun = form {
-        both::run(file, path, size);
-        return;
-    }
+// The lines of an open file, and then what is printed of the card that they leave.
+fn run_lines(file: i32, size: u8, form: Form) {
     let card = lines_of::run(file, size, form);
     match form {
         Form::Session => ending::put_wiring(card),
         Form::Wiring => ending::put_wiring(card),
         Form::Survey => ending::put_surveys(card),
         _ => {}
+    }
+}
+
+// A run on an open file.
+fn run(file: i32, path: &[u8], size: u8, form: Form) {
+    match form {
+        Form::Plrun => both::run(file, path, size),
+        Form::Explain => explained::run(file, size, style(false, false)),
+        Form::Asleep => explained::run(file, size, style(false, true)),
+        Form::Rows => explained::run(file, size, style(true, false)),
+        Form::RowsAsleep => explained::run(file, size, style(true, true)),
+        Form::Check => checked::run(file, size),
+        _ => run_lines(file, size, form),
     }
 }
 
