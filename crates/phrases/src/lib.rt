@@ -9,6 +9,8 @@ pub mod json;
 pub mod names;
 pub mod out;
 pub mod refused;
+pub mod say;
+pub mod table;
 pub mod terms;
 pub mod ticked;
 mod turns;
