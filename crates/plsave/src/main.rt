@@ -1,5 +1,4 @@
 // The record of a wiring, as a file: it reads what plrun reads, and at the end writes the record of
-ghost use Prim.Native.Nat.{_≤_};
 // the card, which `plload` turns into lines again.
 ghost use Prim.Native.Nat.{_≤_};
 use card::limits::LARGE;

@@ -1,5 +1,5 @@
 // What depends on each line, for the card that an input leaves: a row for each connector that
-// something else depends on, and behind these, for each output that something else moves, the lines
+// something else depends on, and after these, for each output that something else moves, the lines
 // that can reach it. The second rows are the columns of the first: what is in no row is in no
 // column.
 ghost use Prim.Native.Nat.{_≤_, _<_};
@@ -11,13 +11,11 @@ use program::arguments::CELLS;
 use program::arguments::NOTHING;
 use ticks::view::sees;
 
-// A cell and a connector are told by their bases: the first of the cells, of the connectors and of
-// those on the backplane, and the one behind the last.
+// Cells and connectors are known by their bases: the first of the cells, that of the connectors,
+// and the one after the last.
 const FIRST_CELL: u32 = 1;
 
 const FIRST: u32 = 33;
-
-const BACK: u32 = 41;
 
 const END: u32 = 49;
 
@@ -40,16 +38,11 @@ fn put_name(b: u32) {
         put_number(b);
         return;
     }
-    if b < BACK {
-        put(b"BNC");
-        put_number(b - 32);
-        return;
-    }
-    put(b"TTL");
-    put_number(b - BACK);
+    let name = phrases::names::connector(((b - FIRST) % 16) as u8);
+    put(&name);
 }
 
-// A name behind a blank.
+// A name after a blank.
 fn put_part(b: u32) {
     put(b" ");
     put_name(b);
