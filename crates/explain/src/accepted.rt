@@ -5,30 +5,28 @@ use card::context::context_of;
 use card::limits::FIRST_CONNECTOR;
 use card::limits::LARGE;
 use card::limits::Number;
-use cells::cell::Cell;
 use cells::table::Class;
 use cells::table::class_of;
 use grammar::grammar::Command;
 use grammar::grammar::Pairs;
 use grammar::grammar::Slot;
 use phrases::out::Page;
-use phrases::out::around;
-use phrases::out::level;
 use phrases::out::low;
 use phrases::out::put;
 use phrases::out::put_if;
-use phrases::out::wide;
-use phrases::terms::address;
-use phrases::terms::connector_kind;
-use phrases::terms::connector_name;
-use phrases::terms::slot_name;
-use phrases::terms::typed_cell;
+use phrases::say::Part;
+use phrases::say::say;
+use phrases::say::say2;
+use phrases::say::say3;
+use phrases::terms::is_counter;
+use phrases::terms::is_delay;
+use phrases::terms::is_flop;
 use phrases::wiring::put_cell;
 use phrases::wiring::put_changes;
-use phrases::wiring::put_config;
 use phrases::wiring::put_connector;
 use phrases::wiring::put_high;
 use phrases::wiring::put_set;
+use phrases::wiring::put_trigger;
 
 // The index of the cell, or the connector, at the pointer.
 fn cell_index(x: Context) -> u8 {
@@ -43,60 +41,42 @@ fn connector_index(x: Context) -> u8 {
     }
 }
 
-// "    cell 1 (AND2)", or "    BNC1".
-fn put_here(out: &mut Page, at: usize, x: Context) -> usize {
+// "cell 1 (AND2)", or "BNC1".
+fn here(x: Context) -> Part {
     let cell = x.cell;
-    let a = put(out, at, b"    ");
     if x.at_cell {
-        return typed_cell(out, a, cell_index(x), cell.kind);
+        return Part::Typed(cell_index(x), cell.kind);
     }
-    connector_name(out, a, connector_index(x))
+    Part::Line(connector_index(x))
+}
+
+// The type and the source of the connector at the pointer.
+fn source_here(x: Context) -> Part {
+    let connector = x.connector;
+    Part::Source(connector.kind, connector.source)
 }
 
 // Where the pointer is, and what is there.
 fn put_pointer(out: &mut Page, at: usize, x: Context) -> usize {
-    let cell = x.cell;
-    let connector = x.connector;
-    let a = put(out, at, b"    The pointer is at ");
     if x.at_cell {
-        let b = typed_cell(out, a, cell_index(x), cell.kind);
-        return put(out, b, b".\n");
+        return say(out, at, b"    The pointer is at %.\n", here(x));
     }
-    let b = connector_name(out, a, connector_index(x));
-    let c = put(out, b, b", ");
-    let d = connector_kind(out, c, connector.kind, connector.source);
-    put(out, d, b".\n")
+    let source = source_here(x);
+    say2(out, at, b"    The pointer is at %, %.\n", here(x), source)
 }
 
-fn put_trigger(out: &mut Page, at: usize, v: Number) -> usize {
-    let a = around(
+fn put_clock(out: &mut Page, at: usize, v: Number) -> usize {
+    let a = put_trigger(out, at, low(v));
+    put_if(
+        v == 4,
         out,
-        at,
-        b"    Ticks of clock ",
-        low(v),
-        b" run now, and others are idle.\n",
-    );
-    if v == 4 {
-        return put(
-            out,
-            a,
-            b"    Clock 4 comes in at BNC1, which is an input now.\n",
-        );
-    }
-    a
-}
-
-fn put_home(out: &mut Page, at: usize) -> usize {
-    let a = put(
-        out,
-        at,
-        b"    Every state is cleared: bits, counts, pulses.\n",
-    );
-    put(out, a, b"    The outputs wait for the next tick.\n")
+        a,
+        b"    Clock 4 comes in at BNC1, which is an input now.\n",
+    )
 }
 
 fn put_preset(out: &mut Page, at: usize, v: Number, before: Card, after: Card) -> usize {
-    let a = around(out, at, b"    Preset ", low(v), b" is set.\n");
+    let a = say(out, at, b"    Preset % is set.\n", Part::Number(low(v)));
     put_changes(out, a, before, after)
 }
 
@@ -116,45 +96,48 @@ fn put_kind(out: &mut Page, at: usize, x: Context) -> usize {
 }
 
 // What follows from a new configuration.
-fn put_configured(out: &mut Page, at: usize, cell: Cell) -> usize {
-    let class = class_of(cell.kind);
+fn put_configured(out: &mut Page, at: usize, kind: u8) -> usize {
+    let class = class_of(kind);
     match class {
-        Class::Nothing => at,
         Class::Constant => put(out, at, b"    The output follows in the next tick.\n"),
         Class::Gate(_) => put(
             out,
             at,
             b"    Bit p of the code is the output, p = X + 2Y + 4Z + 8F.\n",
         ),
-        Class::Flop(_) => at,
-        Class::OneShot(_) => {
-            put(
-                out,
-                at,
-                b"    It counts clock edges, not ticks. Its count is 0 now.\n",
-            )
-        }
-        Class::Delay(_) => {
-            put(
-                out,
-                at,
-                b"    It counts clock edges, not ticks. Its count is 0 now, and a pulse is over.\n",
-            )
-        }
-        Class::Counter(_) => at,
+        Class::OneShot(_) => put(
+            out,
+            at,
+            b"    It counts clock edges, not ticks. Its count is 0 now.\n",
+        ),
+        Class::Delay(_) => put(
+            out,
+            at,
+            b"    It counts clock edges, not ticks. Its count is 0 now, and a pulse is over.\n",
+        ),
+        _ => at,
     }
 }
 
 // The source of a connector: "    BNC1: its source is 1, cell 1".
 fn put_source(out: &mut Page, at: usize, x: Context) -> usize {
     let connector = x.connector;
-    let a = put_here(out, at, x);
-    let b = put(out, a, b": its source is ");
-    let c = address(out, b, connector.source);
-    if connector.kind == 0 {
-        return put(out, c, b". As an input it does not use it.\n");
-    }
-    put(out, c, b".\n")
+    let read = Part::Address(connector.source);
+    let a = say2(out, at, b"    %: its source is %.", here(x), read);
+    let b = put_if(
+        connector.kind == 0,
+        out,
+        a,
+        b" As an input it does not use it.",
+    );
+    put(out, b, b"\n")
+}
+
+// The configuration of a cell: "    cell 1 (delay): duration 2".
+fn put_config(out: &mut Page, at: usize, x: Context) -> usize {
+    let cell = x.cell;
+    let config = Part::Config(cell.kind, cell.config);
+    say2(out, at, b"    %: %.\n", here(x), config)
 }
 
 // A new configuration, or a new source.
@@ -163,36 +146,25 @@ fn put_set_config(out: &mut Page, at: usize, x: Context) -> usize {
     if !x.at_cell {
         return put_source(out, at, x);
     }
-    let a = put_here(out, at, x);
-    let b = put(out, a, b": ");
-    let c = put_config(out, b, cell.kind, cell.config);
-    let d = put(out, c, b".\n");
-    put_configured(out, d, cell)
+    let a = put_config(out, at, x);
+    put_configured(out, a, cell.kind)
 }
 
 // The state of the cell at the pointer.
 fn put_state(out: &mut Page, at: usize, x: Context) -> usize {
     let cell = x.cell;
     let count = cell.count;
-    let a = put_here(out, at, x);
-    let class = class_of(cell.kind);
-    match class {
-        Class::Flop(_) => {
-            let b = put(out, a, b": its bit is ");
-            let c = level(out, b, cell.bit);
-            put(out, c, b".\n")
-        }
-        _ => around(out, a, b": its count is ", count.0, b".\n"),
+    if is_flop(cell.kind) {
+        return say2(
+            out,
+            at,
+            b"    %: its bit is %.\n",
+            here(x),
+            Part::Level(cell.bit),
+        );
     }
-}
-
-// Whether a type is a delay.
-fn is_delay(kind: u8) -> bool {
-    let class = class_of(kind);
-    match class {
-        Class::Delay(_) => true,
-        _ => false,
-    }
+    let counted = Part::Number(count.0);
+    say2(out, at, b"    %: its count is %.\n", here(x), counted)
 }
 
 // A new state. The output waits, and a delay's pulse is over.
@@ -203,38 +175,39 @@ fn put_set_state(out: &mut Page, at: usize, x: Context) -> usize {
     put(out, b, b"    The output waits for the next tick.\n")
 }
 
-// What a slot reads: "    cell 1 (AND2): X reads 41, TTL0".
-fn put_slot(out: &mut Page, at: usize, x: Context, slot: u8) -> usize {
+// The address in a slot of the cell at the pointer.
+fn address_in(x: Context, slot: u8) -> u8 {
     let cell = x.cell;
     let slots = cell.slots;
     let i = (slot % 4) as usize;
-    let a = put_here(out, at, x);
-    let b = put(out, a, b": ");
-    let c = slot_name(out, b, cell.kind, slot);
-    let d = put(out, c, b" reads ");
-    let e = address(out, d, slots[i]);
-    put(out, e, b".\n")
+    slots[i]
 }
 
-// An edge slot may have stored another address than was given.
-fn put_stored(out: &mut Page, at: usize, v: u32, stored: u32) -> usize {
-    if stored == v {
-        return at;
-    }
-    let a = around(out, at, b"    The slot takes edges: ", v, b" is stored as ");
-    around(out, a, b"", stored, b".\n")
+// What a slot reads: "    cell 1 (AND2): X reads 41, TTL0".
+fn put_slot(out: &mut Page, at: usize, x: Context, slot: u8) -> usize {
+    let cell = x.cell;
+    let name = Part::Slot(cell.kind, slot);
+    let read = Part::Address(address_in(x, slot));
+    say3(out, at, b"    %: % reads %.\n", here(x), name, read)
 }
 
-// A slot that was given.
+// A slot that was given. An edge slot may have stored another address.
 fn put_given(out: &mut Page, at: usize, given: bool, x: Context, slot: u8, v: Number) -> usize {
     if !given {
         return at;
     }
-    let cell = x.cell;
-    let slots = cell.slots;
-    let i = (slot % 4) as usize;
     let a = put_slot(out, at, x, slot);
-    put_stored(out, a, low(v), wide(slots[i]))
+    let stored = address_in(x, slot);
+    if stored as u64 == v {
+        return a;
+    }
+    say2(
+        out,
+        a,
+        b"    The slot takes edges: % is stored as %.\n",
+        Part::Number(low(v)),
+        Part::Number(stored as u32),
+    )
 }
 
 fn put_slots(out: &mut Page, at: usize, x: Context, p: Pairs) -> usize {
@@ -249,13 +222,13 @@ fn put_slots(out: &mut Page, at: usize, x: Context, p: Pairs) -> usize {
 fn put_get_kind(out: &mut Page, at: usize, x: Context) -> usize {
     let cell = x.cell;
     let connector = x.connector;
-    let a = put_here(out, at, x);
     if x.at_cell {
-        return around(out, a, b": type ", cell.kind as u32, b".\n");
+        let kind = Part::Number(cell.kind as u32);
+        return say2(out, at, b"    %: type %.\n", here(x), kind);
     }
-    let b = around(out, a, b": type ", connector.kind as u32, b", ");
-    let c = connector_kind(out, b, connector.kind, connector.source);
-    put(out, c, b".\n")
+    let kind = Part::Number(connector.kind as u32);
+    let source = source_here(x);
+    say3(out, at, b"    %: type %, %.\n", here(x), kind, source)
 }
 
 // The configuration at the pointer; a counter shows its count, a connector its source.
@@ -264,16 +237,10 @@ fn put_get_config(out: &mut Page, at: usize, x: Context) -> usize {
     if !x.at_cell {
         return put_source(out, at, x);
     }
-    let class = class_of(cell.kind);
-    match class {
-        Class::Counter(_) => put_state(out, at, x),
-        _ => {
-            let a = put_here(out, at, x);
-            let b = put(out, a, b": ");
-            let c = put_config(out, b, cell.kind, cell.config);
-            put(out, c, b".\n")
-        }
+    if is_counter(cell.kind) {
+        return put_state(out, at, x);
     }
+    put_config(out, at, x)
 }
 
 fn slot_index(s: Slot) -> u8 {
@@ -284,11 +251,6 @@ fn slot_index(s: Slot) -> u8 {
         Slot::F => 3,
         Slot::NoSlot => 3,
     }
-}
-
-// A slot that was read.
-fn put_get_slot(out: &mut Page, at: usize, x: Context, s: Slot) -> usize {
-    put_slot(out, at, x, slot_index(s))
 }
 
 fn put_levels(out: &mut Page, at: usize, x: Context, front: bool) -> usize {
@@ -320,8 +282,13 @@ fn put_write(out: &mut Page, at: usize, command: Command, before: Card, after: C
     let x = context_of(after);
     match command {
         Command::Move(_) => put_pointer(out, at, x),
-        Command::Trigger(v) => put_trigger(out, at, v),
-        Command::Home => put_home(out, at),
+        Command::Trigger(v) => put_clock(out, at, v),
+        Command::Home => put(
+            out,
+            at,
+            b"    Every state is cleared: bits, counts, pulses.
+    The outputs wait for the next tick.\n",
+        ),
         Command::Preset(v) => put_preset(out, at, v, before, after),
         Command::SetKind(_) => put_kind(out, at, x),
         Command::SetConfig(_) => put_set_config(out, at, x),
@@ -338,7 +305,7 @@ fn put_read(out: &mut Page, at: usize, command: Command, x: Context) -> usize {
         Command::GetKind => put_get_kind(out, at, x),
         Command::GetConfig => put_get_config(out, at, x),
         Command::GetState => put_state(out, at, x),
-        Command::GetSlot(s) => put_get_slot(out, at, x, s),
+        Command::GetSlot(s) => put_slot(out, at, x, slot_index(s)),
         Command::Front => put_levels(out, at, x, true),
         Command::Back => put_levels(out, at, x, false),
         Command::Cells => put_outputs(out, at, x, false),

@@ -17,9 +17,11 @@ use input::LINE;
 use input::keep;
 use input::least;
 use phrases::out::Page;
-use phrases::out::around;
 use phrases::out::put;
 use phrases::out::put_text;
+use phrases::say::Part;
+use phrases::say::say;
+use phrases::say::say2;
 use session::Event;
 use session::LONGEST_PRINT;
 use session::refusal_of;
@@ -89,11 +91,12 @@ pub fn start(size: u8) -> Check {
 
 // Which tick a line is, ", tick 2", or which it comes after, ", after tick 2".
 fn put_tick(out: &mut Page, at: usize, before: u32, ticks: u32) -> usize {
+    let number = Part::Number(ticks);
     if before < ticks {
-        return around(out, at, b", tick ", ticks, b"");
+        return say(out, at, b", tick %", number);
     }
     if 0 < ticks {
-        return around(out, at, b", after tick ", ticks, b"");
+        return say(out, at, b", after tick %", number);
     }
     at
 }
@@ -103,12 +106,12 @@ fn put_head(out: &mut Page, at: usize, c: Check, kept: &[u8]) -> usize {
     let last = c.last;
     let before = last.before;
     let run = last.after;
-    let n = around(out, at, b"Line ", c.place, b"");
-    let m = put_tick(out, n, before.ticks, run.ticks);
-    let a = put(out, m, b": ");
+    let a = say(out, at, b"Line %", Part::Number(c.place));
+    let b = put_tick(out, a, before.ticks, run.ticks);
+    let d = put(out, b, b": ");
     let long = least(c.long, kept.len());
-    let b = put_text(out, a, &kept[0..long]);
-    put(out, b, b"\n")
+    let e = put_text(out, d, &kept[0..long]);
+    put(out, e, b"\n")
 }
 
 // The facts of a line as if no hint had been given before it.
@@ -352,65 +355,54 @@ pub fn take_last(
 
 // ---- the end
 
-// Something that was mended, and the first line of it.
-fn put_mended(out: &mut Page, at: usize, line: u32, what: &[u8]) -> usize {
-    if line == 0 {
+// A line that has a number, unless it is 0.
+fn put_numbered(out: &mut Page, at: usize, n: u32, text: &[u8]) -> usize {
+    if n == 0 {
         return at;
     }
-    around(out, at, b"Line ", line, what)
+    say(out, at, text, Part::Number(n))
+}
+
+// What was mended, and the first line of it.
+fn put_mended(out: &mut Page, at: usize, c: Check) -> usize {
+    let a = put_numbered(
+        out,
+        at,
+        c.returned,
+        b"Line % ends in CR LF. The CR is left out, there and in all lines.\n",
+    );
+    let b = put_numbered(
+        out,
+        a,
+        c.blank,
+        b"Line % ends in a blank. Blanks at the end of lines are left out.\n",
+    );
+    put_numbered(
+        out,
+        b,
+        c.unended,
+        b"Line % is the last and has no LF after it. It is taken all the same.\n",
+    )
 }
 
 // Lines that were not compared.
 fn put_open(out: &mut Page, at: usize, c: Check) -> usize {
-    if c.open == 0 {
-        return at;
-    }
-    let a = around(
+    let a = put_numbered(
         out,
         at,
-        b"Lines with no answer below them, which were not compared: ",
         c.open,
-        b"",
+        b"Lines with no answer below them, which were not compared: %. ",
     );
-    around(out, a, b". The first is line ", c.first_open, b".\n")
-}
-
-fn put_refused(out: &mut Page, at: usize, c: Check) -> usize {
-    if c.refused == 0 {
-        return at;
-    }
-    around(
-        out,
-        at,
-        b"Refused of the lines without >: ",
-        c.refused,
-        b".\n",
-    )
+    put_numbered(out, a, c.first_open, b"The first is line %.\n")
 }
 
 // What is said at the end.
 pub fn end(c: Check, out: &mut Page) -> usize {
     let d = unasked(c);
-    let r = put_mended(
-        out,
-        0,
-        d.returned,
-        b" ends in CR LF. The CR is left out, there and in all lines.\n",
-    );
-    let s = put_mended(
-        out,
-        r,
-        d.blank,
-        b" ends in a blank. Blanks at the end of lines are left out.\n",
-    );
-    let a = put_mended(
-        out,
-        s,
-        d.unended,
-        b" is the last and has no LF after it. It is taken all the same.\n",
-    );
-    let b = put_refused(out, a, d);
+    let a = put_mended(out, 0, d);
+    let b = put_numbered(out, a, d.refused, b"Refused of the lines without >: %.\n");
     let e = put_open(out, b, d);
-    let f = around(out, e, b"", d.agree, b" answers agree, ");
-    around(out, f, b"", d.differ, b" differ\n")
+    let agree = Part::Number(d.agree);
+    let differ = Part::Number(d.differ);
+    say2(out, e, b"% answers agree, % differ\n", agree, differ)
 }

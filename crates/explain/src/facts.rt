@@ -1,7 +1,10 @@
 // One line of input, entered once: what it did, as facts from which sentences and rows are made.
+ghost use mathlib.Core.Path.{_≡_};
 ghost use Prim.Native.Nat.{_≤_};
 ghost use lib.ListN.{length};
-ghost use Rattle.session.specs.Session.{longestPrint};
+ghost use Rattle.card.specs.Address.{cellsFor};
+ghost use Rattle.session.specs.Session.{longestPrint, entered, eventOf, Enters};
+ghost use Rattle.explain.specs.Facts.{answerOf};
 use card::card::Card;
 use card::change::Change;
 use card::change::apply;
@@ -11,6 +14,7 @@ use grammar::grammar::Parsed;
 use grammar::grammar::parse_line;
 use lines::decision::decide_for;
 use phrases::form::is_move;
+use session::Entered;
 use session::Event;
 
 // Between two lines: the card, the lines entered and the ticks that ran; the card as it was in the
@@ -118,7 +122,9 @@ fn strays(strayed: bool, event: Event, p: Parsed, text: &[u8]) -> bool {
 }
 
 // The run after a line that left a card.
-fn run_after(run: Run, next: Card, ran: bool, strayed: bool) -> Run {
+fn run_after(run: Run, next: Card, ran: bool, strayed: bool) -> Run
+    ensures { λ r. ⌜ r .card ≡ next ⌝ }
+{
     let lines = more(run.lines);
     if ran {
         return Run {
@@ -139,14 +145,13 @@ fn run_after(run: Run, next: Card, ran: bool, strayed: bool) -> Run {
     }
 }
 
-// One line of input, without its LF: `session::enter` enters it, so that card and store are those
-// of plrun, and its answer goes to the front of a buffer that has room for the longest.
-pub fn step(run: Run, text: &[u8], store: &mut [u8], answer: &mut [u8]) -> Facts
-    requires { ⌜ longestPrint ≤ length (now answer) ⌝ }
+// What a line did that was entered so, with so many bytes of store.
+fn facts_of(run: Run, text: &[u8], done: Entered, room: usize) -> Facts
+    ensures { λ r. ⌜ r .after .card ≡ done .card ⌝ }
+    ensures { λ r. ⌜ r .event ≡ done .event ⌝ }
+    ensures { λ r. ⌜ r .len ≡ done .len ⌝ }
 {
     let card = run.card;
-    let room = store.len();
-    let done = session::enter(card, text, store, answer);
     let next = done.card;
     let event = done.event;
     let parsed = parsed_as(event, text, card.size);
@@ -161,4 +166,19 @@ pub fn step(run: Run, text: &[u8], store: &mut [u8], answer: &mut [u8]) -> Facts
         edits: edits,
         len: done.len,
     }
+}
+
+// One line of input, without its LF. The card and the store after it, its event and its answer are
+// those of `session::enter`, and so of plrun. The answer goes to the front of a buffer that has
+// room for the longest.
+pub fn step(run: Run, text: &[u8], store: &mut [u8], answer: &mut [u8]) -> Facts
+    requires { ⌜ longestPrint ≤ length (now answer) ⌝ }
+    ensures { λ r. ⌜ Enters (entered (cellsFor (run .card .size)) (run .card) (now (text .entry)) (now (store .entry)))
+        (eventOf (cellsFor (run .card .size)) (run .card) (now (text .entry)) (now (store .entry)))
+        (answerOf r) (now (store .exit)) (now (answer .entry)) (now (answer .exit)) ⌝ }
+{
+    let room = store.len();
+    let card = run.card;
+    let done = session::enter(card, text, store, answer);
+    facts_of(run, text, done, room)
 }

@@ -18,12 +18,12 @@ use grammar::grammar::Command;
 use grammar::grammar::Parsed;
 use phrases::hints::put_hints;
 use phrases::out::Page;
-use phrases::out::around;
 use phrases::out::put;
 use phrases::out::put_text;
 use phrases::refused::put_refused;
 use phrases::refused::put_unloaded;
-use phrases::terms::place_name;
+use phrases::say::Part;
+use phrases::say::say;
 use phrases::ticked::Tick;
 use phrases::ticked::put_tick;
 use phrases::wiring::put_edited;
@@ -43,23 +43,17 @@ pub struct Explained {
     pub len: usize,
 }
 
-// ", tick 3", where the line is a tick that ran.
-fn put_number(out: &mut Page, at: usize, ticked: bool, n: u32) -> usize {
-    if ticked {
-        return around(out, at, b", tick ", n, b"");
-    }
-    at
-}
-
-// The line after its number and the tick's.
+// The line after its number and, where it is a tick that ran, the tick's.
 fn put_echo(out: &mut Page, at: usize, text: &[u8], f: Facts) -> usize {
     let run = f.after;
     let event = f.event;
-    let a = around(out, at, b"", run.lines, b"");
-    let b = put_number(out, a, is_ran(event), run.ticks);
-    let c = put(out, b, b"> ");
-    let d = put_text(out, c, text);
-    put(out, d, b"\n")
+    let mut a = say(out, at, b"%", Part::Number(run.lines));
+    if is_ran(event) {
+        a = say(out, a, b", tick %", Part::Number(run.ticks));
+    }
+    let b = put(out, a, b"> ");
+    let c = put_text(out, b, text);
+    put(out, c, b"\n")
 }
 
 // The first bytes of a buffer: so many of them are an answer, with its LF.
@@ -99,9 +93,12 @@ fn put_astray(out: &mut Page, at: usize, f: Facts, x: Context) -> usize {
     if !is_astray(f) {
         return at;
     }
-    let a = put(out, at, b"    The pointer did not move: this line goes to ");
-    let b = place_name(out, a, x.pointer);
-    put(out, b, b".\n")
+    say(
+        out,
+        at,
+        b"    The pointer did not move: this line goes to %.\n",
+        Part::Place(x.pointer),
+    )
 }
 
 // A card line that is accepted.
@@ -231,12 +228,11 @@ pub fn put_unended(out: &mut Page, at: usize, rows: bool, text: &[u8], line: u32
     if rows {
         return crate::rows::put_unended(out, at, text, line);
     }
-    let a = around(
+    let a = say(
         out,
         at,
-        b"    Line ",
-        line,
-        b" has no LF after it, so it is not entered: ",
+        b"    Line % has no LF after it, so it is not entered: ",
+        Part::Number(line),
     );
     let b = put_text(out, a, text);
     put(out, b, b"\n")

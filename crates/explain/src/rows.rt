@@ -3,10 +3,11 @@ use crate::facts::Facts;
 use crate::line::is_astray;
 use crate::line::tick_of;
 use phrases::hints::put_hints;
-use phrases::json;
+use phrases::json::string;
 use phrases::out::Page;
-use phrases::out::around;
 use phrases::out::put;
+use phrases::say::Part;
+use phrases::say::say;
 use phrases::ticked::put_tick_row;
 use phrases::wiring::put_change_row;
 use phrases::wiring::put_members;
@@ -16,21 +17,21 @@ use session::refusal_of;
 
 // The line's number and itself.
 fn put_head(out: &mut Page, at: usize, text: &[u8], line: u32) -> usize {
-    let a = json::number(out, at, b"{\"line\":", line);
-    let b = put(out, a, b",\"text\":");
-    json::string(out, b, text)
+    let number = Part::Number(line);
+    let a = say(out, at, b"{\"line\":%,\"text\":", number);
+    string(out, a, text)
 }
 
 // The answer, without its LF.
 fn put_answer(out: &mut Page, at: usize, answer: &[u8], len: usize) -> usize {
     let a = put(out, at, b",\"answer\":");
     if len == 0 {
-        return json::string(out, a, b"");
+        return string(out, a, b"");
     }
     if answer.len() < len {
-        return json::string(out, a, b"");
+        return string(out, a, b"");
     }
-    json::string(out, a, &answer[0..len - 1])
+    string(out, a, &answer[0..len - 1])
 }
 
 // A tick: its number, what it did, and the hints that the run has not given.
@@ -45,7 +46,7 @@ fn put_tick(out: &mut Page, at: usize, asleep: bool, t: TickDone, f: Facts) -> u
         let b = put(out, a, b",\"tick\":null");
         return put_tick_row(out, b, asleep, tick_of(t, f));
     }
-    let b = json::number(out, a, b",\"tick\":", new.ticks);
+    let b = say(out, a, b",\"tick\":%", Part::Number(new.ticks));
     let c = put_tick_row(out, b, asleep, tick_of(t, f));
     let d = put(out, c, b",\"hints\":[");
     let e = put_hints(out, d, true, hinted, card);
@@ -61,7 +62,8 @@ fn put_changes(out: &mut Page, at: usize, f: Facts) -> usize {
     let a = put_change_row(out, at, before, after);
     let b = put(out, a, b",\"edited\":[");
     let c = put_members(out, b, true, f.edits);
-    json::flag(out, c, b"],\"pointer_did_not_move\":", is_astray(f))
+    let astray = Part::Flag(is_astray(f));
+    say(out, c, b"],\"pointer_did_not_move\":%", astray)
 }
 
 // What the line did.
@@ -93,7 +95,8 @@ pub fn put_row(
     let event = f.event;
     let a = put_head(out, at, text, run.lines);
     let b = put_answer(out, a, answer, f.len);
-    let c = around(out, b, b",\"refusal\":", refusal_of(event) as u32, b"");
+    let refusal = Part::Number(refusal_of(event) as u32);
+    let c = say(out, b, b",\"refusal\":%", refusal);
     let d = put_event(out, c, asleep, f);
     put(out, d, b"}\n")
 }

@@ -1,20 +1,44 @@
 // The reasons for which a cell was worked out, in words or as a list for a row.
 use crate::json::comma;
 use crate::out::Page;
-use crate::out::around;
-use crate::out::either;
+use crate::out::entry;
 use crate::out::put;
 use crate::out::put_if;
 use crate::out::wide;
-use crate::terms::address;
+use crate::say::Part;
+use crate::say::say;
+use crate::say::say2;
 use crate::terms::clock_slot;
-use crate::terms::slot_letter;
+use crate::terms::is_counter;
+use crate::terms::is_timer;
 use crate::terms::slot_name;
 use cells::cell::Cell;
-use cells::cell::Pulses;
-use cells::table::Class;
-use cells::table::class_of;
 use reasons::cell::Reasons;
+
+// What a reason is: a level slot that has another value, or an edge slot that is high.
+const WENT_LOW: u8 = 0;
+
+const WENT_HIGH: u8 = 1;
+
+const CLOCK: u8 = 2;
+
+const TRIGGER: u8 = 3;
+
+const SECOND_TRIGGER: u8 = 4;
+
+const START: u8 = 5;
+
+const STOP: u8 = 6;
+
+// The word of a reason in a row.
+fn put_word(out: &mut Page, at: usize, why: u8) -> usize {
+    entry(
+        out,
+        at,
+        why,
+        b"went_low|went_high|clock|trigger|second_trigger|start|stop|",
+    )
+}
 
 // What comes before a reason: nothing before the first, else a semicolon, and a comma in a row.
 fn put_break(out: &mut Page, at: usize, first: usize, rows: bool) -> usize {
@@ -32,55 +56,50 @@ fn address_in(cell: Cell, slot: u8) -> u8 {
 }
 
 // A reason in a row: {"why":"clock","slot":"Y","address":192}.
-fn put_reason(out: &mut Page, at: usize, why: &[u8], cell: Cell, slot: u8) -> usize {
+fn put_item(out: &mut Page, at: usize, why: u8, cell: Cell, slot: u8) -> usize {
     let a = put(out, at, b"{\"why\":\"");
-    let b = put(out, a, why);
-    let c = put(out, b, b"\",\"slot\":\"");
-    let d = slot_letter(out, c, slot);
-    around(
+    let b = put_word(out, a, why);
+    say2(
         out,
-        d,
-        b"\",\"address\":",
-        wide(address_in(cell, slot)),
-        b"}",
+        b,
+        b"\",\"slot\":\"%\",\"address\":%}",
+        Part::Letter(slot),
+        Part::Number(wide(address_in(cell, slot))),
     )
 }
 
-fn put_moved_row(out: &mut Page, at: usize, cell: Cell, slot: u8, now: bool) -> usize {
-    if now {
-        return put_reason(out, at, b"went_high", cell, slot);
-    }
-    put_reason(out, at, b"went_low", cell, slot)
-}
-
-// A level slot that has another value: "X went from low to high (41, TTL0)".
-fn put_moved(
+// A reason, where there is one: "X went from low to high (41, TTL0)", or of an edge slot
+// "X (trigger) is high (169, rise of TTL0)".
+fn put_reason(
     out: &mut Page,
     at: usize,
     first: usize,
     rows: bool,
-    moved: bool,
+    holds: bool,
+    why: u8,
     cell: Cell,
     slot: u8,
-    now: bool,
 ) -> usize {
-    if !moved {
+    if !holds {
         return at;
     }
     let a = put_break(out, at, first, rows);
     if rows {
-        return put_moved_row(out, a, cell, slot, now);
+        return put_item(out, a, why, cell, slot);
     }
     let b = slot_name(out, a, cell.kind, slot);
-    let c = either(
-        now,
+    let k = if why < CLOCK { why } else { CLOCK };
+    let c = entry(
         out,
         b,
-        b" went from low to high (",
-        b" went from high to low (",
+        k,
+        b" went from high to low| went from low to high| is high|",
     );
-    let d = address(out, c, address_in(cell, slot));
-    put(out, d, b")")
+    say(out, c, b" (%)", Part::Address(address_in(cell, slot)))
+}
+
+fn moved_to(high: bool) -> u8 {
+    if high { WENT_HIGH } else { WENT_LOW }
 }
 
 // The level slots that have another value.
@@ -94,67 +113,30 @@ fn put_all_moved(
 ) -> usize {
     let m = q.moved;
     let r = q.now;
-    let x = put_moved(out, at, first, rows, m.x, cell, 0, r.x);
-    let y = put_moved(out, x, first, rows, m.y, cell, 1, r.y);
-    let z = put_moved(out, y, first, rows, m.z, cell, 2, r.z);
-    put_moved(out, z, first, rows, m.f, cell, 3, r.f)
-}
-
-// An edge slot that is high: "X (trigger) is high (169, rise of TTL0)". In a row it has a word for
-// what it is.
-fn put_edge(
-    out: &mut Page,
-    at: usize,
-    first: usize,
-    rows: bool,
-    high: bool,
-    why: &[u8],
-    cell: Cell,
-    slot: u8,
-) -> usize {
-    if !high {
-        return at;
-    }
-    let a = put_break(out, at, first, rows);
-    if rows {
-        return put_reason(out, a, why, cell, slot);
-    }
-    let b = slot_name(out, a, cell.kind, slot);
-    let c = put(out, b, b" is high (");
-    let d = address(out, c, address_in(cell, slot));
-    put(out, d, b")")
-}
-
-// Why a timer's clock counts.
-fn put_busy(out: &mut Page, at: usize, count: Pulses) -> usize {
-    if 0 < count.0 {
-        return around(out, at, b" while the count is ", count.0, b"");
-    }
-    put(out, at, b" while the pulse is on")
+    let x = put_reason(out, at, first, rows, m.x, moved_to(r.x), cell, 0);
+    let y = put_reason(out, x, first, rows, m.y, moved_to(r.y), cell, 1);
+    let z = put_reason(out, y, first, rows, m.z, moved_to(r.z), cell, 2);
+    put_reason(out, z, first, rows, m.f, moved_to(r.f), cell, 3)
 }
 
 // Why a clock counts: a flip-flop's always does.
 fn put_while(out: &mut Page, at: usize, cell: Cell) -> usize {
-    let class = class_of(cell.kind);
-    match class {
-        Class::OneShot(_) => put_busy(out, at, cell.count),
-        Class::Delay(_) => put_busy(out, at, cell.count),
-        Class::Counter(_) => put(out, at, b" while it is active"),
-        _ => at,
+    let count = cell.count;
+    if is_counter(cell.kind) {
+        return put(out, at, b" while it is active");
     }
+    if !is_timer(cell.kind) {
+        return at;
+    }
+    if 0 < count.0 {
+        return say(out, at, b" while the count is %", Part::Number(count.0));
+    }
+    put(out, at, b" while the pulse is on")
 }
 
 fn put_clock(out: &mut Page, at: usize, first: usize, rows: bool, cell: Cell, q: Reasons) -> usize {
-    let a = put_edge(
-        out,
-        at,
-        first,
-        rows,
-        q.clock,
-        b"clock",
-        cell,
-        clock_slot(cell.kind),
-    );
+    let slot = clock_slot(cell.kind);
+    let a = put_reason(out, at, first, rows, q.clock, CLOCK, cell, slot);
     if rows | !q.clock {
         return a;
     }
@@ -178,17 +160,11 @@ fn put_triggers(
     cell: Cell,
     q: Reasons,
 ) -> usize {
-    let class = class_of(cell.kind);
-    match class {
-        Class::Counter(_) => {
-            let a = put_edge(out, at, first, rows, q.trigger, b"start", cell, 0);
-            put_edge(out, a, first, rows, q.other, b"stop", cell, 3)
-        }
-        _ => {
-            let a = put_edge(out, at, first, rows, q.trigger, b"trigger", cell, 0);
-            put_edge(out, a, first, rows, q.other, b"second_trigger", cell, 3)
-        }
-    }
+    let counter = is_counter(cell.kind);
+    let x = if counter { START } else { TRIGGER };
+    let f = if counter { STOP } else { SECOND_TRIGGER };
+    let a = put_reason(out, at, first, rows, q.trigger, x, cell, 0);
+    put_reason(out, a, first, rows, q.other, f, cell, 3)
 }
 
 // All reasons of a cell, by its state before the tick.

@@ -4,14 +4,15 @@
 ghost use Prim.Native.Nat.{_<_, _≤_};
 use crate::json::comma;
 use crate::out::Page;
-use crate::out::around;
+use crate::out::entry;
 use crate::out::put;
-use crate::terms::address;
+use crate::say::Part;
+use crate::say::say;
+use crate::say::say2;
 use crate::terms::clock_slot;
-use crate::terms::connector_name;
-use crate::terms::slot_letter;
-use crate::terms::slot_name;
-use crate::terms::typed_cell;
+use crate::terms::is_counter;
+use crate::terms::is_flop;
+use crate::terms::is_timer;
 use card::card::Card;
 use card::connectors::connector_at;
 use card::limits::CELLS;
@@ -28,8 +29,7 @@ use cells::table::row_of;
 // The codes. A one-shot of duration 0; a delay of duration 0; a clock that never comes; a slot that
 // reads a connector which the card alone drives; one that reads a higher cell, one tick late; the
 // same of two flip-flops of one clock, which is how a bit is shifted; one of a flip-flop that reads
-// a lower one of the same clock, so that a bit passes through both in one tick; an output from a
-// cell that is not wired.
+// a lower one of the same clock, so that a bit passes through both in one tick.
 const NO_HINT: u8 = 0;
 
 const NO_PULSE: u8 = 1;
@@ -45,8 +45,6 @@ const ONE_TICK_LATE: u8 = 5;
 const SHIFTS: u8 = 6;
 
 const PASSES_THROUGH: u8 = 7;
-
-const NOT_WIRED: u8 = 8;
 
 // ---- what holds
 
@@ -65,24 +63,9 @@ fn duration_code(c: Cell) -> u8 {
     }
 }
 
-// Whether a type is a flip-flop, and whether it has a clock.
-fn is_flop(kind: u8) -> bool {
-    let class = class_of(kind);
-    match class {
-        Class::Flop(_) => true,
-        _ => false,
-    }
-}
-
+// Whether a type has a clock.
 fn has_clock(kind: u8) -> bool {
-    let class = class_of(kind);
-    match class {
-        Class::Flop(_) => true,
-        Class::OneShot(_) => true,
-        Class::Delay(_) => true,
-        Class::Counter(_) => true,
-        _ => false,
-    }
+    is_flop(kind) | is_timer(kind) | is_counter(kind)
 }
 
 // What the clock's slot holds.
@@ -197,116 +180,79 @@ fn codes_of(card: Card, i: u8) -> Codes
 }
 
 // An output whose source is a cell, or its inverse or edge, that is constant 0, as a fresh one is.
-fn connector_code(card: Card, k: u8) -> u8
+fn is_unwired(card: Card, k: u8) -> bool
     requires { ⌜ k < 16 ⌝ }
 {
     let row = card.connectors;
     let c = connector_at(row, k as u32);
     let base = c.source % 64;
-    if c.kind == INPUT {
-        return NO_HINT;
-    }
     if base == 0 {
-        return NO_HINT;
+        return false;
     }
     if FIRST_CONNECTOR <= base {
-        return NO_HINT;
+        return false;
     }
     let cells = card.cells;
     let n = (base - 1) as usize;
     let cell = cells[n];
-    when((cell.kind == 0) & (cell.config == 0), NOT_WIRED)
+    (c.kind != INPUT) & (cell.kind == 0) & (cell.config == 0)
 }
 
 // ---- sentences
 
-// "    Hint: cell 1 (AND2): X reads 34, BNC2".
-fn put_slot(out: &mut Page, at: usize, i: u8, c: Cell, slot: u8) -> usize {
+// ": X reads 34, BNC2".
+fn put_reading(out: &mut Page, at: usize, c: Cell, slot: u8) -> usize {
     let s = c.slots;
     let k = (slot % 4) as usize;
-    let a = typed_cell(out, at, i, c.kind);
-    let b = put(out, a, b": ");
-    let d = slot_name(out, b, c.kind, slot);
-    let e = put(out, d, b" reads ");
-    address(out, e, s[k])
+    let name = Part::Slot(c.kind, slot);
+    say2(out, at, b": % reads %", name, Part::Address(s[k]))
 }
 
-// What follows from what a slot reads.
-fn put_reading(out: &mut Page, at: usize, code: u8) -> usize {
-    match code {
-        NO_CLOCK => put(
-            out,
-            at,
-            b", so no clock edge ever comes. 192 is high in every tick.\n",
-        ),
-        READS_OUTPUT => put(
-            out,
-            at,
-            b", which is push-pull: it shows what the card drives, not what comes in.\n",
-        ),
-        ONE_TICK_LATE => put(
-            out,
-            at,
-            b", a higher cell, so it sees that cell one tick late.\n",
-        ),
-        SHIFTS => put(
-            out,
-            at,
-            b", a higher flip-flop of the same clock, which changes later: each clock edge shifts the bit by one cell.\n",
-        ),
-        PASSES_THROUGH => put(
-            out,
-            at,
-            b", a lower flip-flop of the same clock, which changes first: a bit passes through both in one tick. To shift it, read a higher cell.\n",
-        ),
-        _ => at,
-    }
+// What follows from what holds.
+fn put_effect(out: &mut Page, at: usize, code: u8) -> usize {
+    entry(
+        out,
+        at,
+        code,
+        b"| has duration 0, so no trigger makes it high| has duration 0, so it does not wait: \
+        its pulse starts in the tick of its trigger|, so no clock edge ever comes. \
+        192 is high in every tick|, which is push-pull: it shows what the card drives, \
+        not what comes in|, a higher cell, so it sees that cell one tick late|, \
+        a higher flip-flop of the same clock, which changes later: \
+        each clock edge shifts the bit by one cell|, \
+        a lower flip-flop of the same clock, which changes first: \
+        a bit passes through both in one tick. To shift it, read a higher cell|",
+    )
 }
 
+// "    Hint: cell 1 (AND2): X reads 34, BNC2, which is push-pull: ..".
 fn put_sentence(out: &mut Page, at: usize, code: u8, i: u8, c: Cell, slot: u8) -> usize {
-    let a = put(out, at, b"    Hint: ");
-    if code == NO_PULSE {
-        let b = typed_cell(out, a, i, c.kind);
-        return put(out, b, b" has duration 0, so no trigger makes it high.\n");
+    let a = say(out, at, b"    Hint: %", Part::Typed(i, c.kind));
+    let mut b = a;
+    if NO_WAIT < code {
+        b = put_reading(out, a, c, slot);
     }
-    if code == NO_WAIT {
-        let b = typed_cell(out, a, i, c.kind);
-        return put(
-            out,
-            b,
-            b" has duration 0, so it does not wait: its pulse starts in the tick of its trigger.\n",
-        );
-    }
-    let b = put_slot(out, a, i, c, slot);
-    put_reading(out, b, code)
+    let d = put_effect(out, b, code);
+    put(out, d, b".\n")
 }
 
 // ---- rows
 
-fn put_code(out: &mut Page, at: usize, code: u8) -> usize {
-    match code {
-        NO_PULSE => put(out, at, b"no_pulse"),
-        NO_WAIT => put(out, at, b"no_wait"),
-        NO_CLOCK => put(out, at, b"no_clock"),
-        READS_OUTPUT => put(out, at, b"reads_output"),
-        ONE_TICK_LATE => put(out, at, b"one_tick_late"),
-        SHIFTS => put(out, at, b"shifts"),
-        PASSES_THROUGH => put(out, at, b"passes_through"),
-        _ => put(out, at, b"not_wired"),
-    }
-}
-
 // {"code":"no_pulse","cell":1}, or with the slot that it is of.
 fn put_item(out: &mut Page, at: usize, code: u8, i: u8, slot: u8) -> usize {
     let a = put(out, at, b"{\"code\":\"");
-    let b = put_code(out, a, code);
-    let c = around(out, b, b"\",\"cell\":", i as u32 + 1, b"");
+    let b = entry(
+        out,
+        a,
+        code,
+        b"|no_pulse|no_wait|no_clock|reads_output|one_tick_late|shifts|passes_through|",
+    );
+    let number = Part::Number(i as u32 + 1);
+    let c = say(out, b, b"\",\"cell\":%", number);
     if code <= NO_WAIT {
         return put(out, c, b"}");
     }
-    let d = put(out, c, b",\"slot\":\"");
-    let e = slot_letter(out, d, slot);
-    put(out, e, b"\"}")
+    say(out, c, b",\"slot\":\"%\"}", Part::Letter(slot))
 }
 
 // ---- what is given
@@ -367,13 +313,25 @@ fn put_cells(out: &mut Page, at: usize, rows: bool, then: Card, card: Card) -> u
     n
 }
 
-fn put_unwired_row(out: &mut Page, at: usize, first: usize, k: u8) -> usize {
-    let a = comma(out, at, first);
-    let b = put(out, a, b"{\"code\":\"");
-    let d = put_code(out, b, NOT_WIRED);
-    let e = put(out, d, b"\",\"connector\":\"");
-    let f = connector_name(out, e, k);
-    put(out, f, b"\"}")
+// An output that is driven from a cell that is not wired.
+fn put_unwired(out: &mut Page, at: usize, first: usize, rows: bool, k: u8, source: u8) -> usize {
+    let line = Part::Line(k);
+    if rows {
+        let a = comma(out, at, first);
+        return say(
+            out,
+            a,
+            b"{\"code\":\"not_wired\",\"connector\":\"%\"}",
+            line,
+        );
+    }
+    say2(
+        out,
+        at,
+        b"    Hint: % is driven from %, and that cell is constant 0: it is not wired.\n",
+        line,
+        Part::Address(source),
+    )
 }
 
 // The hint of connector k.
@@ -388,20 +346,12 @@ fn put_of_connector(
 ) -> usize
     requires { ⌜ k < 16 ⌝ }
 {
-    let code = connector_code(card, k);
-    if (code == NO_HINT) | (code == connector_code(then, k)) {
+    if !is_unwired(card, k) | is_unwired(then, k) {
         return at;
-    }
-    if rows {
-        return put_unwired_row(out, at, first, k);
     }
     let row = card.connectors;
     let c = connector_at(row, k as u32);
-    let a = put(out, at, b"    Hint: ");
-    let b = connector_name(out, a, k);
-    let d = put(out, b, b" is driven from ");
-    let e = address(out, d, c.source);
-    put(out, e, b", and that cell is constant 0: it is not wired.\n")
+    put_unwired(out, at, first, rows, k, c.source)
 }
 
 fn put_connectors(

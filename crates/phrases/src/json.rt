@@ -1,7 +1,5 @@
 // Pieces of JSON (RFC 8259), for the rows that a machine reads.
 use crate::out::Page;
-use crate::out::around;
-use crate::out::either;
 use crate::out::hex4;
 use crate::out::put;
 use crate::out::put_if;
@@ -33,16 +31,6 @@ pub fn string(out: &mut Page, at: usize, text: &[u8]) -> usize {
     let a = put(out, at, b"\"");
     let b = put_escapes(out, a, text);
     put(out, b, b"\"")
-}
-
-// A member whose value is a number, or true or false. Its name comes with quotes and colon.
-pub fn number(out: &mut Page, at: usize, name: &[u8], n: u32) -> usize {
-    around(out, at, name, n, b"")
-}
-
-pub fn flag(out: &mut Page, at: usize, name: &[u8], value: bool) -> usize {
-    let a = put(out, at, name);
-    either(value, out, a, b"true", b"false")
 }
 
 // A comma before each item of a list but the first.

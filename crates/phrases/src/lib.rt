@@ -9,6 +9,8 @@ pub mod json; // pieces of JSON
 pub mod names; // the names of types and connectors
 pub mod out; // text, piece by piece
 pub mod refused; // why a line was refused
+pub mod say; // texts with parts
+pub mod table; // entries of a table in a text
 pub mod terms; // the names of slots, places and addresses
 pub mod ticked; // what a tick did
 mod turns; // what a cell did in a tick

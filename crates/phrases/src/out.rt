@@ -1,4 +1,6 @@
 // Text, written piece by piece to a buffer that the caller gives.
+use crate::table::entry_start;
+use crate::table::find;
 
 // Room for all that is written of one line of input: of a tick at most 55 lines, each below 300
 // bytes, and 208 hints, each below 200; of a preset or a load at most 86 lines.
@@ -36,11 +38,11 @@ pub fn hex4(out: &mut Page, at: usize, w: u16) -> usize {
     text::put_hex4(out, at, w)
 }
 
-// A number between two pieces.
-pub fn around(out: &mut Page, at: usize, before: &[u8], n: u32, after: &[u8]) -> usize {
-    let a = put(out, at, before);
-    let b = number(out, a, n);
-    put(out, b, after)
+// Entry k of a table. Each entry has `|` after it.
+pub fn entry(out: &mut Page, at: usize, k: u8, table: &[u8]) -> usize {
+    let start = entry_start(table, k);
+    let end = find(table, start, b'|');
+    put(out, at, &table[start..end])
 }
 
 // A piece, where it is wanted.
@@ -57,11 +59,6 @@ pub fn either(first: bool, out: &mut Page, at: usize, a: &[u8], b: &[u8]) -> usi
         return put(out, at, a);
     }
     put(out, at, b)
-}
-
-// "high" or "low".
-pub fn level(out: &mut Page, at: usize, high: bool) -> usize {
-    either(high, out, at, b"high", b"low")
 }
 
 // A byte as a number.

@@ -1,85 +1,90 @@
 // A refused line: the rule in words, and what to do. Every number that a line or a load can give.
 use crate::form::put_form;
 use crate::out::Page;
-use crate::out::around;
 use crate::out::either;
 use crate::out::low;
 use crate::out::put;
 use crate::out::put_if;
-use crate::terms::connector_at;
-use crate::terms::type_name;
+use crate::say::Part;
+use crate::say::say;
+use crate::say::say2;
+use crate::terms::is_counter;
+use crate::terms::is_flop;
 use card::context::Context;
 use card::limits::LARGE;
 use card::limits::Number;
 use card::place::cells_for;
 use card::valid;
-use cells::table::Class;
-use cells::table::Kept;
+use cells::cell::Cell;
 use cells::table::Slots;
-use cells::table::class_of;
 use cells::table::row_of;
 use grammar::grammar::Command;
 use grammar::grammar::Pairs;
 use grammar::grammar::Parsed;
 
+// A text with a number of the line, then one with the number of cells.
+fn put_both(out: &mut Page, at: usize, v: Number, first: &[u8], size: u8, then: &[u8]) -> usize {
+    let a = say(out, at, first, Part::Number(low(v)));
+    say(out, a, then, Part::Number(cells_for(size) as u32))
+}
+
 // 5: there is no such place.
 fn put_place(out: &mut Page, at: usize, v: Number, size: u8) -> usize {
-    let a = around(out, at, b"    5: the pointer cannot go to ", low(v), b".\n");
-    around(
+    put_both(
         out,
-        a,
-        b"       Cells are 1 to ",
-        cells_for(size) as u32,
-        b", BNC1 to BNC8 are 33 to 40, TTL0 to TTL7 are 41 to 48.\n",
+        at,
+        v,
+        b"    5: the pointer cannot go to %.\n",
+        size,
+        b"       Cells are 1 to %, BNC1 to BNC8 are 33 to 40, TTL0 to TTL7 are 41 to 48.\n",
     )
 }
 
 // 6: the pointer is at a connector.
-fn put_at_connector(out: &mut Page, at: usize, x: Context) -> usize {
-    let a = put(out, at, b"    6: the pointer is at ");
-    let b = connector_at(out, a, x.pointer);
-    let c = put(out, b, b", and a connector has no slots and no state.\n");
-    put(out, c, b"       Go to a cell first: M E=1\n")
+fn put_at_connector(out: &mut Page, at: usize, pointer: u8) -> usize {
+    say(
+        out,
+        at,
+        b"    6: the pointer is at %, and a connector has no slots and no state.
+       Go to a cell first: M E=1\n",
+        Part::Place(pointer),
+    )
 }
 
 // 7: no such type, or clock.
-fn put_type(out: &mut Page, at: usize, x: Context, v: Number) -> usize {
-    if x.at_cell {
-        return around(
+fn put_type(out: &mut Page, at: usize, at_cell: bool, v: Number) -> usize {
+    let given = Part::Number(low(v));
+    if at_cell {
+        return say(
             out,
             at,
-            b"    7: there is no cell type ",
-            low(v),
-            b". They go from 0 to 22.\n",
+            b"    7: there is no cell type %. They go from 0 to 22.\n",
+            given,
         );
     }
-    let a = around(
+    say(
         out,
         at,
-        b"    7: there is no connector type ",
-        low(v),
-        b".\n",
-    );
-    put(
-        out,
-        a,
-        b"       They are 0 input, 1 open-drain, 2 push-pull.\n",
+        b"    7: there is no connector type %.
+       They are 0 input, 1 open-drain, 2 push-pull.\n",
+        given,
     )
 }
 
 fn put_clock(out: &mut Page, at: usize, v: Number) -> usize {
-    around(
+    let given = Part::Number(low(v));
+    say(
         out,
         at,
-        b"    7: there is no clock ",
-        low(v),
-        b". They go from 0 to 4.\n",
+        b"    7: there is no clock %. They go from 0 to 4.\n",
+        given,
     )
 }
 
 // 8: a preset that is not offered.
 fn put_preset(out: &mut Page, at: usize, v: Number, size: u8) -> usize {
-    let a = around(out, at, b"    8: there is no preset ", low(v), b".\n");
+    let given = Part::Number(low(v));
+    let a = say(out, at, b"    8: there is no preset %.\n", given);
     either(
         size == LARGE,
         out,
@@ -90,41 +95,33 @@ fn put_preset(out: &mut Page, at: usize, v: Number, size: u8) -> usize {
 }
 
 // 9: no configuration, or over its range.
-fn put_config(out: &mut Page, at: usize, x: Context) -> usize {
-    let cell = x.cell;
+fn put_config(out: &mut Page, at: usize, cell: Cell) -> usize {
     let row = row_of(cell.kind);
-    let a = put(out, at, b"    9: ");
-    let b = type_name(out, a, cell.kind);
+    let kind = Part::Type(cell.kind);
     if row.configured {
-        return around(
+        return say2(
             out,
-            b,
-            b" takes a configuration from 0 to ",
-            row.largest,
-            b".\n",
+            at,
+            b"    9: % takes a configuration from 0 to %.\n",
+            kind,
+            Part::Number(row.largest),
         );
     }
-    let c = put(out, b, b" has no configuration");
-    let kept = row.kept;
-    if is_counted(kept) {
-        return put(out, c, b" to set. Its count is F.\n");
+    if is_counter(cell.kind) {
+        return say(
+            out,
+            at,
+            b"    9: % has no configuration to set. Its count is F.\n",
+            kind,
+        );
     }
-    let d = put(out, c, b".\n");
-    put(
+    say(
         out,
-        d,
-        b"       Constants, lookups, one-shots and delays have one.\n",
+        at,
+        b"    9: % has no configuration.
+       Constants, lookups, one-shots and delays have one.\n",
+        kind,
     )
-}
-
-// A counter's state.
-fn is_counted(kept: Kept) -> bool {
-    match kept {
-        Kept::Stateless => false,
-        Kept::Bit => false,
-        Kept::Count => false,
-        Kept::Counted => true,
-    }
 }
 
 // The slots of a set: " X Y".
@@ -136,47 +133,39 @@ fn put_slots(out: &mut Page, at: usize, s: Slots) -> usize {
 }
 
 // 10: a slot that the type does not use.
-fn put_unused(out: &mut Page, at: usize, x: Context) -> usize {
-    let cell = x.cell;
-    let row = row_of(cell.kind);
+fn put_unused(out: &mut Page, at: usize, kind: u8) -> usize {
+    let row = row_of(kind);
     let used = row.used;
-    let a = put(out, at, b"    10: ");
-    let b = type_name(out, a, cell.kind);
+    let name = Part::Type(kind);
     if !((used.x | used.y) | (used.z | used.f)) {
-        return put(out, b, b" has no slots.\n");
+        return say(out, at, b"    10: % has no slots.\n", name);
     }
-    let c = put(out, b, b" uses only the slots");
-    let d = put_slots(out, c, used);
-    put(out, d, b".\n")
+    let a = say(out, at, b"    10: % uses only the slots", name);
+    let b = put_slots(out, a, used);
+    put(out, b, b".\n")
 }
 
 // 11: no address.
-fn put_no_address(out: &mut Page, at: usize, v: Number) -> usize {
+fn put_address(out: &mut Page, at: usize, v: Number, size: u8) -> usize {
+    let levels = b"        Levels: 1-% cells, 33-40 BNC1 to BNC8, 41-48 TTL0 to TTL7.
+        64 more: the inverse; 128 more: its rise; 192 more: its fall.\n";
     if v < 256 {
-        return around(out, at, b"    11: address ", low(v), b" is reserved.\n");
+        return put_both(
+            out,
+            at,
+            v,
+            b"    11: address % is reserved.\n",
+            size,
+            levels,
+        );
     }
-    around(
+    put_both(
         out,
         at,
-        b"    11: ",
-        low(v),
-        b" is no address. They go from 0 to 255.\n",
-    )
-}
-
-fn put_address(out: &mut Page, at: usize, v: Number, size: u8) -> usize {
-    let a = put_no_address(out, at, v);
-    let b = around(
-        out,
-        a,
-        b"        Levels: 1-",
-        cells_for(size) as u32,
-        b" cells, 33-40 BNC1 to BNC8, 41-48 TTL0 to TTL7.\n",
-    );
-    put(
-        out,
-        b,
-        b"        64 more: the inverse; 128 more: its rise; 192 more: its fall.\n",
+        v,
+        b"    11: % is no address. They go from 0 to 255.\n",
+        size,
+        levels,
     )
 }
 
@@ -196,70 +185,38 @@ fn bad_number(p: Pairs, size: u8) -> Number {
 }
 
 // 12: no state, or over its range.
-fn put_state(out: &mut Page, at: usize, x: Context) -> usize {
-    let cell = x.cell;
-    let class = class_of(cell.kind);
-    match class {
-        Class::Flop(_) => put(out, at, b"    12: the state of a flip-flop is 0 or 1.\n"),
-        Class::Counter(_) => put(out, at, b"    12: the count of a counter goes to 65535.\n"),
-        Class::OneShot(_) => put_stateless(out, at, cell.kind),
-        Class::Delay(_) => put_stateless(out, at, cell.kind),
-        Class::Gate(_) => put_stateless(out, at, cell.kind),
-        Class::Constant => put_stateless(out, at, cell.kind),
-        Class::Nothing => put_stateless(out, at, cell.kind),
+fn put_state(out: &mut Page, at: usize, kind: u8) -> usize {
+    if is_flop(kind) {
+        return put(out, at, b"    12: the state of a flip-flop is 0 or 1.\n");
     }
-}
-
-fn put_stateless(out: &mut Page, at: usize, kind: u8) -> usize {
-    let a = put(out, at, b"    12: ");
-    let b = type_name(out, a, kind);
-    let c = put(out, b, b" keeps no state.\n");
-    put(
+    if is_counter(kind) {
+        return put(out, at, b"    12: the count of a counter goes to 65535.\n");
+    }
+    say(
         out,
-        c,
-        b"        Flip-flops, one-shots, delays and counters do.\n",
+        at,
+        b"    12: % keeps no state.
+        Flip-flops, one-shots, delays and counters do.\n",
+        Part::Type(kind),
     )
 }
 
-// 13: BNC1 brings the trigger.
-fn put_front(out: &mut Page, at: usize) -> usize {
-    let a = put(
-        out,
-        at,
-        b"    13: clock 4 comes in at BNC1, so BNC1 must stay an input.\n",
-    );
-    put(out, a, b"        Choose another clock first: PM E=0\n")
-}
-
-// 7 by the command.
-fn put_seven(out: &mut Page, at: usize, x: Context, command: Command) -> usize {
+// 5, 7, 8 and 11, by the command: those that name a number of the line.
+fn put_numbered(out: &mut Page, at: usize, x: Context, command: Command) -> usize {
     match command {
+        Command::Move(v) => put_place(out, at, v, x.size),
         Command::Trigger(v) => put_clock(out, at, v),
-        Command::SetKind(v) => put_type(out, at, x, v),
-        _ => at,
-    }
-}
-
-// 11 by the command.
-fn put_eleven(out: &mut Page, at: usize, size: u8, command: Command) -> usize {
-    match command {
-        Command::SetConfig(v) => put_address(out, at, v, size),
-        Command::SetSlots(p) => put_address(out, at, bad_number(p, size), size),
-        _ => at,
-    }
-}
-
-// 5 and 8 by the command.
-fn put_numbered(out: &mut Page, at: usize, size: u8, command: Command) -> usize {
-    match command {
-        Command::Move(v) => put_place(out, at, v, size),
-        Command::Preset(v) => put_preset(out, at, v, size),
+        Command::SetKind(v) => put_type(out, at, x.at_cell, v),
+        Command::Preset(v) => put_preset(out, at, v, x.size),
+        Command::SetConfig(v) => put_address(out, at, v, x.size),
+        Command::SetSlots(p) => put_address(out, at, bad_number(p, x.size), x.size),
         _ => at,
     }
 }
 
 // A command of this card that was refused with k.
 fn put_command(out: &mut Page, at: usize, k: u8, x: Context, command: Command) -> usize {
+    let cell = x.cell;
     match k {
         1 => put(out, at, b"    1: the store is too short for a record.\n"),
         4 => put(
@@ -267,16 +224,17 @@ fn put_command(out: &mut Page, at: usize, k: u8, x: Context, command: Command) -
             at,
             b"    4: no number of a line goes over 4294967295.\n",
         ),
-        5 => put_numbered(out, at, x.size, command),
-        6 => put_at_connector(out, at, x),
-        7 => put_seven(out, at, x, command),
-        8 => put_numbered(out, at, x.size, command),
-        9 => put_config(out, at, x),
-        10 => put_unused(out, at, x),
-        11 => put_eleven(out, at, x.size, command),
-        12 => put_state(out, at, x),
-        13 => put_front(out, at),
-        _ => at,
+        6 => put_at_connector(out, at, x.pointer),
+        9 => put_config(out, at, cell),
+        10 => put_unused(out, at, cell.kind),
+        12 => put_state(out, at, cell.kind),
+        13 => put(
+            out,
+            at,
+            b"    13: clock 4 comes in at BNC1, so BNC1 must stay an input.
+        Choose another clock first: PM E=0\n",
+        ),
+        _ => put_numbered(out, at, x, command),
     }
 }
 
@@ -297,16 +255,11 @@ pub fn put_refused(out: &mut Page, at: usize, text: &[u8], k: u8, x: Context, p:
 
 // A load that was refused.
 pub fn put_unloaded(out: &mut Page, at: usize, k: u8) -> usize {
-    if k == 14 {
-        return put(
-            out,
-            at,
-            b"    14: the store holds no record. Save one first: 36SS Z\n",
-        );
-    }
-    put(
+    either(
+        k == 14,
         out,
         at,
+        b"    14: the store holds no record. Save one first: 36SS Z\n",
         b"    15: the record in the store has a value that no line could set.\n",
     )
 }

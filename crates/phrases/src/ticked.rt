@@ -1,15 +1,15 @@
 // A tick: each cell that was worked out, with its reasons and its output, and the connectors that
 // changed; in sentences, or as the members of a row.
 ghost use Prim.Native.Nat.{_<_, _≤_};
-use crate::json;
 use crate::out::Page;
-use crate::out::around;
 use crate::out::either;
-use crate::out::level;
 use crate::out::put;
 use crate::out::put_if;
+use crate::say::Part;
+use crate::say::say;
+use crate::say::say2;
+use crate::say::say4;
 use crate::terms::connector_kind;
-use crate::terms::connector_name;
 use crate::turns::Turn;
 use crate::turns::put_cell;
 use crate::wiring::put_high;
@@ -187,11 +187,9 @@ fn by_sample(kind: u8, high: bool, drove: bool, drives: bool) -> bool {
 // An open-drain line that follows its sample.
 fn put_sampled(out: &mut Page, at: usize, c: Connector, attached: bool, high: bool) -> usize {
     let a = put_if(!attached, out, at, b"nothing is attached, and ");
-    let b = put(out, a, b"the sample is ");
-    let d = level(out, b, high);
-    let e = put(out, d, b" (");
-    let f = connector_kind(out, e, c.kind, c.source);
-    put(out, f, b").\n")
+    let level = Part::Level(high);
+    let source = Part::Source(c.kind, c.source);
+    say2(out, a, b"the sample is % (%).\n", level, source)
 }
 
 // Connector k, where it shows another level. `drove` and `drives` are the driven words of the last
@@ -214,11 +212,8 @@ fn put_connector(
     if was == is {
         return at;
     }
-    let a = put(out, at, b"    ");
-    let b = connector_name(out, a, k as u8);
-    let d = put(out, b, b" goes ");
-    let e = level(out, d, is);
-    let f = put(out, e, b": ");
+    let line = Part::Line(k as u8);
+    let a = say2(out, at, b"    % goes %: ", line, Part::Level(is));
     let held = words::bit(attached as u64, k);
     if by_sample(
         c.kind,
@@ -226,9 +221,9 @@ fn put_connector(
         words::bit(drove as u64, k),
         words::bit(drives as u64, k),
     ) {
-        return put_sampled(out, f, c, held, is);
+        return put_sampled(out, a, c, held, is);
     }
-    put_cause(out, f, c, held)
+    put_cause(out, a, c, held)
 }
 
 // All connectors that show another level.
@@ -261,14 +256,13 @@ fn put_connectors(
 }
 
 fn put_idle(out: &mut Page, at: usize, code: u8, trigger: u8) -> usize {
-    let a = around(
+    say2(
         out,
         at,
-        b"    The card ticks on clock ",
-        trigger as u32,
-        b", and this is clock ",
-    );
-    around(out, a, b"", code as u32, b": nothing happens.\n")
+        b"    The card ticks on clock %, and this is clock %: nothing happens.\n",
+        Part::Number(trigger as u32),
+        Part::Number(code as u32),
+    )
 }
 
 // What the words of the answer say: the connectors that are driven high, and the cells that are
@@ -330,34 +324,36 @@ fn put_answer_row(out: &mut Page, at: usize, asleep: bool, t: Tick) -> usize {
     let after = t.after;
     let w = after.memory;
     let found = reasons::reasons(before, t.input, t.full);
-    let a = json::number(out, at, b",\"driven\":", answer.driven as u32);
-    let b = json::number(out, a, b",\"cells\":", answer.cells);
-    let c = json::number(out, b, b",\"woken\":", answer.woken);
-    let d = json::number(out, c, b",\"levels\":", w.levels as u32);
-    let e = put(out, d, b",\"named\":[");
-    let f = put_cells(
+    let a = say4(
         out,
-        e,
-        true,
-        asleep,
-        t,
-        found,
-        cells_for(before.size) as u32,
+        at,
+        b",\"driven\":%,\"cells\":%,\"woken\":%,\"levels\":%,\"named\":[",
+        Part::Number(answer.driven as u32),
+        Part::Number(answer.cells),
+        Part::Number(answer.woken),
+        Part::Number(w.levels as u32),
     );
-    put(out, f, b"]")
+    let count = cells_for(before.size) as u32;
+    let b = put_cells(out, a, true, asleep, t, found, count);
+    put(out, b, b"]")
 }
 
 // A tick as members of a row.
 pub fn put_tick_row(out: &mut Page, at: usize, asleep: bool, t: Tick) -> usize {
     let input = t.input;
     let answer = t.answer;
-    let a = json::flag(out, at, b",\"full\":", t.full);
-    let b = json::number(out, a, b",\"clock\":", input.code as u32);
-    let c = json::number(out, b, b",\"sample\":", input.sample as u32);
-    let d = json::number(out, c, b",\"attached\":", input.attached as u32);
-    let e = json::flag(out, d, b",\"ran\":", answer.ran);
+    let a = say4(
+        out,
+        at,
+        b",\"full\":%,\"clock\":%,\"sample\":%,\"attached\":%",
+        Part::Flag(t.full),
+        Part::Number(input.code as u32),
+        Part::Number(input.sample as u32),
+        Part::Number(input.attached as u32),
+    );
+    let b = say(out, a, b",\"ran\":%", Part::Flag(answer.ran));
     if answer.ran {
-        return put_answer_row(out, e, asleep, t);
+        return put_answer_row(out, b, asleep, t);
     }
-    e
+    b
 }

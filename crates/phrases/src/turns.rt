@@ -1,19 +1,20 @@
 // A cell in a tick: why it was worked out and what became of it, or why it sleeps.
 use crate::causes::put_reasons;
-use crate::json;
 use crate::json::comma;
 use crate::out::Page;
-use crate::out::around;
 use crate::out::either;
-use crate::out::level;
 use crate::out::put;
 use crate::out::put_if;
-use crate::terms::typed_cell;
+use crate::say::Part;
+use crate::say::say;
+use crate::say::say2;
+use crate::say::say4;
+use crate::terms::is_counter;
+use crate::terms::is_flop;
+use crate::terms::is_timer;
 use cells::cell::Cell;
 use cells::table::Class;
-use cells::table::CounterKind;
 use cells::table::class_of;
-use cells::wake::has_start;
 use reasons::cell::Reasons;
 use reasons::cell::any_reason;
 
@@ -29,19 +30,10 @@ pub struct Turn {
 // What a timer or a counter has counted to.
 fn put_count(out: &mut Page, at: usize, cell: Cell) -> usize {
     let count = cell.count;
-    let class = class_of(cell.kind);
-    match class {
-        Class::OneShot(_) => around(out, at, b", count ", count.0, b""),
-        Class::Delay(_) => around(out, at, b", count ", count.0, b""),
-        Class::Counter(_) => around(out, at, b", count ", count.0, b""),
-        _ => at,
+    if is_timer(cell.kind) | is_counter(cell.kind) {
+        return say(out, at, b", count %", Part::Number(count.0));
     }
-}
-
-// A level before and now: "goes high", "stays low".
-fn put_turn(out: &mut Page, at: usize, before: bool, now: bool) -> usize {
-    let a = either(before == now, out, at, b"stays ", b"goes ");
-    level(out, a, now)
+    at
 }
 
 // Whether a timer takes a trigger that comes now: one that is not retriggerable ignores it while
@@ -69,77 +61,85 @@ fn put_worked_out(out: &mut Page, at: usize, i: u8, t: Turn) -> usize {
     let old = t.old;
     let new = t.new;
     let q = t.found;
-    let a = put(out, at, b"    ");
-    let b = typed_cell(out, a, i, old.kind);
-    let c = put(out, b, b": ");
-    let d = put_reasons(out, c, false, old, q);
-    let e = put(out, d, b". Output ");
-    let f = put_turn(out, e, t.was, t.is);
-    let g = put_count(out, f, new);
-    let h = put(out, g, b".\n");
+    let a = say(out, at, b"    %: ", Part::Typed(i, old.kind));
+    let b = put_reasons(out, a, false, old, q);
+    let c = either(t.was == t.is, out, b, b". Output stays", b". Output goes");
+    let d = say(out, c, b" %", Part::Level(t.is));
+    let e = put_count(out, d, new);
+    let f = put(out, e, b".\n");
     put_if(
         ignores_clock(old, q),
         out,
-        h,
+        f,
         b"      The clock is high as well; a taken trigger ignores it.\n",
     )
 }
 
-// Why a clock that is high does not wake a timer or a counter, or that it is low.
-fn put_idle_clock(out: &mut Page, at: usize, high: bool, idle: &[u8]) -> usize {
-    if high {
-        return put(out, at, idle);
+// Whether a counter goes from start to stop.
+fn is_started(kind: u8) -> bool {
+    let class = class_of(kind);
+    match class {
+        Class::Counter(counter) => cells::wake::has_start(counter),
+        _ => false,
     }
-    put(out, at, b", its clock is low")
 }
 
-// Why a counter sleeps, besides its level slots.
-fn put_sleeping_counter(out: &mut Page, at: usize, counter: CounterKind, high: bool) -> usize {
-    let a = put_if(
-        has_start(counter),
+// That no trigger wakes a timer, and no start or stop a counter.
+fn put_untriggered(out: &mut Page, at: usize, kind: u8) -> usize {
+    if is_timer(kind) {
+        return put(out, at, b", no trigger is high");
+    }
+    put_if(
+        is_started(kind),
         out,
         at,
         b", neither start nor stop is high",
-    );
-    put_idle_clock(out, a, high, b", its clock is high but it is not active")
+    )
 }
 
-// Why a timer sleeps, besides its reset.
-fn put_sleeping_timer(out: &mut Page, at: usize, high: bool) -> usize {
-    let a = put(out, at, b", no trigger is high");
-    put_idle_clock(
+// Why a clock does not wake a cell: it is low, or there is nothing for it to do.
+fn put_idle_clock(out: &mut Page, at: usize, kind: u8, high: bool) -> usize {
+    if is_flop(kind) | !high {
+        return put(out, at, b", its clock is low");
+    }
+    either(
+        is_timer(kind),
         out,
-        a,
-        high,
+        at,
         b", its clock is high but there is nothing to count",
+        b", its clock is high but it is not active",
     )
 }
 
 // The line of a cell that sleeps.
-fn put_asleep(out: &mut Page, at: usize, i: u8, cell: Cell, q: Reasons) -> usize {
+fn put_asleep(out: &mut Page, at: usize, i: u8, kind: u8, q: Reasons) -> usize {
     let r = q.now;
-    let a = put(out, at, b"    ");
-    let b = typed_cell(out, a, i, cell.kind);
-    let c = put(out, b, b" sleeps: no level slot has changed");
-    let class = class_of(cell.kind);
-    let d = match class {
-        Class::Flop(_) => put(out, c, b", its clock is low"),
-        Class::OneShot(_) => put_sleeping_timer(out, c, r.y),
-        Class::Delay(_) => put_sleeping_timer(out, c, r.y),
-        Class::Counter(counter) => put_sleeping_counter(out, c, counter, r.y),
-        _ => c,
-    };
-    put(out, d, b".\n")
+    let a = say(
+        out,
+        at,
+        b"    % sleeps: no level slot has changed",
+        Part::Typed(i, kind),
+    );
+    if !(is_flop(kind) | is_timer(kind) | is_counter(kind)) {
+        return put(out, a, b".\n");
+    }
+    let b = put_untriggered(out, a, kind);
+    let c = put_idle_clock(out, b, kind, r.y);
+    put(out, c, b".\n")
 }
 
-// The state and the output of a cell: {"output":true,"bit":false,"count":2,"pulse":false}.
+// The state and the output of a cell.
 fn put_state(out: &mut Page, at: usize, cell: Cell, output: bool) -> usize {
     let count = cell.count;
-    let a = json::flag(out, at, b"{\"output\":", output);
-    let b = json::flag(out, a, b",\"bit\":", cell.bit);
-    let c = json::number(out, b, b",\"count\":", count.0);
-    let d = json::flag(out, c, b",\"pulse\":", cell.pulse);
-    put(out, d, b"}")
+    say4(
+        out,
+        at,
+        b"{\"output\":%,\"bit\":%,\"count\":%,\"pulse\":%}",
+        Part::Flag(output),
+        Part::Flag(cell.bit),
+        Part::Number(count.0),
+        Part::Flag(cell.pulse),
+    )
 }
 
 // A cell of a row. One that sleeps has no reasons.
@@ -147,15 +147,22 @@ fn put_item(out: &mut Page, at: usize, i: u8, t: Turn) -> usize {
     let old = t.old;
     let new = t.new;
     let q = t.found;
-    let a = json::number(out, at, b"{\"cell\":", i as u32 + 1);
-    let b = json::number(out, a, b",\"type\":", old.kind as u32);
-    let c = put(out, b, b",\"reasons\":[");
-    let d = put_reasons(out, c, true, old, q);
-    let e = put(out, d, b"],\"before\":");
-    let f = put_state(out, e, old, t.was);
-    let g = put(out, f, b",\"after\":");
-    let h = put_state(out, g, new, t.is);
-    json::flag(out, h, b",\"clock_ignored\":", ignores_clock(old, q))
+    let number = Part::Number(i as u32 + 1);
+    let kind = Part::Number(old.kind as u32);
+    let a = say2(
+        out,
+        at,
+        b"{\"cell\":%,\"type\":%,\"reasons\":[",
+        number,
+        kind,
+    );
+    let b = put_reasons(out, a, true, old, q);
+    let c = put(out, b, b"],\"before\":");
+    let d = put_state(out, c, old, t.was);
+    let e = put(out, d, b",\"after\":");
+    let f = put_state(out, e, new, t.is);
+    let ignored = Part::Flag(ignores_clock(old, q));
+    say(out, f, b",\"clock_ignored\":%}", ignored)
 }
 
 // Whether a cell is shown. Of those that the rules name a sentence leaves out the constants that
@@ -184,12 +191,11 @@ pub fn put_cell(
     }
     if rows {
         let a = comma(out, at, first);
-        let b = put_item(out, a, i, t);
-        return put(out, b, b"}");
+        return put_item(out, a, i, t);
     }
     if any_reason(t.found) {
         return put_worked_out(out, at, i, t);
     }
     let old = t.old;
-    put_asleep(out, at, i, old, t.found)
+    put_asleep(out, at, i, old.kind, t.found)
 }

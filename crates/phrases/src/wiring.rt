@@ -1,20 +1,18 @@
 // Cells and connectors with their settings, and which of them differ between two cards; in
 // sentences, or as lists of a row.
 ghost use Prim.Native.Nat.{_<_, _≤_};
-use crate::json;
 use crate::json::comma;
 use crate::out::Page;
-use crate::out::around;
 use crate::out::either;
+use crate::out::number;
 use crate::out::put;
 use crate::out::put_if;
 use crate::out::wide;
-use crate::terms::address;
-use crate::terms::cell_name;
-use crate::terms::connector_kind;
-use crate::terms::connector_name;
-use crate::terms::slot_name;
-use crate::terms::type_name;
+use crate::say::Part;
+use crate::say::say;
+use crate::say::say2;
+use crate::say::say3;
+use crate::say::say4;
 use card::card::Card;
 use card::card::Connector;
 use card::connectors::each_of;
@@ -23,8 +21,6 @@ use card::limits::CONNECTORS;
 use card::limits::EditedSet;
 use card::place::cells_for;
 use cells::cell::Cell;
-use cells::table::Class;
-use cells::table::class_of;
 use cells::table::row_of;
 
 // A slot of a cell, where it is used: "Y (clock) 192, always high". A semicolon comes before all
@@ -42,9 +38,7 @@ fn put_slot(
         return at;
     }
     let b = put_if(at != first, out, at, b"; ");
-    let c = slot_name(out, b, kind, slot);
-    let d = put(out, c, b" ");
-    address(out, d, a)
+    say2(out, b, b"% %", Part::Slot(kind, slot), Part::Address(a))
 }
 
 // The slots that a cell uses, in a line of their own.
@@ -63,74 +57,70 @@ fn put_slots(out: &mut Page, at: usize, cell: Cell) -> usize {
     put(out, f, b".\n")
 }
 
-// A configuration with what it is: "duration 2".
-pub fn put_config(out: &mut Page, at: usize, kind: u8, config: u32) -> usize {
-    let class = class_of(kind);
-    match class {
-        Class::Nothing => at,
-        Class::Constant => around(out, at, b"value ", config, b""),
-        Class::Gate(_) => around(out, at, b"code ", config, b""),
-        Class::Flop(_) => at,
-        Class::OneShot(_) => around(out, at, b"duration ", config, b""),
-        Class::Delay(_) => around(out, at, b"duration ", config, b""),
-        Class::Counter(_) => at,
-    }
-}
-
 // ", duration 2", where the type has a configuration.
 fn put_configured(out: &mut Page, at: usize, cell: Cell) -> usize {
     let row = row_of(cell.kind);
-    if !row.configured {
-        return at;
+    if row.configured {
+        return say(out, at, b", %", Part::Config(cell.kind, cell.config));
     }
-    let a = put(out, at, b", ");
-    put_config(out, a, cell.kind, cell.config)
+    at
 }
 
 // The settings of cell i.
 pub fn put_cell(out: &mut Page, at: usize, i: u8, cell: Cell) -> usize {
-    let a = put(out, at, b"    ");
-    let b = cell_name(out, a, i);
-    let c = put(out, b, b": ");
-    let d = type_name(out, c, cell.kind);
-    let e = put_configured(out, d, cell);
-    let f = put(out, e, b".\n");
-    put_slots(out, f, cell)
+    let a = say2(out, at, b"    %: %", Part::Cell(i), Part::Type(cell.kind));
+    let b = put_configured(out, a, cell);
+    let c = put(out, b, b".\n");
+    put_slots(out, c, cell)
 }
 
 // The settings of connector k, in a line.
 pub fn put_connector(out: &mut Page, at: usize, k: u8, c: Connector) -> usize {
-    let a = put(out, at, b"    ");
-    let b = connector_name(out, a, k);
-    let d = put(out, b, b": ");
-    let e = connector_kind(out, d, c.kind, c.source);
-    put(out, e, b".\n")
+    let source = Part::Source(c.kind, c.source);
+    say2(out, at, b"    %: %.\n", Part::Line(k), source)
 }
 
 // A cell of a row: its settings and its state.
 fn put_cell_item(out: &mut Page, at: usize, i: u8, cell: Cell) -> usize {
     let s = cell.slots;
     let count = cell.count;
-    let a = json::number(out, at, b"{\"cell\":", i as u32 + 1);
-    let b = json::number(out, a, b",\"type\":", cell.kind as u32);
-    let c = json::number(out, b, b",\"config\":", cell.config);
-    let d = json::number(out, c, b",\"slots\":[", wide(s[0]));
-    let e = json::number(out, d, b",", wide(s[1]));
-    let f = json::number(out, e, b",", wide(s[2]));
-    let g = json::number(out, f, b",", wide(s[3]));
-    let h = json::flag(out, g, b"],\"bit\":", cell.bit);
-    let j = json::number(out, h, b",\"count\":", count.0);
-    let k = json::flag(out, j, b",\"pulse\":", cell.pulse);
-    put(out, k, b"}")
+    let a = say3(
+        out,
+        at,
+        b"{\"cell\":%,\"type\":%,\"config\":%",
+        Part::Number(i as u32 + 1),
+        Part::Number(cell.kind as u32),
+        Part::Number(cell.config),
+    );
+    let b = say4(
+        out,
+        a,
+        b",\"slots\":[%,%,%,%]",
+        Part::Number(wide(s[0])),
+        Part::Number(wide(s[1])),
+        Part::Number(wide(s[2])),
+        Part::Number(wide(s[3])),
+    );
+    say3(
+        out,
+        b,
+        b",\"bit\":%,\"count\":%,\"pulse\":%}",
+        Part::Flag(cell.bit),
+        Part::Number(count.0),
+        Part::Flag(cell.pulse),
+    )
 }
 
 // A connector of a row.
 fn put_connector_item(out: &mut Page, at: usize, k: u8, c: Connector) -> usize {
-    let a = put(out, at, b"{\"connector\":\"");
-    let b = connector_name(out, a, k);
-    let d = json::number(out, b, b"\",\"type\":", c.kind as u32);
-    let e = json::number(out, d, b",\"source\":", c.source as u32);
-    put(out, e, b"}")
+    say3(
+        out,
+        at,
+        b"{\"connector\":\"%\",\"type\":%,\"source\":%}",
+        Part::Line(k),
+        Part::Number(c.kind as u32),
+        Part::Number(c.source as u32),
+    )
 }
 
 // Whether two cells have the same settings, and the same state.
@@ -219,52 +209,61 @@ fn put_connectors(
     n
 }
 
-// The trigger source, where it is another one now.
-fn put_trigger(out: &mut Page, at: usize, before: u8, after: u8) -> usize {
-    if before == after {
-        return at;
-    }
-    around(
+// Cells and connectors that have other settings now, and a piece between them.
+fn put_parts(
+    out: &mut Page,
+    at: usize,
+    rows: bool,
+    before: Card,
+    after: Card,
+    between: &[u8],
+) -> usize {
+    let cells = before.cells;
+    let new_cells = after.cells;
+    let row = before.connectors;
+    let new_row = after.connectors;
+    let a = put_cells(out, at, rows, cells, new_cells);
+    let b = put(out, a, between);
+    put_connectors(out, b, rows, each_of(row), each_of(new_row))
+}
+
+// Which ticks run now.
+pub fn put_trigger(out: &mut Page, at: usize, trigger: u32) -> usize {
+    let clock = Part::Number(trigger);
+    say(
         out,
         at,
-        b"    Ticks of clock ",
-        after as u32,
-        b" run now, and others are idle.\n",
+        b"    Ticks of clock % run now, and others are idle.\n",
+        clock,
     )
 }
 
 // The settings in which two cards differ, a line for each.
 pub fn put_changes(out: &mut Page, at: usize, before: Card, after: Card) -> usize {
-    let a = put_trigger(out, at, before.trigger, after.trigger);
-    let cells = before.cells;
-    let new_cells = after.cells;
-    let row = before.connectors;
-    let new_row = after.connectors;
-    let connectors = each_of(row);
-    let new_connectors = each_of(new_row);
-    let b = put_cells(out, a, false, cells, new_cells);
-    let c = put_connectors(out, b, false, connectors, new_connectors);
-    if c == at {
-        return put(out, c, b"    No setting is another one than before.\n");
+    let mut a = at;
+    if before.trigger != after.trigger {
+        a = put_trigger(out, at, after.trigger as u32);
     }
-    c
+    let b = put_parts(out, a, false, before, after, b"");
+    put_if(
+        b == at,
+        out,
+        b,
+        b"    No setting is another one than before.\n",
+    )
 }
 
 // What differs between two cards, as members of a row. Pointer and trigger are always there.
 pub fn put_change_row(out: &mut Page, at: usize, before: Card, after: Card) -> usize {
-    let cells = before.cells;
-    let new_cells = after.cells;
-    let row = before.connectors;
-    let new_row = after.connectors;
-    let connectors = each_of(row);
-    let new_connectors = each_of(new_row);
-    let a = json::number(out, at, b",\"pointer\":", after.pointer as u32);
-    let b = json::number(out, a, b",\"trigger\":", after.trigger as u32);
-    let c = put(out, b, b",\"changed\":{\"cells\":[");
-    let d = put_cells(out, c, true, cells, new_cells);
-    let e = put(out, d, b"],\"connectors\":[");
-    let f = put_connectors(out, e, true, connectors, new_connectors);
-    put(out, f, b"]}")
+    let a = say2(
+        out,
+        at,
+        b",\"pointer\":%,\"trigger\":%,\"changed\":{\"cells\":[",
+        Part::Number(after.pointer as u32),
+        Part::Number(after.trigger as u32),
+    );
+    let b = put_parts(out, a, true, before, after, b"],\"connectors\":[");
+    put(out, b, b"]}")
 }
 
 // A cell of a set: " cell 1", or in a row its number.
@@ -276,9 +275,9 @@ fn put_member(out: &mut Page, at: usize, first: usize, rows: bool, set: u64, i: 
     }
     if rows {
         let a = comma(out, at, first);
-        return json::number(out, a, b"", i + 1);
+        return number(out, a, i + 1);
     }
-    around(out, at, b" cell ", i + 1, b"")
+    say(out, at, b" cell %", Part::Number(i + 1))
 }
 
 // The cells of a set: " cell 1 cell 10", or "1,10".
@@ -303,8 +302,7 @@ fn put_if_high(out: &mut Page, at: usize, levels: u16, k: u32) -> usize
     if !words::bit(levels as u64, k) {
         return at;
     }
-    let a = put(out, at, b" ");
-    connector_name(out, a, k as u8)
+    say(out, at, b" %", Part::Line(k as u8))
 }
 
 // The connectors of a range that are high: " BNC1 BNC3".

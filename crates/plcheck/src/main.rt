@@ -54,7 +54,9 @@ fn take_end(
 }
 
 // The line that a reader has given, cut to the bytes that are kept of one that ends in another
-// block. Where none was given, the input has ended. The store is as long as a record of the card.
+// block. Where none was given, the input has ended, or a read failed: then that is reported, and
+// nothing is counted, since what comes after it is not known. The store is as long as a record of
+// the card.
 fn take_given(
     check: Check,
     size: u8,
@@ -72,6 +74,13 @@ fn take_given(
     let long = least(r.end - start, LINE);
     let text = &block[start..start + long];
     let room = least(record_length(size), store.len());
+    if r.failed {
+        os::fail(b"the input");
+        return Said {
+            check: check,
+            wrote: false,
+        };
+    }
     if !r.going {
         return take_end(check, text, &mut store[0..room], kept, answer, out);
     }

@@ -69,8 +69,8 @@ fn is_foreign(run: Run, text: &[u8]) -> bool {
 
 // The line that a reader has given, cut to the bytes that are kept of one that ends in another
 // block, so that what is said does not depend on how the input comes. No line that is obeyed is
-// longer. Where none was given, the input has ended: bytes after its last LF are named. The store
-// is as long as a record of the card.
+// longer. Where none was given, the input has ended, or a read failed, which is reported: bytes
+// after the last LF are named. The store is as long as a record of the card.
 fn take_given(
     run: Run,
     r: Reader,
@@ -92,6 +92,9 @@ fn take_given(
         let card = run.card;
         let room = least(record_length(card.size), store.len());
         return end_line(run, text, &mut store[0..room], out, style);
+    }
+    if r.failed {
+        os::fail(b"the input");
     }
     let n = put_unended(out, 0, style.rows, text, more(run.lines));
     write_front(out, n);

@@ -1,7 +1,6 @@
 // Saves a wiring as a record: it reads what plrun reads, and at the end writes the record of the
 // card, which `plload` turns into lines again.
 ghost use Prim.Native.Nat.{_≤_};
-ghost use Prim.Native.Nat.{_≤_};
 use card::limits::LARGE;
 use program::arguments::ANYWAY;
 use program::arguments::Arguments;

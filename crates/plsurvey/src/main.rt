@@ -11,13 +11,11 @@ use program::arguments::CELLS;
 use program::arguments::NOTHING;
 use ticks::view::sees;
 
-// A cell and a connector are named by their bases: the first of the cells, of the connectors and of
-// those on the backplane, and the one after the last.
+// Cells and connectors are known by their bases: the first of the cells, that of the connectors,
+// and the one after the last.
 const FIRST_CELL: u32 = 1;
 
 const FIRST: u32 = 33;
-
-const BACK: u32 = 41;
 
 const END: u32 = 49;
 
@@ -40,13 +38,8 @@ fn put_name(b: u32) {
         put_number(b);
         return;
     }
-    if b < BACK {
-        put(b"BNC");
-        put_number(b - 32);
-        return;
-    }
-    put(b"TTL");
-    put_number(b - BACK);
+    let name = phrases::names::connector(((b - FIRST) % 16) as u8);
+    put(&name);
 }
 
 // A name after a blank.
