@@ -76,14 +76,23 @@ fn others(card: Card, b: u32) -> u64
     words::with_set(set, b) ^ words::with_set(0, b)
 }
 
-// The row of a connector, where something depends on it. Whether it does.
-fn put_row(card: Card, b: u32) -> bool
+// The end of a line that goes before another one.
+fn put_break(wanted: bool) {
+    if wanted {
+        put(b"\n");
+    }
+}
+
+// The row of a connector, where something depends on it, and whether there was one before it.
+// Whether something does.
+fn put_row(card: Card, b: u32, before: bool) -> bool
     requires { ⌜ b < 64 ⌝ }
 {
     let set = others(card, b);
     if set == 0 {
         return false;
     }
+    put_break(before);
     put_name(b);
     put(b":");
     if (set & CELL_BASES) != 0 {
@@ -94,7 +103,6 @@ fn put_row(card: Card, b: u32) -> bool
         }
     }
     put_names(set, FIRST, END);
-    put(b"\n");
     true
 }
 
@@ -102,7 +110,7 @@ fn put_row(card: Card, b: u32) -> bool
 fn put_rows(card: Card) -> bool {
     let mut any = false;
     for b in FIRST..END {
-        if put_row(card, b) {
+        if put_row(card, b, any) {
             any = true;
         }
     }
@@ -122,6 +130,7 @@ fn lines_to(card: Card, b: u32) -> u64
     set
 }
 
+// A column, after the rows.
 fn put_column(card: Card, b: u32)
     requires { ⌜ b < 64 ⌝ }
 {
@@ -129,10 +138,10 @@ fn put_column(card: Card, b: u32)
     if set == 0 {
         return;
     }
+    put(b"\n");
     put_name(b);
     put(b" <-");
     put_names(set, FIRST, END);
-    put(b"\n");
 }
 
 fn put_columns(card: Card) {
@@ -141,12 +150,15 @@ fn put_columns(card: Card) {
     }
 }
 
+// The end of the last line is written with a check, so that an output which takes nothing is
+// reported once.
 fn survey_of(card: Card) {
     if put_rows(card) {
         put_columns(card);
     } else {
-        put(b"Nothing depends on any line.\n");
+        put(b"Nothing depends on any line.");
     }
+    program::writer::write(b"\n");
 }
 
 fn main() {
