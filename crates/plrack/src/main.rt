@@ -64,10 +64,11 @@ const LONGEST: usize = 640;
 
 const BUFFER: usize = KEPT + BLOCK;
 
-// The cards, and how many of them are the row.
+// The cards, how many of them are the row, and whether each answer could be written.
 struct Rig {
     cards: [Card; ROOM],
     n: usize,
+    wrote: bool,
 }
 
 fn put(text: &[u8]) {
@@ -109,6 +110,7 @@ fn with_card(rig: Rig, i: usize, card: Card) -> Rig {
     Rig {
         cards: cards,
         n: rig.n,
+        wrote: rig.wrote,
     }
 }
 
@@ -123,13 +125,22 @@ fn taken_from(rig: Rig, number: usize) -> Taken {
 
 // ---- the calls
 
+// The row after a call, with the last piece of its answer, which is written with a check.
+fn answered_by(cards: [Card; ROOM], n: usize, text: &[u8]) -> Rig {
+    Rig {
+        cards: cards,
+        n: n,
+        wrote: program::writer::write(text),
+    }
+}
+
 // A line of another form: what was expected is said on the error output.
 fn refused(rig: Rig, form: &[u8]) -> Rig {
-    put(b"?\n");
     io::write_all(STDERR_FILENO, b"plrack: a line is refused: ");
     io::write_all(STDERR_FILENO, form);
     io::write_all(STDERR_FILENO, b"\n");
-    rig
+    let cards = rig.cards;
+    answered_by(cards, rig.n, b"?\n")
 }
 
 fn made(rig: Rig, line: &[u8]) -> Rig {
@@ -148,8 +159,7 @@ fn made(rig: Rig, line: &[u8]) -> Rig {
             }
         }
     }
-    put(b"ok\n");
-    Rig { cards: cards, n: n }
+    answered_by(cards, n, b"ok\n")
 }
 
 fn start(rig: Rig, line: &[u8]) -> Rig {
@@ -159,12 +169,8 @@ fn start(rig: Rig, line: &[u8]) -> Rig {
     let h = ordered(rig, start_order());
     let p = h.pass;
     put_number(p.k as u64);
-    put(b"\n");
     let cards = h.cards;
-    Rig {
-        cards: cards,
-        n: rig.n,
-    }
+    answered_by(cards, rig.n, b"\n")
 }
 
 fn put_word(v: u32) {
@@ -229,30 +235,25 @@ fn tick(rig: Rig, line: &[u8]) -> Rig {
     if p.k == 0 {
         put_answers(p, rig.n);
     }
-    put(b"\n");
     let cards = h.cards;
-    Rig {
-        cards: cards,
-        n: rig.n,
-    }
+    answered_by(cards, rig.n, b"\n")
 }
 
-// A reply without its CR and LF.
+// A reply without its CR and LF, and what comes before it.
 fn put_reply(k: u8, len: usize, reply: &[u8]) {
     put_number(k as u64);
     put(b" ");
     put_number(len as u64);
     put(b" ");
     if len < 2 {
-        put(b"-\n");
+        put(b"-");
         return;
     }
     if reply.len() < len {
-        put(b"-\n");
+        put(b"-");
         return;
     }
     put(&reply[0..len - 2]);
-    put(b"\n");
 }
 
 // The card after the line; what it answers is printed.
@@ -275,7 +276,9 @@ fn line_to(rig: Rig, line: &[u8]) -> Rig {
     let t = taken_from(rig, number.value);
     let mut reply = [0u8; REPLY];
     let c = answered(t, card_of(rig, i), &line[from..], &mut reply[0..size]);
-    with_card(rig, i, c)
+    let after = with_card(rig, i, c);
+    let cards = after.cards;
+    answered_by(cards, after.n, b"\n")
 }
 
 fn loaded(t: Taken, card: Card, bytes: [u8; RECORD], len: usize) -> Loaded {
@@ -297,9 +300,10 @@ fn load(rig: Rig, line: &[u8]) -> Rig {
     let bytes = record.bytes;
     let r = loaded(t, card_of(rig, i), bytes, record.len);
     put_number(r.k as u64);
-    put(b"\n");
     let c = r.card;
-    with_card(rig, i, c)
+    let after = with_card(rig, i, c);
+    let cards = after.cards;
+    answered_by(cards, after.n, b"\n")
 }
 
 fn call(rig: Rig, line: &[u8]) -> Rig {
@@ -343,15 +347,19 @@ fn taken(rig: Rig, r: Reader, block: &[u8]) -> Rig
     call(rig, &block[start..end])
 }
 
-// The calls of an input.
+// The calls of an input. A write that fails ends them.
 fn run(input: i32) {
     let mut block = [0u8; BUFFER];
     let mut line = [0u8; KEPT];
     let fresh = start_card();
     let cards = [fresh; ROOM];
-    let mut rig = Rig { cards: cards, n: 0 };
+    let mut rig = Rig {
+        cards: cards,
+        n: 0,
+        wrote: true,
+    };
     let mut r = input::start();
-    while r.left > 0 && r.going {
+    while r.left > 0 && r.going && rig.wrote {
         r = next_line(r, input, &mut block, &mut line);
         rig = taken(rig, r, &block);
     }

@@ -69,14 +69,23 @@ fn others(card: Card, b: u32) -> u64
     words::with_set(set, b) ^ words::with_set(0, b)
 }
 
-// The row of a connector, where something depends on it. The result is whether something does.
-fn put_row(card: Card, b: u32) -> bool
+// The end of a line that goes before another one.
+fn put_break(wanted: bool) {
+    if wanted {
+        put(b"\n");
+    }
+}
+
+// The row of a connector, where something depends on it; `before` says whether a row comes before
+// it. The result is whether something does.
+fn put_row(card: Card, b: u32, before: bool) -> bool
     requires { ⌜ b < 64 ⌝ }
 {
     let set = others(card, b);
     if set == 0 {
         return false;
     }
+    put_break(before);
     put_name(b);
     put(b":");
     if (set & CELL_BASES) != 0 {
@@ -87,7 +96,6 @@ fn put_row(card: Card, b: u32) -> bool
         }
     }
     put_names(set, FIRST, END);
-    put(b"\n");
     true
 }
 
@@ -95,7 +103,7 @@ fn put_row(card: Card, b: u32) -> bool
 fn put_rows(card: Card) -> bool {
     let mut any = false;
     for b in FIRST..END {
-        if put_row(card, b) {
+        if put_row(card, b, any) {
             any = true;
         }
     }
@@ -115,6 +123,7 @@ fn lines_to(card: Card, b: u32) -> u64
     set
 }
 
+// A column, after the rows.
 fn put_column(card: Card, b: u32)
     requires { ⌜ b < 64 ⌝ }
 {
@@ -122,10 +131,10 @@ fn put_column(card: Card, b: u32)
     if set == 0 {
         return;
     }
+    put(b"\n");
     put_name(b);
     put(b" <-");
     put_names(set, FIRST, END);
-    put(b"\n");
 }
 
 fn put_columns(card: Card) {
@@ -134,12 +143,15 @@ fn put_columns(card: Card) {
     }
 }
 
+// The end of the last line is written with a check, so that an output which takes nothing is
+// reported once.
 fn survey_of(card: Card) {
     if put_rows(card) {
         put_columns(card);
     } else {
-        put(b"Nothing depends on any line.\n");
+        put(b"Nothing depends on any line.");
     }
+    program::writer::write(b"\n");
 }
 
 fn main() {
