@@ -1,9 +1,10 @@
-// Checks the page:  node clients/web/check.mjs [PAGE] [--shots DIR] [--firefox] [--no-browser] [--step NAME]
+// Checks the page:  node clients/web/check.mjs [PAGE] [--shots DIR] [--firefox] [--no-browser] [--walk] [--step NAME]
 //
 // 1. its modules give the bytes of target/bin's programs on every stored session and on random wirings, and the stored outputs
-// 2. with the questions that the page puts between the lines, plexplain gives the answers that plrun gives without
+// 2. plrun, the rows and the sentences of plexplain have the same answers, and a card put together from rows is the one that reads back
 // 3. what a form writes is what the card then reads, on examples and on random wirings
-// 4. the page in Chromium, and with --firefox there too: what a person does, and what is shown. With --step only that step, and none of 1 to 3.
+// 4. the page in Chromium, and with --firefox there too: what a person does, and what is shown. With --walk only this, and with --step
+//    only that step of it.
 import fs from 'node:fs';
 import os from 'node:os';
 import path from 'node:path';
@@ -27,7 +28,7 @@ const STEPS = [
   [walk.prints], [walk.wiresFirstExample], [walk.looksAtReasons], [walk.predicts], [walk.doesExercise], [walk.keepsRecord, 'plsave'], [walk.findsWiring, 'plcheck'],
   [walk.callsRack, 'plrack'], [walk.takesHint], [walk.triesLookup], [forms.wiresByForm], [forms.pressesTable], [forms.setsTriggerAndState], [forms.rebuildsExamples],
   [forms.drawsWirings], [forms.completesNames], [forms.typesFast], [more.asksOfBusyLine, 'plreach'], [more.stopsAsking, 'plreach'], [more.tellsTime], [more.makesManyTicks],
-  [more.readsManual], [more.opensAnything], [more.asksBeforeRecord, 'plsave'], [more.keepsWork], [more.handsIn, 'plcheck'], [walk.labelsByTick], [walk.meetsRefusal],
+  [more.readsManual], [more.opensAnything], [more.asksBeforeRecord, 'plsave'], [more.switchesCells, 'plsave'], [more.keepsWork], [more.handsIn, 'plcheck'], [walk.labelsByTick], [walk.meetsRefusal],
   [walk.opensEverything], [walk.opensCarriageReturns], [walk.runsLong], [walk.followsLink], [walk.fits], [more.holdsPhone],
 ];
 const ON_PHONE = [[walk.wiresFirstExample], [walk.looksAtReasons]];
@@ -63,7 +64,7 @@ try {
   const page = fs.readFileSync(file, 'utf8');
   const bytes = modulesIn(page);
   const modules = Object.fromEntries(Object.entries(bytes).map(([name, b]) => [name, new WebAssembly.Module(b)]));
-  if (!only) {
+  if (!only && !words.includes('--walk')) {
     comparePage(page, bytes, work);
     compareModules(bytes);
     compareBytes(modules);

@@ -1,10 +1,9 @@
 // Numbers by name while lines are typed: behind `M E=`, `36CCA Y=`, `36CCB X=` and the like a list of what may stand there. Letters find names, digits numbers;
 // what is chosen is put in as its number, since the card takes no other.
 
-import { FRESH_POINTER, placeIn, typeIn } from './words.js';
-import { PLACES, isCell, nameOf, placeOf } from './wire.js';
+import { isCell, nameOf, placesOf } from './session.js';
 import { catalogue, connectorTypes } from './form.js';
-import { state, view, change } from './state.js';
+import { state, cardAt, change } from './state.js';
 import { byId, escapeText } from './dom.js';
 
 const LISTED = 60;
@@ -12,31 +11,23 @@ const list = { options: [], at: -1, from: 0, to: 0 };
 
 // ---- what may stand there
 
-const placesByName = () => PLACES.map((p) => [p, nameOf(p)]);
+const placesByName = () => placesOf(state.cells).map((p) => [p, nameOf(p)]);
 const typesByName = (place) => (isCell(place) ? catalogue().types.map((t) => [t.type, t.name]) : connectorTypes().map((t) => [t.type, t.name]));
 const addressesByName = (edge) => Object.entries(catalogue().addresses).map(([a, name]) => [Number(a), name]).filter(([a]) => !edge || a >= 128);
 
-const isEdgeSlot = (place, slot) => {
-  const type = catalogue().types.find((t) => t.name === typeAt(place));
-  return Boolean(type?.slots[slot]?.edge);
-};
-
-// The type of a cell, in plexplain's words of the line above.
-let above = '';
-const typeAt = (place) => (isCell(place) ? typeIn(above) : null);
-
-function choicesFor(before, place) {
+// `card` is the one at the line above.
+function choicesFor(before, { pointer, parts }) {
   if (/^M E=\w*$/.test(before)) return placesByName();
-  if (/^36CCA Y=[\w ,-]*$/.test(before)) return typesByName(place);
-  if (/^36CCA Z=[\w ]*$/.test(before) && !isCell(place)) return addressesByName(false);
+  if (/^36CCA Y=[\w ,-]*$/.test(before)) return typesByName(pointer);
+  if (/^36CCA Z=[\w ]*$/.test(before) && !isCell(pointer)) return addressesByName(false);
   const slot = before.match(/^36CCB (?:[XYZF]=\d+ )*([XYZF])=[A-Za-z]?[\w ]*$/)?.[1];
-  return slot && isCell(place) ? addressesByName(isEdgeSlot(place, slot)) : null;
+  return slot && isCell(pointer) ? addressesByName(catalogue().types[parts[pointer].type].slots[slot]?.edge) : null;
 }
 
-function found(before, place) {
+function found(before, card) {
   const typed = before.slice(before.lastIndexOf('=') + 1);
   const fits = ([value, name]) => (/^\d*$/.test(typed) ? String(value).startsWith(typed) : name.toLowerCase().includes(typed.trim().toLowerCase()));
-  const options = (choicesFor(before, place) ?? []).filter(fits).slice(0, LISTED);
+  const options = (choicesFor(before, card) ?? []).filter(fits).slice(0, LISTED);
   const done = options.some(([value]) => String(value) === typed) && options.length === 1;
   return { typed, options: done ? [] : options };
 }
@@ -52,8 +43,7 @@ function lineAtCaret(area) {
 export function showCompletions(area) {
   const { index, before, atEnd } = lineAtCaret(area);
   if (!atEnd || !before.includes('=') || state.cover?.exercise) return closeCompletions();
-  above = view.session.entries[index - 1]?.pointer ?? FRESH_POINTER;
-  const { typed, options } = found(before, placeOf(placeIn(above)));
+  const { typed, options } = found(before, cardAt(index - 1));
   Object.assign(list, { options, at: -1, from: area.selectionStart - typed.length, to: area.selectionStart });
   if (!options.length) return closeCompletions();
   const box = byId('complete');

@@ -1,7 +1,8 @@
 // The timing diagram: rows of levels, one column for each tick line. It draws what the session holds and decides nothing about the card.
 
-import { bitOf } from './session.js';
-import { countIn, told } from './words.js';
+import { bitOf, isCell, nameOf } from './session.js';
+import { FIXED_BASE, addressName, placesIn } from './wire.js';
+import { countOf, describe, readsOf, typeName } from './form.js';
 import { escapeText, msWords } from './dom.js';
 
 const NARROW = 22;
@@ -20,32 +21,25 @@ const END = 5; // behind the last column, where the mark of other lines may stan
 
 // Inputs, then cells, then outputs, in the order that the last card gives. A row is left out when it was never high and neither of the two cards speaks of
 // it: the last one, and the one at the line that is looked at, which gives the labels.
-export function rowsOf(session, last, at, showAll) {
+export function rowsOf(session, { parts: last }, { parts: at }, showAll) {
   const ticks = session.ticks.filter((e) => !e.tick.idle && !e.covered).map((e) => e.tick);
-  const named = new Set([last, at].flatMap((card) => [...card.cells, ...card.connectors]).flatMap((part) => part.names));
-  const rows = [];
-  const add = (row, wired) => {
-    if (showAll || named.has(row.name) || wired || ticks.some(row.level)) rows.push(row);
-  };
-  const isDriven = (c) => !c.isInput && c.address !== '0';
-  const isWired = (c) => c.typeName !== 'constant';
-  const connectors = (inputs) => last.connectors.forEach((c, i) => {
-    if (c.isInput === inputs) add(connectorRow(at.connectors[i], i), isDriven(c) || isDriven(at.connectors[i]));
-  });
-  connectors(true);
-  last.cells.forEach((c, i) => add(cellRow(at.cells[i]), isWired(c) || isWired(at.cells[i])));
-  connectors(false);
-  return rows;
+  const places = placesIn(last);
+  const read = new Set([last, at].flatMap((parts) => placesIn(parts).flatMap((p) => readsOf(parts[p], p))).map((a) => a % FIXED_BASE));
+  const isWired = (part, place) => part.type !== 0 && (isCell(place) || part.configuration !== 0);
+  const isInput = (place) => last[place].type === 0;
+  const inOrder = [...places.filter((p) => !isCell(p) && isInput(p)), ...places.filter(isCell), ...places.filter((p) => !isCell(p) && !isInput(p))];
+  const rows = inOrder.map((p) => ({ ...(isCell(p) ? cellRow : connectorRow)(p, at[p]), shown: read.has(p) || isWired(last[p], p) || isWired(at[p], p) }));
+  return rows.filter((row) => showAll || row.shown || ticks.some(row.level));
 }
 
-const connectorRow = (c, i) => ({
-  name: c.name, group: c.isInput ? 'input' : 'output', label: c.isInput ? c.name : `${c.name} ← ${c.source}`, note: c.kind, help: `${c.name}: ${c.words}.`,
-  level: (t) => bitOf(t.levels, i),
+const connectorRow = (place, part) => ({
+  name: nameOf(place), group: part.type ? 'output' : 'input', label: `${nameOf(place)}${part.type ? ` ← ${addressName(part.configuration)}` : ''}`,
+  note: typeName(part, place), help: `${nameOf(place)}: ${describe(part, place)}.`, level: (t) => bitOf(t.levels, place - 33),
 });
 
-const cellRow = (c) => ({
-  name: c.name, group: 'cell', cell: c.cell, label: c.name, note: c.typeName, help: `${c.name} (${c.typeName}): ${c.words.join('; ')}`,
-  level: (t) => bitOf(t.cells, c.cell - 1), woken: (t) => bitOf(t.woken, c.cell - 1),
+const cellRow = (place, part) => ({
+  name: nameOf(place), group: 'cell', cell: place, label: nameOf(place), note: typeName(part, place), help: `${nameOf(place)} (${typeName(part, place)}): ${describe(part, place)}`,
+  level: (t) => bitOf(t.cells, place - 1), woken: (t) => bitOf(t.woken, place - 1),
 });
 
 // ---- the drawing
@@ -93,17 +87,15 @@ function rowGround(row, i, columns, column) {
   let counts = '';
   columns.forEach((e, c) => {
     if (e.tick.idle || e.covered || !row.woken(e.tick)) return;
-    const named = !e.tick.full || (told(e.tick).named?.includes(row.name) ?? true);
-    paths[named ? 'woken' : 'woken-full'] += `M${c * column} ${y + 1}h${column}v${size.row - 2}h${-column}z`;
-    if (column >= COUNTS_FROM) counts += countText(told(e.tick).reasons[row.cell], c * column + column / 2, y + size.row / 2 + 3, column);
+    paths[row.cell in e.tick.named ? 'woken' : 'woken-full'] += `M${c * column} ${y + 1}h${column}v${size.row - 2}h${-column}z`;
+    if (column >= COUNTS_FROM) counts += countText(countOf(e.tick, row.cell), c * column + column / 2, y + size.row / 2 + 3, column);
   });
   return Object.entries(paths).map(([cls, d]) => (d ? `<path class="${cls}" d="${d}"/>` : '')).join('') + counts + line;
 }
 
-// The count that plexplain gives for a timer or a counter; three dots where it does not fit.
-function countText(reason, x, y, column) {
-  const count = countIn(reason);
-  return count ? `<text class="count" x="${x}" y="${y}">${count.length * 6 < column ? count : '…'}</text>` : '';
+// The count of a timer or a counter; three dots where it does not fit.
+function countText(count, x, y, column) {
+  return count === null ? '' : `<text class="count" x="${x}" y="${y}">${String(count).length * 6 < column ? count : '…'}</text>`;
 }
 
 function grid(columns, height, column) {

@@ -1,11 +1,9 @@
 // The wiring as a drawing: what layout.js placed, as SVG, with the levels of the tick that is looked at. While the wiring stays the same only what the tick
 // changes is drawn anew: levels, woken cells, counts.
 
-import { bitOf } from './session.js';
-import { countIn, told } from './words.js';
+import { bitOf, isCell, nameOf } from './session.js';
 import { PORT, baseOf, layoutOf, spanOf, within } from './layout.js';
-import { isCell, nameOf } from './wire.js';
-import { catalogue, typeName, fixedWords, addressWords } from './form.js';
+import { catalogue, countOf, typeName, fixedWords, addressWords } from './form.js';
 import { state, wired, tickLookedAt } from './state.js';
 import { byId, escapeText } from './dom.js';
 
@@ -66,7 +64,7 @@ function portHtml(n, port) {
 
 const wokenClass = (n, t) => {
   if (!t || n.kind !== 'cell' || !bitOf(t.woken, n.place - 1)) return '';
-  return told(t).named?.includes(nameOf(n.place)) ?? true ? ' woken' : ' woken-full';
+  return n.place in t.named ? ' woken' : ' woken-full';
 };
 
 const classOf = (n, t) => `node ${n.kind}${isHigh(n.place, t)}${wokenClass(n, t)}${state.form === n.place ? ' open' : ''}`;
@@ -74,10 +72,9 @@ const classOf = (n, t) => `node ${n.kind}${isHigh(n.place, t)}${wokenClass(n, t)
 // "duration 5", and the count where plexplain gave it: "2 of 5".
 function noteOf(n, t) {
   const { configuration } = catalogue().types[n.part.type];
-  const counted = t ? countIn(told(t).reasons[n.place]) : null;
-  const set = configuration && `${configuration.name === 'duration' && counted ? '' : `${configuration.name} `}${n.part.configuration}`;
-  if (counted && configuration?.name === 'duration') return `${counted} of ${set}`;
-  return [counted && `count ${counted}`, set].filter(Boolean).join(', ').replace(/^duration /, '');
+  const counted = t ? countOf(t, n.place) : null;
+  if (counted !== null && configuration?.name === 'duration') return `${counted} of ${n.part.configuration}`;
+  return [counted !== null && `count ${counted}`, configuration && `${configuration.name} ${n.part.configuration}`].filter(Boolean).join(', ').replace(/^duration /, '');
 }
 
 function nodeHtml(n, t, parts) {
@@ -136,10 +133,10 @@ export function drawingHtml() {
   return `<div class="tools drawing-tools"><button data-new-cell>New cell</button> <button data-save-drawing>Save<span> as wiring.svg</span></button>${legendOf(svg)}</div>
     <div class="canvas">${svg}</div><p class="quiet when">${whenWords(t)}</p>
     <details><summary>the same as a list</summary><ul class="wiring-list">${
-  placesIn(layout).map((p) => `<li><button data-place="${p}">${escapeText(sentenceOf(p, parts, t))}</button></li>`).join('')}</ul></details>`;
+  placesDrawn(layout).map((p) => `<li><button data-place="${p}">${escapeText(sentenceOf(p, parts, t))}</button></li>`).join('')}</ul></details>`;
 }
 
-const placesIn = (layout) => [...new Set(layout.nodes.map((n) => n.place))];
+const placesDrawn = (layout) => [...new Set(layout.nodes.map((n) => n.place))];
 
 const whenWords = (t) => (t ? `Levels of tick ${t.number}; an output shows its source as it was in the tick before.` : 'A box opens its form.');
 

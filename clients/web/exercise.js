@@ -2,7 +2,7 @@
 // a wiring above the ticks, and plcheck compares. Each has a text of its own, and gives a result to hand in.
 
 import { decoded } from './programs.js';
-import { asInput, isRemark, withoutRemarks } from './session.js';
+import { asInput, entriesOf, isRemark, withoutRemarks } from './session.js';
 import { foundWords, totals } from './predict.js';
 import { hashOf } from './link.js';
 import { keep, kept } from './keep.js';
@@ -11,7 +11,7 @@ import { byId, capital, copied, count, escapeText } from './dom.js';
 
 const ranTicks = () => view.session.ticks.filter((e) => e.kind === 'tick');
 
-const handedOut = () => ({ brief: byId('exercise-text').value.trim(), title: state.title, tickMs: state.tickMs });
+const handedOut = () => ({ cells: state.cells, brief: byId('exercise-text').value.trim(), title: state.title, tickMs: state.tickMs });
 
 // ---- ticks to predict
 
@@ -76,12 +76,9 @@ export const checkedCount = () => (state.task ? `Exercise: ${checkedWords().spli
 function comparedLines() {
   const wiring = withoutRemarks(view.session.lines.slice(0, firstTick()));
   const rows = enteredIn(state.task);
-  const answers = decoded(programs().plrun(asInput([...wiring, ...rows.map((r) => r.line)])).output).split('\n').slice(wiring.length);
-  let tick = 0;
-  return rows.map((r, i) => {
-    if (/^T [^-]/.test(answers[i])) tick += 1;
-    return { ...r, came: answers[i], tick };
-  }).filter((r) => r.wanted !== null);
+  const came = entriesOf(programs(), [...wiring, ...rows.map((r) => r.line)]).slice(wiring.length);
+  const tickAt = (i) => came.slice(0, i + 1).findLast((e) => e.tick?.number)?.tick.number ?? 0;
+  return rows.map((r, i) => ({ ...r, came: came[i].answer, tick: tickAt(i) })).filter((r) => r.wanted !== null);
 }
 
 // ---- the tab

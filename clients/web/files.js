@@ -1,14 +1,14 @@
 // Lines as files and links. What is opened may be lines, a transcript, a record or a link, in UTF-8 or UTF-16; what had to be done to it is said.
 
 import { decoded } from './programs.js';
-import { asInput, isRemark, splitLines } from './session.js';
+import { SIZES, asInput, isRemark, sizeWords, splitLines } from './session.js';
 import { TICK_MS, hashIn, readHash } from './link.js';
 import { isQuestion } from './reach.js';
 import { refusalWords } from './record.js';
 import { promisesText } from './questions.js';
 import { when } from './runs.js';
 import { forget, kept } from './keep.js';
-import { state, view, programs, has, openText, outputFor, writeAddress, keepWork } from './state.js';
+import { state, view, programs, programsOfSize, has, openText, outputFor, writeAddress, keepWork } from './state.js';
 import { byId, capital, copied, count, download, notice } from './dom.js';
 
 // ---- bytes to text
@@ -60,19 +60,19 @@ function withoutQuestions(lines) {
 }
 
 const UNIT = /^# 1 tick = (\d+(?:\.\d+)?) ms$/;
+const SIZE = /^# a card of (16|32) cells$/;
 
-// What a file of lines holds: { text, questions, tickMs, notes }.
+// What a file of lines holds: { text, questions, tickMs, notes }, and `cells` where it says so.
 export function readLines(name, text, said = []) {
   const { lines: all } = splitLines(text);
   const entered = enteredLines(all);
   const { lines: both, questions } = withoutQuestions(entered ?? all);
-  const unit = both.findIndex((line) => UNIT.test(line));
-  const tickMs = unit < 0 ? TICK_MS : Number(both[unit].match(UNIT)[1]);
-  const lines = both.filter((_, i) => i !== unit);
+  const [unit, size] = [UNIT, SIZE].map((form) => both.find((line) => form.test(line)));
+  const lines = both.filter((line) => line !== unit && line !== size);
   const notes = [...said];
   if (entered) notes.push(`${name} is a transcript: its ${count(lines.length, 'line')} are here, its answers are left out.${comparedWords(text, all)}`);
   if (questions.length) notes.push(`${count(questions.length, 'question')} about the wiring: see Never? Always?`);
-  return { text: asInput(lines), questions, tickMs, notes };
+  return { text: asInput(lines), questions, tickMs: unit ? Number(unit.match(UNIT)[1]) : TICK_MS, notes, ...(size ? { cells: Number(size.match(SIZE)[1]) } : {}) };
 }
 
 // Whether the answers of a transcript are those that come.
@@ -81,7 +81,7 @@ function comparedWords(text, lines) {
   return ` plcheck: ${decoded(programs().plcheck(text.endsWith('\n') ? text : `${text}\n`).output).trimEnd().split('\n').at(-1)}.`;
 }
 
-export const fileText = () => `${state.tickMs === TICK_MS ? '' : `# 1 tick = ${state.tickMs} ms\n`}${asInput(view.session.lines)}${
+export const fileText = () => `${state.cells === 16 ? '' : `# a card of ${state.cells} cells\n`}${state.tickMs === TICK_MS ? '' : `# 1 tick = ${state.tickMs} ms\n`}${asInput(view.session.lines)}${
   state.questions.length ? `\n${asInput(state.questions)}` : ''}`;
 
 // ---- opening and saving
@@ -96,12 +96,15 @@ async function openFile(file) {
   return openText(lines, { ...found, title: file.name.replace(/\.\w+$/, '') });
 }
 
+// A record of the other size is opened as that, and is called so.
 function openRecord(name, bytes) {
-  const { output, errors } = programs().plload(bytes);
-  notice(output.length ? '' : `${name} is no text, and as a record plload refuses it. ${refusalWords(errors)}`);
-  if (output.length) {
-    openText(decoded(output), { title: name.replace(/\.\w+$/, ''), notes: [`These lines are the wiring of ${name}, a record of ${bytes.length} bytes, as plload gives it.`] });
-  }
+  const tries = [state.cells, ...SIZES.filter((cells) => cells !== state.cells)].map((cells) => ({ cells, ...programsOfSize(cells).plload(bytes) }));
+  const found = tries.find(({ output }) => output.length);
+  notice(found ? '' : `${name} is no text, and as a record plload refuses it. ${refusalWords(tries[0].errors)}`);
+  if (!found) return;
+  const other = found.cells === state.cells ? '' : ` It is of a card of ${sizeWords(found.cells)} cells, so the page shows that card now, and no longer one of ${sizeWords(state.cells)}.`;
+  openText(decoded(found.output), { cells: found.cells, title: name.replace(/\.\w+$/, ''),
+    notes: [`These lines are the wiring of ${name}, a record of ${bytes.length} bytes, as plload gives it.${other}`] });
 }
 
 // A name for a file: the title, as far as file names go.
@@ -119,14 +122,17 @@ function confirmed(words, yes) {
   byId('sure').showModal();
 }
 
-// What a program writes, under its name in the table of programs. A record of lines of which some were refused is not what was meant, perhaps.
+// What a program writes, under its name in the table of programs. A wiring of which some lines were refused is not what was meant, perhaps.
 export function saveOutput(program) {
-  const save = () => when(outputFor(program), ({ output }) => download(program.file, program.rewrite?.(output) ?? output));
+  const save = (anyway) => when(outputFor(program, anyway), ({ output, errors }) => {
+    if (output.length) download(program.file, program.rewrite?.(output) ?? output);
+    else notice(`Nothing to save: ${program.name} says ${refusalWords(errors)}`);
+  });
   const refused = view.session.entries.filter((e) => e.kind === 'refused');
-  if (!program.record || !refused.length) return save();
+  if (!program.anyway || !refused.length) return save(false);
   const lines = refused.slice(0, 5).map((e) => e.index + 1).join(', ');
   return confirmed(`${refused.length === 1 ? `Line ${lines} was` : `${refused.length} lines were`} refused${refused.length === 1 ? '' : ` (line ${lines}${refused.length > 5 ? ' …' : ''})`}. `
-    + 'The record holds the wiring without what was refused. Save it all the same?', save);
+    + 'What is saved is of the wiring without what was refused. Save it all the same?', () => save(true));
 }
 
 export const savePromises = () => download('promises.txt', promisesText());

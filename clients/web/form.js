@@ -1,18 +1,17 @@
 // The form of a cell or a connector. It shows what the card reads behind the lines, by name, and a choice in it becomes lines: see wire.js.
 //
-// Names of types, slots and addresses are plexplain's, sentences the manual's. An address is a base, which says what is read, and how it is read: 0, 64, 128
+// Names of types and slots are plexplain's, sentences the manual's. An address is a base, which says what is read, and how it is read: 0, 64, 128
 // or 192 more.
 
-import { FIRST_CONNECTOR, truthTable, runSession, isRemark, isTick, bitOf } from './session.js';
-import { isHintOn, withoutNumber } from './words.js';
-import { PLACES, TRIGGER, isCell, nameOf, catalogueOf, FIXED_BASE } from './wire.js';
+import { FIRST_CONNECTOR, truthTable, runSession, isRemark, isTick, isCell, nameOf, sizeWords, bitOf } from './session.js';
+import { TRIGGER, addressName, catalogueOf, placesIn, FIXED_BASE } from './wire.js';
 import { state, view, programs, wired, wiredStates, rewire, setState, openForm, toggleBit, change } from './state.js';
 import { byId, escapeText, forgetRow, notice, put, putRows } from './dom.js';
 
 const HOWS = [[0, 'high'], [64, 'low'], [128, 'rises'], [192, 'falls']];
 const EVERY_TICK = 192;
 
-const form = { catalogue: null, kinds: [], connectors: [], drives: '', byPointer: false };
+const form = { kinds: [], connectors: [], drives: '', byPointer: false };
 
 export function describeParts({ kinds, connectors }, steps) {
   Object.assign(form, { kinds, connectors, drives: steps[0] });
@@ -20,24 +19,39 @@ export function describeParts({ kinds, connectors }, steps) {
 
 export const connectorTypes = () => form.connectors;
 
-export const catalogue = () => (form.catalogue ??= catalogueOf(programs()));
+export const catalogue = () => catalogueOf(programs());
 
 // ---- a part, as the form and the drawing speak of it
 
-const isFree = (part, place, parts) => part.type === 0 && part.configuration === 0 && !PLACES.some((p) => readsOf(parts[p], p).some((a) => a % FIXED_BASE === place));
+const isFree = (part, place, parts) => part.type === 0 && part.configuration === 0 && !placesIn(parts).some((p) => readsOf(parts[p], p).some((a) => a % FIXED_BASE === place));
 
 // The addresses that a part reads.
 export const readsOf = (part, place) => (isCell(place) ? Object.values(part.slots) : part.type === 0 ? [] : [part.configuration]);
 
 export const typeName = (part, place) => (isCell(place) ? catalogue().types[part.type].name : form.connectors[part.type].name);
 
-const freeCell = (parts) => PLACES.find((p) => isCell(p) && isFree(parts[p], p, parts)) ?? null;
+const freeCell = (parts) => placesIn(parts).find((p) => isCell(p) && isFree(parts[p], p, parts)) ?? null;
 
 // "TTL0 rises", "cell 3 is low", "in every tick"
 export function addressWords(address, edge) {
   const base = address % FIXED_BASE;
   if (base) return `${nameOf(base)} ${HOWS.find(([more]) => more === address - base)[1]}`;
   return fixedWords(address, edge);
+}
+
+// "duration 2; X (trigger) 169, rise of TTL0; Y (clock) 192, always high", or "push-pull from 1, cell 1".
+export function describe(part, place) {
+  const numbered = (address) => `${address}, ${addressName(address)}`;
+  if (!isCell(place)) return `${typeName(part, place)}${part.type ? ` from ${numbered(part.configuration)}` : ''}`;
+  const { configuration, slots } = catalogue().types[part.type];
+  const reads = Object.entries(slots).map(([s, { name }]) => `${s}${name && ` (${name})`} ${numbered(part.slots[s])}`);
+  return [...(configuration ? [`${configuration.name} ${part.configuration}`] : []), ...reads].join('; ');
+}
+
+// The count that a timer or a counter has behind a tick, where the rules name it there.
+export function countOf(tick, cell) {
+  const found = tick.named[cell];
+  return found && catalogue().types[found.type].state?.name === 'count' ? found.count : null;
 }
 
 const FIXED = { level: { 0: 'always low', 64: 'always high', 128: 'never', 192: 'in every tick' }, edge: { 128: 'never', 192: 'in every tick' } };
@@ -49,16 +63,17 @@ export const option = (value, text, chosen) => `<option value="${value}"${chosen
 const group = (label, options) => (options.length ? `<optgroup label="${label}">${options.join('')}</optgroup>` : '');
 const choice = (key, label, options) => `<select data-form="${key}" aria-label="${escapeText(label)}">${options}</select>`;
 
+const [isFront, isBack] = [(p) => p >= 33 && p <= 40, (p) => p > 40];
+
 // What an address reads: one of the fixed levels, a cell, a connector.
 function whatOptions(address, edge, parts) {
   const base = address % FIXED_BASE;
   const fixed = (addresses) => addresses.map((a) => option(a, fixedWords(a, edge), a === address));
-  const ofPlaces = (places) => places.map((p) => option(`base ${p}`, whatName(p, parts), p === base));
+  const ofPlaces = (chosen) => placesIn(parts).filter(chosen).map((p) => option(`base ${p}`, whatName(p, parts), p === base));
   const used = (p) => !isFree(parts[p], p, parts);
   return fixed(edge ? [128, 192] : [0, 64]).join('')
-    + group('cells', ofPlaces(PLACES.filter((p) => isCell(p) && used(p))))
-    + group('front', ofPlaces(PLACES.filter((p) => p >= 33 && p <= 40))) + group('backplane', ofPlaces(PLACES.filter((p) => p > 40)))
-    + group('free cells', ofPlaces(PLACES.filter((p) => isCell(p) && !used(p)))) + (edge ? '' : group('the same as edges', fixed([128, 192])));
+    + group('cells', ofPlaces((p) => isCell(p) && used(p))) + group('front', ofPlaces(isFront)) + group('backplane', ofPlaces(isBack))
+    + group('free cells', ofPlaces((p) => isCell(p) && !used(p))) + (edge ? '' : group('the same as edges', fixed([128, 192])));
 }
 
 export function whatName(place, parts) {
@@ -79,10 +94,9 @@ function addressHtml(key, label, address, edge, parts) {
 // ---- the form
 
 function placeOptions(place, parts) {
-  const options = (places) => places.map((p) => option(p, isCell(p) ? `${nameOf(p)}: ${isFree(parts[p], p, parts) ? 'free' : typeName(parts[p], p)}`
+  const options = (chosen) => placesIn(parts).filter(chosen).map((p) => option(p, isCell(p) ? `${nameOf(p)}: ${isFree(parts[p], p, parts) ? 'free' : typeName(parts[p], p)}`
     : `${nameOf(p)}: ${connectorWords(parts[p])}`, p === place));
-  return group('cells', options(PLACES.filter(isCell))) + group('front', options(PLACES.filter((p) => p >= 33 && p <= 40)))
-    + group('backplane', options(PLACES.filter((p) => p > 40)));
+  return group('cells', options(isCell)) + group('front', options(isFront)) + group('backplane', options(isBack));
 }
 
 const connectorWords = (part) => (part.type === 0 ? 'input' : part.configuration === 0 ? 'off' : `from ${addressWords(part.configuration, false)}`);
@@ -129,7 +143,7 @@ function configurationHtml(part, { name, most }, slots, free) {
 
 // The table of a lookup, each combination tried on a card. An output that is pressed makes another code.
 function tableHtml(part) {
-  const { slots, rows } = truthTable(programs(), { type: part.type, configuration: part.configuration, slotCount: Object.keys(part.slots).length });
+  const { slots, rows } = truthTable(programs(), part);
   const line = (name, cell) => `<tr><th scope="row">${name}</th>${rows.map((r) => `<td>${cell(r)}</td>`).join('')}</tr>`;
   const button = (r) => `<button type="button" data-form="row ${r.p}" aria-pressed="${r.high}" aria-label="${combination(part, slots, r.p)}: ${r.high ? 'high' : 'low'}">${r.high ? 1 : 0}</button>`;
   return `<table class="press"><caption>its table: press an output to turn it over</caption><tbody>${
@@ -147,7 +161,7 @@ function connectorForm(place, part, parts) {
     row('next tick', `<label class="attached"><input type="checkbox" data-form="attached" ${attached ? 'checked' : ''}> something is attached</label>`)];
 }
 
-const hintsOf = (place) => view.hints.filter((h) => isHintOn(h, nameOf(place)));
+const hintsOf = (place) => view.hints.filter((h) => h.cell === place || h.connector === nameOf(place));
 
 // The frame of the form, and its rows.
 function formHtml() {
@@ -155,7 +169,7 @@ function formHtml() {
   const place = state.form;
   const rows = isCell(place) ? cellForm(place, parts[place], parts) : connectorForm(place, parts[place], parts);
   const said = state.formSaid ? `<p class="bad said" role="alert">${escapeText(state.formSaid)}</p>` : '';
-  const hints = hintsOf(place).map((h) => `<p class="hinted said">${escapeText(h)}</p>`).join('');
+  const hints = hintsOf(place).map((h) => `<p class="hinted said">${escapeText(h.words)}</p>`).join('');
   const frame = `<div class="form-head">${choice('place', 'Cell or connector', placeOptions(place, parts))}<span class="grow"></span>
     <button type="button" data-form="remove" title="takes its lines away">Clear</button> <button type="button" data-form="close" aria-label="Close the form">Close</button></div>
     <fieldset ${state.cover?.exercise ? 'disabled' : ''}></fieldset>${said}${hints}`;
@@ -231,21 +245,24 @@ function chosen(element) {
   if (what === 'tickMs') return change({ tickMs: Number(element.value) || 0 });
   if (what === 'attached') return toggleBit('attached', state.form - FIRST_CONNECTOR);
   if (what === 'state') return setState(state.form, Number(element.value));
-  return write(wantedBy(what, key, element.value, state.form, cleaned(wired().parts[state.form], state.form)));
+  return write(wantedBy(what, key, element.value, state.form, wired().parts[state.form]));
 }
-
-// A counter's configuration only reads its count.
-const cleaned = (part, place) => (isCell(place) && !catalogue().types[part.type].configuration ? { ...part, configuration: null } : part);
 
 const write = (wanted) => rewire(state.form, wanted, initialOf(state.form, wanted.type));
 
 const handed = (line) => !isTick(line) && !isRemark(line);
 
+// What plexplain says of a line, without the refusal's number, which the answer has, and without its first sentence where that says where the line goes.
+export function withoutNumber({ refusal, astray, words }) {
+  const text = words.slice(astray ? 1 : 0).join('\n');
+  return text.startsWith(`${refusal}: `) ? text.slice(`${refusal}: `.length) : text;
+}
+
 // What plexplain says of the line that the card would refuse, or of what a line changes besides.
 export function againstWords({ refused, others, lines }) {
   if (refused) {
-    const { line, answer, words } = runSession(programs(), lines.slice(0, refused.index + 1).filter(handed)).entries.at(-1);
-    return `Not written: ${line} ${answer}, ${withoutNumber(words.join('\n'))}`;
+    const entry = runSession(programs(), lines.slice(0, refused.index + 1).filter(handed)).entries.at(-1);
+    return `Not written: ${entry.line} ${entry.answer}, ${withoutNumber(entry)}`;
   }
   if (!others.length) return 'Not written: a line behind it sets this again. Change it in the lines.';
   const source = runSession(programs(), lines.filter(handed)).entries.findLast((e) => e.line.startsWith('PM E='));
@@ -262,7 +279,7 @@ export function clearPart() {
 export function newCell() {
   const place = freeCell(wired().parts);
   if (place) openForm(place);
-  else notice('All sixteen cells are in use.');
+  else notice(`All ${sizeWords(state.cells)} cells are in use.`);
 }
 
 export function listenToForm() {

@@ -49,7 +49,7 @@ export const savedBytes = (page) => page.evaluate('window.saved');
 export const savedText = async (page) => Buffer.from(await savedBytes(page)).toString();
 
 export const program = (name, input, words = [], encoding = 'utf8') => spawnSync(path.join(TOP, 'target', 'bin', name), words, { input }).stdout.toString(encoding);
-export const plprint = (input) => program('plprint', input);
+export const plprint = (input, words = []) => program('plprint', input, words);
 
 // The lamp on BNC3 for five ticks, twenty ticks after TTL0, not while BNC2 is high.
 export const TASK = ['M E=34', '36CCA Y=0', 'M E=1', '36CCA Y=15', '36CCA Z=20', '36CCB X=169 Y=192', 'M E=2', '36CCA Y=14', '36CCA Z=5', '36CCB X=129 Y=192 Z=34',

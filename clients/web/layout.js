@@ -5,7 +5,8 @@
 // Where there are many columns they fold into bands, one below the other; an input that several bands read stands in each. What leads back, or into another
 // band, goes along a lane below a band.
 
-import { PLACES, isCell, FIXED_BASE } from './wire.js';
+import { isCell } from './session.js';
+import { FIXED_BASE, placesIn } from './wire.js';
 import { catalogue, readsOf } from './form.js';
 
 const BOX = 148;
@@ -28,9 +29,10 @@ export const baseOf = (address) => address % FIXED_BASE;
 
 // Boxes, and who feeds whom. A connector that is read stands left, one that is driven right; one that is both stands twice.
 function graphOf(parts) {
-  const read = new Set(PLACES.flatMap((p) => readsOf(parts[p], p).map(baseOf)));
-  const cells = PLACES.filter((p) => isCell(p) && (parts[p].type !== 0 || parts[p].configuration || read.has(p))).map((p) => cellNode(p, parts[p]));
-  const outputs = PLACES.filter((p) => !isCell(p) && parts[p].type !== 0 && parts[p].configuration !== 0).map((p) => pillNode('out', p, parts[p].configuration));
+  const places = placesIn(parts);
+  const read = new Set(places.flatMap((p) => readsOf(parts[p], p).map(baseOf)));
+  const cells = places.filter((p) => isCell(p) && (parts[p].type !== 0 || parts[p].configuration || read.has(p))).map((p) => cellNode(p, parts[p]));
+  const outputs = places.filter((p) => !isCell(p) && parts[p].type !== 0 && parts[p].configuration !== 0).map((p) => pillNode('out', p, parts[p].configuration));
   const edges = [...cells, ...outputs].flatMap((to) => to.ports.flatMap((port) => edgeTo(to, port, cells)));
   return { cells, outputs, edges };
 }

@@ -1,6 +1,7 @@
 // The wiring stands in the address behind #, deflated: a reload keeps it, and the address is a link to it. No server sees it.
 //
 //   #w=CODE        the lines
+//   &c=32          the card has thirty-two cells
 //   &l=N           line N is looked at
 //   &q=CODE        questions about the wiring, deflated too
 //   &u=MS          the length of a tick in ms
@@ -10,6 +11,8 @@
 //   &d=CODE        the text of an exercise
 //
 // What it does not know it passes over, so that an older page takes a newer link as far as it goes.
+
+import { SIZES } from './session.js';
 
 export const TICK_MS = 0.25; // as the manual has it: 4000 ticks a second
 
@@ -29,10 +32,10 @@ async function unpacked(code) {
 }
 
 // Lines are counted from 1 in an address, as in the page, and from 0 in here.
-export async function hashOf({ text, looksAt = null, coveredFrom = null, task = null, brief = '', questions = [], tickMs = TICK_MS, title = '' }) {
+export async function hashOf({ text, cells = 16, looksAt = null, coveredFrom = null, task = null, brief = '', questions = [], tickMs = TICK_MS, title = '' }) {
   if (!text && !task && !questions.length && !title) return '#';
   const parts = [
-    ['w', await packed(text)], looksAt !== null && ['l', looksAt + 1], questions.length && ['q', await packed(questions.join('\n'))],
+    ['w', await packed(text)], cells !== 16 && ['c', cells], looksAt !== null && ['l', looksAt + 1], questions.length && ['q', await packed(questions.join('\n'))],
     tickMs !== TICK_MS && ['u', tickMs], title && ['n', encodeURIComponent(title)],
     coveredFrom !== null && ['x', coveredFrom + 1], task !== null && ['t', await packed(task)], brief && ['d', await packed(brief)],
   ];
@@ -54,7 +57,7 @@ export async function readHash(hash) {
   };
   const line = (key) => (number(key) ? number(key) - 1 : null);
   return {
-    text: await unpacked(found.w), title: decodeURIComponent(found.n ?? ''), questions: (await optional('q'))?.split('\n') ?? [],
+    text: await unpacked(found.w), cells: SIZES.find((cells) => cells === number('c')) ?? 16, title: decodeURIComponent(found.n ?? ''), questions: (await optional('q'))?.split('\n') ?? [],
     task: await optional('t'), brief: await optional('d') ?? '', coveredFrom: line('x'), looksAt: line('l'), tickMs: number('u') ?? TICK_MS,
   };
 }

@@ -50,7 +50,7 @@ export function makePage(wasm) {
   Object.values(bytes).forEach((b) => hash.update(b));
   const parts = {
     'page.css': read('page.css'),
-    names: named(PROGRAMS.map((p) => p.name)),
+    names: named(PROGRAMS.map((p) => p.name).filter((name) => name !== 'plrun')), // which has no card of thirty-two cells
     wasm: safeJson(Object.fromEntries(Object.entries(bytes).map(([name, b]) => [name, b.toString('base64')]))),
     material: safeJson({ ...materialOf(TOP), programs: PROGRAMS, build: `${version}, ${hash.digest('hex').slice(0, 12)}` }),
     worker: safeCode(joined([...ENGINE, 'worker.js'])),

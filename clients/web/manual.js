@@ -1,8 +1,8 @@
 // The manual inside the page, each section a link away; and the tables as a tab beside the lines, whose numbers are put into the lines at a press.
 
-import { PLACES, isCell, nameOf } from './wire.js';
+import { isCell, nameOf, placesOf } from './session.js';
 import { catalogue } from './form.js';
-import { change, openText } from './state.js';
+import { state, change, openText } from './state.js';
 import { byId, escapeText, notice } from './dom.js';
 
 const papers = { manual: [], tables: [] };
@@ -13,19 +13,21 @@ export function describePapers({ manual, tables }) {
 
 // ---- the manual
 
-const sectionId = (number) => `section-${number}`;
+const sectionId = ({ id }) => `section-${id}`;
 
 // It is long, so it is made when it is first looked at.
 function buildManual() {
   if (byId('manual-text').childElementCount) return;
-  byId('manual-text').innerHTML = papers.manual.map((s) => `<section id="${sectionId(s.number)}"><h2>${s.number} ${escapeText(s.title)}</h2>${s.html}</section>`).join('');
-  byId('manual-contents').innerHTML = papers.manual.map((s) => `<li><a href="#" data-section="${s.number}">${s.number} ${escapeText(s.title)}</a></li>`).join('');
+  byId('manual-text').innerHTML = papers.manual.map((s) => `<section id="${sectionId(s)}"><h2>${escapeText(s.heading)}</h2>${s.html}</section>`).join('');
+  byId('manual-contents').innerHTML = papers.manual.map((s) => `<li><a href="#" data-section="${s.id}">${escapeText(s.heading)}</a></li>`).join('');
 }
 
-function openSection(number) {
+// By its anchor, or by its number alone.
+function openSection(name) {
   buildManual();
-  const found = byId(sectionId(number));
-  if (!found) return;
+  const section = papers.manual.find(({ id }) => id === name || id.startsWith(`${name}-`));
+  if (!section) return notice(`The manual has no section ${name}.`);
+  const found = byId(sectionId(section));
   for (const open of document.querySelectorAll('[popover]:popover-open')) if (open.id !== 'manual') open.hidePopover();
   byId('manual').showPopover();
   found.scrollIntoView();
@@ -44,7 +46,7 @@ const HOWS_OF = [['level', 0], ['inverse', 64], ['rise', 128], ['fall', 192]];
 // Every address that the card takes, by plexplain's name for it.
 function addressTable() {
   const { addresses } = catalogue();
-  const bases = [0, ...PLACES];
+  const bases = [0, ...placesOf(state.cells)];
   const button = (a) => (a in addresses ? `<button data-insert="${a}" title="${escapeText(addresses[a])}">${a}</button>` : '');
   const rows = bases.map((base) => `<tr><th scope="row">${base ? nameOf(base) : 'nothing'}</th>${HOWS_OF.map(([, more]) => `<td>${button(base + more)}</td>`).join('')}</tr>`);
   const half = bases.findIndex((b) => b && !isCell(b));
@@ -73,7 +75,7 @@ export function listenToPapers() {
     if (!link) return;
     if (link.matches('a')) e.preventDefault();
     const { section, table, insert, try: lines } = link.dataset;
-    if (section) openSection(Number(section));
+    if (section) openSection(section);
     if (table) byId(`table-${table}`).scrollIntoView({ block: 'start' });
     if (insert) insertNumber(insert);
     if (lines) tryLines(lines);

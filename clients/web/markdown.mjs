@@ -1,4 +1,4 @@
-// As much Markdown as the examples and the manual use, as HTML. A reference to a section of the manual becomes a link to it.
+// As much Markdown as the examples and the manual use, as HTML. A reference to a section of the manual becomes a link to it, by its anchor or its number.
 import fs from 'node:fs';
 import path from 'node:path';
 
@@ -9,7 +9,7 @@ const sectionLinks = (html) => html.replace(/\bsections? \d+(?:(?:, | and | to )
 
 export const inline = (s) => sectionLinks(escapeHtml(s)
   .replace(/!\[[^\]]*\]\([^)]*\)/g, '')
-  .replace(/\[([^\]]*)\]\(#(\d+)[^)]*\)/g, '<a href="#" data-section="$2">$1</a>')
+  .replace(/\[([^\]]*)\]\(#([\w-]+)\)/g, '<a href="#" data-section="$2">$1</a>')
   .replace(/\[([^\]]*)\]\([^)]*\)/g, '$1')
   .replace(/`([^`]*)`/g, '<code>$1</code>')
   .replace(/ \^/g, '\u00a0^')

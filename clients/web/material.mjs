@@ -30,10 +30,9 @@ const linesIn = (section) => (section.match(/```[\s\S]*?```/g) ?? []).flatMap((b
 
 // ---- the parts
 
-// A section is found by its title, whatever its number is.
+// A section is found by its title, whatever its number is, and a table by its head, wherever it is.
 function section(manual, title) {
-  const sections = manual.split(/^## \d+ /m);
-  const found = sections.find((text) => text.startsWith(`${title}\n`));
+  const found = manual.split(/^## (?:\d+ )?/m).find((text) => text.startsWith(`${title}\n`));
   if (!found) throw new Error(`the manual has no section "${title}"`);
   return found.slice(title.length);
 }
@@ -101,19 +100,27 @@ const insertTable = (rows) => table(rows, inserting);
 const beginning = (c, i) => (i > 0 ? inline(c) : c.replace(/`([^`]*)`/g, (_, line) => (/^(M|W|PM|HOME|!|36|L)/.test(line)
   ? `<button data-insert="${line.replace(/n.*$/, '')}">${escapeHtml(line)}</button>` : `<code>${escapeHtml(line)}</code>`)));
 
+const [TYPES, KINDS, CONNECTOR_TYPES] = ['| type | cell |', '| type | kind |', '| type ('];
+
+function edgeSlots(manual) {
+  const found = manual.match(/A slot marked with \^[\s\S]*?\n\n/);
+  if (!found) throw new Error('the manual does not say "A slot marked with ^"');
+  return asHtml(found[0], {});
+}
+
 const TABLES = [
-  ['Cells', 'Cells', (text) => insertTable(rowsIn(text, '| type | cell |')) + asHtml(text.match(/A slot marked with \^[\s\S]*?\n\n/)[0], {})],
-  ['Cells', 'What each type does', (text) => insertTable(rowsIn(text, '| type | kind |'))],
-  ['Addresses', 'Addresses', () => '<div data-addresses></div>'],
-  ['Connectors', 'Connectors', (text) => insertTable(rowsIn(text, '| type ('))],
-  ['Lines', 'Lines', (text) => table(rowsIn(text, '| line |'), beginning)],
-  ['How a tick goes', 'Which cells wake in a quick tick', (text) => table(rowsIn(text, '| cell | wakes when |'))],
-  ['A first wiring', 'The answer of a tick', firstTable],
-  ['Words and their bits', 'Words and their bits', firstTable],
-  ['When the card says no', 'When the card says no', firstTable],
+  ['Cells', (manual) => insertTable(rowsIn(manual, TYPES)) + edgeSlots(manual)],
+  ['What each type does', (manual) => insertTable(rowsIn(manual, KINDS))],
+  ['Addresses', () => '<div data-addresses></div>'],
+  ['Connectors', (manual) => insertTable(rowsIn(manual, CONNECTOR_TYPES))],
+  ['Lines', (manual) => table(rowsIn(manual, '| line | what it does |'), beginning)],
+  ['Which cells wake in a quick tick', (manual) => table(rowsIn(manual, '| cell | wakes when |'))],
+  ['The answer of a tick', (manual) => firstTable(section(manual, 'A first wiring'))],
+  ['Words and their bits', (manual) => firstTable(section(manual, 'Words and their bits'))],
+  ['When the card says no', (manual) => firstTable(section(manual, 'When the card says no'))],
 ];
 
-const wiringTables = (manual) => TABLES.map(([title, heading, html]) => ({ heading, html: html(section(manual, title)) }));
+const wiringTables = (manual) => TABLES.map(([heading, html]) => ({ heading, html: html(manual) }));
 
 // ---- the whole manual
 
@@ -124,14 +131,17 @@ function tryOut(block) {
   return `<div class="example"><pre>${escapeHtml(text)}</pre>${lines.includes('T ') ? `<button data-try="${escapeHtml(lines).replace(/"/g, '&quot;')}">Try these lines</button>` : ''}</div>`;
 }
 
+// The name of a heading in a link, as Markdown has it: "4 What cells do" is #4-what-cells-do.
+const anchorOf = (heading) => heading.toLowerCase().replace(/[^\w -]/g, '').replace(/ /g, '-');
+
 function wholeManual(top, manual) {
   const [, ...sections] = manual.split(/^## /m);
   const how = { fenced: tryOut, folder: path.join(top, 'docs') };
   return sections.map((text) => {
-    const [, number, title] = text.match(/^(\d+) (.*)\n/);
+    const [heading] = text.split('\n');
     const body = text.slice(text.indexOf('\n')).split(/^### (.*)$/m);
     const html = body.map((part, i) => (i % 2 ? `<h3>${inline(part)}</h3>` : asHtml(part, how))).join('');
-    return { number: Number(number), title, html };
+    return { heading, id: anchorOf(heading), html };
   });
 }
 
@@ -175,9 +185,9 @@ function rackOf(top, manual) {
 
 // What each type of a cell does, and the types of connectors.
 function partsOf(manual) {
-  const rows = (title, head) => rowsIn(section(manual, title), head).slice(2).map(cellsOf);
-  const kinds = rows('Cells', '| type | kind |').map(([type, kind, text]) => ({ type: Number(type), kind, text }));
-  const connectors = rows('Connectors', '| type (').map(([type, name, level]) => ({ type: Number(type), name, level }));
+  const rows = (head) => rowsIn(manual, head).slice(2).map(cellsOf);
+  const kinds = rows(KINDS).map(([type, kind, text]) => ({ type: Number(type), kind, text }));
+  const connectors = rows(CONNECTOR_TYPES).map(([type, name, level]) => ({ type: Number(type), name, level }));
   return { kinds, connectors };
 }
 

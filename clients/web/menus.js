@@ -1,12 +1,12 @@
 // The menus: examples, presets, and what a program's output is saved as.
 
 import { decoded } from './programs.js';
-import { runSession } from './session.js';
+import { entriesOf, runSession } from './session.js';
 import { describeRecord } from './record.js';
 import { buildRack } from './rack.js';
 import { listenToFiles, saveOutput } from './files.js';
 import { state, programs, openText, addPreset } from './state.js';
-import { byId, capital, escapeText, notice } from './dom.js';
+import { byId, capital, escapeText, notice, put } from './dom.js';
 
 let material = null;
 
@@ -31,7 +31,7 @@ export function buildMenus(itsMaterial) {
   byId('examples').innerHTML = listOf('From the manual', 'first', material.first) + needs('plreach', listOf('Never? Always?', 'busy', material.busy))
     + listOf('Classroom errors', 'errors', material.errors) + needs('plcheck', listOf('Exercises: find the wiring', 'exercises', material.exercises))
     + listOf('Wirings that run', 'examples', material.examples, (w) => w.name);
-  byId('presets').innerHTML = `<h2>Presets</h2><p id="preset-place"></p><table><tbody>${material.presets.map(presetRow).join('')}</tbody></table>`;
+  byId('presets').innerHTML = `<h2>Presets</h2><p id="preset-place"></p><table><tbody id="preset-rows"></tbody></table>`;
   for (const id of ['examples', 'presets', 'manual', 'rack', 'exercise', 'keys']) byId(id).insertAdjacentHTML('afterbegin', closeButton(id));
   byId('build').textContent = material.build;
   describeRecord(material.record);
@@ -44,13 +44,18 @@ export function openExample(group, index) {
   openText(wiring.lines, { about: wiring, task: wiring.task ?? null, questions: wiring.questions ?? [] });
 }
 
-// What a preset sets, in plexplain's words, when the pointer rests on its number.
-function namePresets() {
-  for (const button of byId('presets').querySelectorAll('[data-preset]:not([title])')) {
-    const [entry] = runSession(programs(), [`36CCA X=${button.dataset.preset}`]).entries;
-    button.title = entry.words.join('\n');
-  }
+const PRESETS = Array.from({ length: 256 }, (_, n) => n);
+
+// The manual's presets, and those that only this card has, in plexplain's words.
+function showPresets() {
+  const known = new Set(material.presets.flatMap((p) => p.numbers));
+  const more = entriesOf(programs(), PRESETS.map((n) => `36CCA X=${n}`)).flatMap((e, n) => (e.kind === 'accepted' && !known.has(n) ? [n] : []));
+  const rows = [...material.presets, ...more.map((n) => ({ numbers: [n], text: saidOfPreset(n).split('\n').slice(0, -1).join(' ') }))];
+  put(byId('preset-rows'), rows.map(presetRow).join(''));
+  for (const button of byId('presets').querySelectorAll('[data-preset]')) button.title = saidOfPreset(button.dataset.preset);
 }
+
+const saidOfPreset = (number) => runSession(programs(), [`36CCA X=${number}`]).entries[0].words.join('\n');
 
 // ---- saving what programs write
 
@@ -88,7 +93,7 @@ export function listenToMenus() {
     addPreset(Number(button.dataset.preset));
   });
   byId('presets').addEventListener('toggle', () => {
-    namePresets();
+    showPresets();
     byId('preset-place').textContent = state.selected < 0 ? 'A number adds its line.'
       : `A number adds its line below line ${state.selected + 1}, and leaves the lines behind it as they are.`;
   });

@@ -2,7 +2,7 @@
 
 import { compileModules } from './programs.js';
 import { makeRuns } from './runs.js';
-import { told } from './words.js';
+import { SIZES, sizeWords } from './session.js';
 import { columnAt, rowAt, setRowHeight } from './diagram.js';
 import { listenToForm, describeParts, newCell } from './form.js';
 import { drawingFile } from './drawing.js';
@@ -19,7 +19,7 @@ import { buildMenus, listenToMenus, openExample, saveProgram } from './menus.js'
 import { copyResult, listenToExercises } from './exercise.js';
 import { listenToRack } from './rack.js';
 import { fillSheet } from './sheet.js';
-import { byId, download, failed, measureAgain, notice } from './dom.js';
+import { byId, count, download, failed, measureAgain, notice } from './dom.js';
 
 window.addEventListener('error', (e) => failed(e.error ?? e.message));
 window.addEventListener('unhandledrejection', (e) => failed(e.reason));
@@ -63,7 +63,16 @@ function manyTicks() {
   else tick('Q', count);
 }
 
+// The lines stay as they are; what the other card refuses is red.
+function setCells(cells) {
+  if (cells === state.cells) return;
+  change({ cells });
+  const refused = view.running ? 0 : view.session.entries.filter((e) => e.kind === 'refused').length;
+  notice(`The card has ${sizeWords(cells)} cells now; the lines are the same${refused ? `, and it refuses ${count(refused, 'line')} of them` : ''}.`);
+}
+
 function listenToBench() {
+  for (const cells of SIZES) byId(`cells-${cells}`).onclick = () => setCells(cells);
   byId('quick').onclick = () => tick('Q');
   byId('full').onclick = () => tick('F');
   byId('many').onclick = manyTicks;
@@ -122,7 +131,7 @@ function listenToDiagram() {
 // Why the cell of a row woke in a tick.
 function reasonAt(entry, row) {
   if (!row?.cell || !entry || entry.covered || entry.tick.idle) return '';
-  return told(entry.tick).reasons[row.cell] ?? '';
+  return entry.words.find((text) => text.startsWith(`${row.name} (`)) ?? '';
 }
 
 function columnClicked(entry, row, withShift) {
@@ -153,7 +162,7 @@ function stepRow(step) {
 // ---- tabs
 
 const PRESSES = {
-  uncover, uncoverAll, next: predictNext, newCell, saveDrawing, openRecord: () => byId('file').click(), copyResult, savePromises,
+  uncover, uncoverAll, next: predictNext, newCell, saveDrawing, anyway: takeAnyway, openRecord: () => byId('file').click(), copyResult, savePromises,
 };
 
 function listenToTabs() {
@@ -184,6 +193,11 @@ function listenToTabs() {
     if (button.dataset.save) saveProgram(button.dataset.save);
     if (button.dataset.example) openExample(button.dataset.example, 0);
   });
+}
+
+function takeAnyway() {
+  state.anyway = true;
+  showPanel();
 }
 
 function pictureFrom(value) {

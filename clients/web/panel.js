@@ -1,15 +1,15 @@
 // The tabs: what plexplain says of the line that is looked at, the card at that line, what each program makes of all lines, and predictions.
 
 import { decoded } from './programs.js';
-import { truthTable, bitOf, withEditorNumbers } from './session.js';
-import { isLookup, placeIn, subjectIn, told, typeIn } from './words.js';
+import { CONNECTORS, truthTable, bitOf, editorNumbers, isCell, nameOf, withEditorNumbers } from './session.js';
 import { foundWords, totals } from './predict.js';
 import { recordHtml } from './record.js';
 import { isExercise, taskHtml } from './exercise.js';
 import { drawingHtml, updateDrawing } from './drawing.js';
 import { reachHtml, updateReach } from './questions.js';
 import { tablesHtml } from './manual.js';
-import { placeOf } from './wire.js';
+import { FIXED_BASE, placesIn } from './wire.js';
+import { catalogue, describe, readsOf, typeName } from './form.js';
 import { when } from './runs.js';
 import { state, view, programs, has, cardAt, outputsFor } from './state.js';
 import { byId, capital, count, escapeText, failed, msWords, put } from './dom.js';
@@ -98,8 +98,8 @@ export function openTab(id) {
 
 // ---- the line that is looked at
 
-// Who a sentence is about stands out.
-const withSubject = (text) => `<b>${subjectIn(text)}</b>${escapeText(text.slice(subjectIn(text).length))}`;
+// Who a sentence is about stands out: a cell, a connector, or what the words in front of a colon name.
+const withSubject = (text) => escapeText(text).replace(/^(?:cell \d+|(?:BNC|TTL)\d|[A-Z][a-z ]+(?=:))/, '<b>$&</b>');
 const said = (texts) => texts.map((t) => `<p class="said">${withSubject(t)}</p>`).join('');
 
 function lineHtml() {
@@ -108,15 +108,11 @@ function lineHtml() {
   if (entry.covered) return predictionHtml(entry);
   if (entry.kind === 'remark') return `<h3>Line ${entry.index + 1} <code>${escapeText(entry.line)}</code></h3><p class="quiet">A remark: it is kept, and no program gets it.</p>`;
   const head = `<h3>${headingOf(entry)}</h3>`;
-  if (entry.kind === 'tick') return head + verdictHtml(entry) + stepsHtml(entry.tick);
+  if (entry.kind === 'tick') return head + verdictHtml(entry) + stepsHtml(entry);
+  const { pointer, parts } = cardAt(entry.index);
   const words = `${head}<div class="said ${entry.kind}">${escapeText(entry.words.join('\n'))}</div>`;
-  return when(lookupAt(entry), (lookup) => `${words}${lookup}${pointerHtml(entry)}`);
-}
-
-// A line at a lookup shows at once what its code does.
-function lookupAt(entry) {
-  if (!isLookup(typeIn(entry.pointer))) return '';
-  return when(cardAt(entry.index), (card) => `<div class="card">${lookupHtml(card.cells[placeOf(placeIn(entry.pointer)) - 1])}</div>`);
+  // a line at a lookup shows at once what its code does
+  return `${words}<div class="card">${lookupHtml(pointer, parts[pointer])}</div>${entry.kind === 'idle' ? '' : pointerHtml(pointer, parts[pointer])}`;
 }
 
 function headingOf(entry) {
@@ -126,19 +122,18 @@ function headingOf(entry) {
   return `${what} <code>${escapeText(entry.line)}</code> <code class="${entry.kind}">${escapeText(entry.answer)}</code>`;
 }
 
-const pointerHtml = (entry) => (entry.kind === 'idle' ? '' : `<p class="quiet">Pointer after this line: ${escapeText(entry.pointer)}</p>`);
+const pointerHtml = (place, part) => `<p class="quiet">Pointer after this line: ${nameOf(place)}${isCell(place) ? ` (${typeName(part, place)})` : `, ${describe(part, place)}`}</p>`;
 
-// The manual's three steps, and under each what plexplain says of it. So it is seen that not everything changes together.
-function stepsHtml(tick) {
-  const t = told(tick);
-  const [drive, levels, cells] = panel.steps.map(escapeText);
-  const step = (rule, words) => `<li><p class="step">${rule}</p><div>${said(words)}</div></li>`;
-  const steps = [step(drive, t.drivenWords), step(levels, t.lineWords), step(cells, [...t.cellWords, ...t.highWords])];
-  return `<ol class="steps">${steps.join('')}</ol>${said(t.other)}${hintsHtml(t.hints)}`;
+// The manual's three steps, and under each what plexplain says of it. So it is seen that not everything changes together. plexplain begins with what is
+// driven and which cells are high, and ends with the hints.
+function stepsHtml({ words, hints }) {
+  const [driven, high, ...rest] = words.slice(0, words.length - hints.length);
+  const isOfLine = (text) => CONNECTORS.some((name) => text.startsWith(`${name} `));
+  const step = (rule, texts) => `<li><p class="step">${escapeText(rule.replace('cell 16', `cell ${state.cells}`))}</p><div>${said(texts)}</div></li>`;
+  const [first, second, third] = panel.steps;
+  const steps = [step(first, [driven]), step(second, rest.filter(isOfLine)), step(third, [...rest.filter((t) => !isOfLine(t)), high])];
+  return `<ol class="steps">${steps.join('')}</ol>${hints.map((h) => `<p class="said hinted">${escapeText(h.words)}</p>`).join('')}`;
 }
-
-// A wiring that is legal and useless: plexplain says so in the first tick with it.
-const hintsHtml = (hints) => hints.map((h) => `<p class="said hinted">${escapeText(h)}</p>`).join('');
 
 // ---- predictions
 
@@ -179,26 +174,23 @@ function scoreHtml() {
 // ---- the card
 
 function cardHtml() {
-  return when(cardAt(state.selected), (at) => {
-    const named = new Set([...at.cells, ...at.connectors].flatMap((p) => p.names));
-    const cells = at.cells.filter((c) => c.typeName !== 'constant' || named.has(c.name) || c.configuration);
-    const wires = at.connectors.filter((c) => (c.isInput ? named.has(c.name) : c.address !== '0'));
-    if (cells.length + wires.length === 0) return '<p class="quiet">Nothing is wired yet.</p>';
-    const rows = [...cells.map(cellHtml), ...wires.map(wireHtml)];
-    return `<h3>Card after line ${state.selected + 1}</h3><table class="card"><tbody>${rows.join('')}</tbody></table>`;
-  });
+  const { parts, states } = cardAt(state.selected);
+  const read = new Set(placesIn(parts).flatMap((p) => readsOf(parts[p], p)).map((a) => a % FIXED_BASE));
+  const rows = placesIn(parts).filter((p) => read.has(p) || (parts[p].configuration && parts[p].type === 0 && isCell(p)) || (parts[p].type !== 0 && (isCell(p) || parts[p].configuration)));
+  if (!rows.length) return '<p class="quiet">Nothing is wired yet.</p>';
+  return `<h3>Card of ${state.cells} cells after line ${state.selected + 1}</h3><table class="card"><tbody>${rows.map((p) => partHtml(p, parts[p], states[p])).join('')}</tbody></table>`;
 }
 
-const formButton = (c) => `<button data-place="${placeOf(c.name)}" aria-label="Form of ${c.name}">${c.name}</button>`;
-
-const cellHtml = (c) => `<tr><th scope="row">${formButton(c)}</th><td>${escapeText(c.typeName)}</td><td>${escapeText(c.words.map(capital).join(' '))}${lookupHtml(c)}</td></tr>`;
-
-const wireHtml = (c) => `<tr><th scope="row">${formButton(c)}</th><td>${escapeText(c.kind)}</td><td>${
-  c.isInput ? '' : `from ${c.address}, ${escapeText(c.source)}`}</td></tr>`;
+function partHtml(place, part, value) {
+  const { state: its } = isCell(place) ? catalogue().types[part.type] : { state: null };
+  const words = isCell(place) || part.type ? describe(part, place).replace(/^[\w-]+ (?=from )/, '') : '';
+  return `<tr><th scope="row"><button data-place="${place}" aria-label="Form of ${nameOf(place)}">${nameOf(place)}</button></th><td>${escapeText(typeName(part, place))}</td>
+    <td>${escapeText(words)}${its ? `; its ${its.name} is ${its.most === 1 ? ['low', 'high'][value] : value}` : ''}${lookupHtml(place, part)}</td></tr>`;
+}
 
 // A lookup code is easily copied wrong: every combination is tried on the card, and shown.
-function lookupHtml(c) {
-  if (!isLookup(c.typeName)) return '';
+function lookupHtml(place, c) {
+  if (!isCell(place) || catalogue().types[c.type].configuration?.name !== 'code') return '';
   const { slots, rows: tried } = truthTable(programs(), c);
   const line = (name, cell) => `<tr><th scope="row">${name}</th>${tried.map((r) => `<td class="${r.high ? 'high' : ''}">${cell(r)}</td>`).join('')}</tr>`;
   return `<table class="truth"><caption>code ${c.configuration}, tried on the card in every combination</caption><tbody>${line('p', (r) => r.p)}${
@@ -222,8 +214,18 @@ const fromHtml = () => `<label>from tick <input id="picture-from" type="number" 
 const saveHtml = (p) => `<span><button data-save="${p.name}">Save as ${p.file}</button>
   <span class="quiet">what ${p.name} ${p.does} for these lines</span></span>`;
 
-function outputHtml(p, { output, errors }) {
-  const complaint = errors ? `<p class="bad said">${escapeText(errors)}</p>` : '';
+// What a program says on its error output, by the numbers of the editor; and where it gives no answer since a line was refused, a way to have it.
+export function complaintHtml(p, { output, errors }) {
+  if (!errors) return '';
+  const numberOf = editorNumbers(view.session.lines);
+  const text = errors.trim().replace(/^line (\d+)/gm, (_, n) => `line ${numberOf(Number(n))}`);
+  const anyway = p.anyway && !output.length && !state.anyway ? '<p class="tools"><button data-anyway>Take the wiring all the same</button></p>' : '';
+  return `${anyway}<p class="bad said">${escapeText(`${p.title ? `${p.title}, ` : ''}${p.name}: ${text}`)}</p>`;
+}
+
+function outputHtml(p, found) {
+  const { output } = found;
+  const complaint = complaintHtml(p, found);
   if (p.image) return complaint + (output.length ? imageHtml(output) : '');
   const written = decoded(output.subarray(0, SHOWN));
   const text = p.numbersLines ? withEditorNumbers(written, view.session.lines) : written;

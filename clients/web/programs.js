@@ -6,7 +6,7 @@ const STDERR = 2;
 // Lengths are 64 bits wide, so BigInt in JavaScript. A program is given the words of its command line and no terminal: it reads its standard input to the
 // end. `onRead` is told how much of the input has been read, `onWrite` what the program writes to its standard output, as it comes.
 export function runBytes(module, input, { words = [], onRead = null, onWrite = null } = {}) {
-  let at = 0;
+  let [at, errno] = [0, 0];
   const written = { [STDOUT]: [], [STDERR]: [] };
   const memory = () => new Uint8Array(exports.memory.buffer);
   const encoded = words.map((word) => new TextEncoder().encode(word));
@@ -32,7 +32,8 @@ export function runBytes(module, input, { words = [], onRead = null, onWrite = n
       memory().set(word.subarray(0, Number(length)), address);
       return word.length > Number(length) ? -2n : BigInt(word.length);
     },
-    rattle_set_errno: () => 0n,
+    rattle_errno: () => errno,
+    rattle_set_errno: (error) => { errno = error; },
     isatty: () => 0,
   };
   const missing = (name) => () => { throw new Error(`a program asked for ${name}, which a page does not have`); };
@@ -62,12 +63,17 @@ export async function compileModules(base64ByName) {
   return Object.fromEntries(await Promise.all(compiled));
 }
 
-// { plrun: module, ... } -> { plrun: (input, words) => { output, errors }, ... }, where the input is a text, or bytes. `hooks` are those of runBytes.
-export function programsOf(modules, hooks = () => ({})) {
+// plrun has the card of sixteen cells alone; calls on a rack and a record to convert say the size themselves.
+const WITHOUT_SIZE = ['plrun', 'plrack', 'plconvert'];
+
+// { plrun: module, ... } -> { cells, plrun: (input, words) => { output, errors }, ... }, where the input is a text, or bytes: the programs for a card of so
+// many cells. `hooks` are those of runBytes.
+export function programsOf(modules, cells = 16, hooks = () => ({})) {
   const encoder = new TextEncoder();
-  const bytesOf = (input) => (typeof input === 'string' ? encoder.encode(input) : input);
-  return Object.fromEntries(Object.entries(modules).map(([name, module]) => [name, (input, words = []) => {
-    const bytes = bytesOf(input);
-    return runBytes(module, bytes, { words, ...hooks(name, bytes.length) });
-  }]));
+  const size = cells === 16 ? [] : ['--cells', String(cells)];
+  const programs = Object.entries(modules).map(([name, module]) => [name, (input, words = []) => {
+    const bytes = typeof input === 'string' ? encoder.encode(input) : input;
+    return runBytes(module, bytes, { words: [...(WITHOUT_SIZE.includes(name) ? [] : size), ...words], ...hooks(name, bytes.length) });
+  }]);
+  return { cells, ...Object.fromEntries(programs) };
 }

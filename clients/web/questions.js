@@ -1,12 +1,12 @@
 // The tab Never? Always?: questions about the wiring by name, asked of plreach in a worker, with its answers. The questions are kept with the wiring.
 
-import { runWithCard } from './session.js';
+import { isCell, nameOf, runSession } from './session.js';
 import { rowsOf, drawWaves, widthToFit, widthOf, HEAD_HEIGHT, rowHeight } from './diagram.js';
 import { KINDS_ASKED, questionIn, questionText, reachInput, readAnswers, tickCount, ticksOf, verdictIn } from './reach.js';
-import { PLACES, isCell, nameOf, FIXED_BASE } from './wire.js';
+import { FIXED_BASE, placesIn, wiringBefore } from './wire.js';
 import { Stopped } from './runs.js';
 import { option, readsOf, whatName } from './form.js';
-import { state, has, programs, wired, wiringLines, putTicks, change, askStream, stopStream } from './state.js';
+import { state, has, programs, wired, wiringLines, editorLineOf, putTicks, change, askStream, stopStream } from './state.js';
 import { byId, count, escapeText, failed, msWords, put } from './dom.js';
 
 const ASK_WAIT = 400; // ms after the last change
@@ -15,7 +15,7 @@ const MOST_PUT = 100000; // and that are put into the lines
 const OFFERED = 6;
 
 // What was asked last, and what plreach has written of it so far.
-const reach = { input: '', questions: [], text: '', done: true, stopped: false, started: 0, took: 0, timer: 0, clock: 0, about: '', drives: '' };
+const reach = { key: '', questions: [], text: '', errors: '', done: true, stopped: false, started: 0, took: 0, timer: 0, clock: 0, about: '', drives: '' };
 
 // What the manual says of questions, and of how outputs are driven.
 export function describeReach(about, [drives]) {
@@ -24,40 +24,41 @@ export function describeReach(about, [drives]) {
 
 // ---- asking
 
+const inputNow = () => reachInput(wiringLines(), state.questions);
+const keyNow = () => `${state.cells} cells\n${inputNow()}`; // what is asked, and of which card
 const hasQuestions = () => has('plreach') && state.questions.length > 0;
 
 // Asks anew where the wiring or the questions are others than those that were asked; but not in the middle of typing.
 function askSoon() {
-  const input = reachInput(wiringLines(), state.questions);
   clearTimeout(reach.timer);
-  if (reach.input === input) return;
-  const wait = reach.input ? ASK_WAIT : 0;
+  if (reach.key === keyNow()) return;
+  const wait = reach.key ? ASK_WAIT : 0;
   if (!reach.done) giveUp();
   if (hasQuestions()) reach.timer = setTimeout(ask, wait);
 }
 
 // What was asked is out of date.
 function giveUp() {
-  Object.assign(reach, { input: '', done: true });
+  Object.assign(reach, { key: '', done: true });
   clearInterval(reach.clock);
   stopStream();
 }
 
 async function ask() {
-  const input = reachInput(wiringLines(), state.questions);
-  Object.assign(reach, { input, questions: state.questions, text: '', done: false, stopped: false, started: Date.now() });
+  const key = keyNow();
+  Object.assign(reach, { key, questions: state.questions, text: '', errors: '', done: false, stopped: false, started: Date.now() });
   clearInterval(reach.clock);
   reach.clock = setInterval(showAsking, 200);
   try {
-    const { text } = await askStream('plreach', input, (more) => {
-      if (reach.input === input) reach.text += more;
+    const { text, errors } = await askStream('plreach', inputNow(), (more) => {
+      if (reach.key === key) reach.text += more;
       showAnswers();
     });
-    if (reach.input !== input) return;
-    Object.assign(reach, { text, done: true });
+    if (reach.key !== key) return;
+    Object.assign(reach, { text, errors, done: true });
   } catch (error) {
     if (!(error instanceof Stopped)) failed(error);
-    if (reach.input !== input) return;
+    if (reach.key !== key) return;
     Object.assign(reach, { done: true, stopped: error instanceof Stopped });
   }
   reach.took = Date.now() - reach.started;
@@ -67,12 +68,12 @@ async function ask() {
 }
 
 export function askAgain() {
-  reach.input = '';
+  reach.key = '';
   askSoon();
 }
 
 // What is known of the questions as they are: for the handout.
-export const answersNow = () => (reach.done && reach.input === reachInput(wiringLines(), state.questions) ? readAnswers(reach.text, reach.questions) : null);
+export const answersNow = () => (reach.done && reach.key === keyNow() ? readAnswers(reach.text, reach.questions) : null);
 
 // ---- the tab
 
@@ -101,10 +102,10 @@ function showAsking() {
   const { answers, summary } = readAnswers(reach.text, reach.questions);
   const lines = wiringLines().length;
   if (!state.questions.length) put(box, '');
-  else if (reach.input !== reachInput(wiringLines(), state.questions)) put(box, '<progress></progress> <span class="quiet">is asked soon</span>');
+  else if (reach.key !== keyNow()) put(box, '<progress></progress> <span class="quiet">is asked soon</span>');
   else if (!reach.done) {
-    put(box, `<progress></progress> <span>plreach is at question ${Math.max(1, answers.length)} of ${reach.questions.length}, ${seconds(Date.now() - reach.started)}</span>
-      <button data-stop-asking>Stop</button>`);
+    put(box, '<progress></progress> <span id="reach-at"></span> <button data-stop-asking>Stop</button>'); // the button stays while it is pressed
+    byId('reach-at').textContent = `plreach is at question ${Math.max(1, answers.length)} of ${reach.questions.length}, ${seconds(Date.now() - reach.started)}`;
   } else if (reach.stopped) put(box, `<span class="bad">Stopped after ${seconds(reach.took)}.</span> <button data-ask-again>Ask again</button>`);
   else put(box, `<span class="quiet">${summary ? `<b>${escapeText(summary)}.</b> ` : ''}Asked of the ${count(lines, 'line')} in front of the first tick, in ${seconds(reach.took)}.</span>
       <button data-save-promises>Save as promises.txt</button>`);
@@ -113,9 +114,10 @@ function showAsking() {
 function showAnswers() {
   const box = byId('reach-list');
   if (!box) return;
-  const current = reach.input === reachInput(wiringLines(), state.questions);
+  const current = reach.key === keyNow();
   const { refused, answers } = readAnswers(reach.text, reach.questions);
-  const complaint = current && refused.length ? `<p class="bad said">Refused: ${refused.map(escapeText).join('<br>')}</p>` : '';
+  const said = [...refused, ...reach.errors.split('\n')].filter(Boolean).map((text) => text.replace(/^line (\d+)/, (_, n) => `line ${editorLineOf(Number(n))}`));
+  const complaint = current && said.length ? `<p class="bad said">${said.map(escapeText).join('<br>')}</p>` : '';
   put(box, complaint + (current ? conclusions(answers).join('') : '') + state.questions.map((q, i) => answerHtml(q, i, current ? answers[i] : null)).join('')
     || '<p class="quiet">Nothing is asked yet. A question holds for every run of ticks, of any length, with every sample that the lines can bring. <button data-example="busy">The first example: the busy line</button></p>');
 }
@@ -157,7 +159,8 @@ function witnessPicture(answer) {
 }
 
 function pictureOf(lines) {
-  const { session, card } = runWithCard(programs(), lines);
+  const session = runSession(programs(), lines);
+  const card = wiringBefore(programs(), lines, session.entries, lines.length);
   const rows = rowsOf(session, card, card, false);
   const ticks = session.ticks.length;
   const column = Math.max(3, Math.min(26, widthToFit(ticks, 620)));
@@ -174,22 +177,22 @@ function pictureOf(lines) {
 const fresh = (what = '') => ({ what, how: 'high' });
 const asking = { kind: 'never', from: [fresh()], to: [fresh()], within: 1, index: -1, focus: '' };
 
-const driven = (parts) => PLACES.filter((p) => !isCell(p) && parts[p].type !== 0 && parts[p].configuration !== 0);
-const brought = (parts) => PLACES.filter((p) => !isCell(p) && parts[p].type !== 2 && PLACES.some((q) => readsOf(parts[q], q).some((a) => a % FIXED_BASE === p)));
-const wiredCells = (parts) => PLACES.filter((p) => isCell(p) && parts[p].type !== 0);
+const driven = (parts) => placesIn(parts).filter((p) => !isCell(p) && parts[p].type !== 0 && parts[p].configuration !== 0);
+const brought = (parts) => placesIn(parts).filter((p) => !isCell(p) && parts[p].type !== 2 && placesIn(parts).some((q) => readsOf(parts[q], q).some((a) => a % FIXED_BASE === p)));
+const wiredCells = (parts) => placesIn(parts).filter((p) => isCell(p) && parts[p].type !== 0);
 
 // What may be asked of: what the wiring uses first, then the rest.
 function namesHtml(chosen, onlyLines) {
   const { parts } = wired();
   const group = (label, places, name = nameOf, words = (p) => whatName(p, parts)) => (places.length
     ? `<optgroup label="${label}">${places.map((p) => option(name(p), words(p), name(p) === chosen)).join('')}</optgroup>` : '');
-  const lines = PLACES.filter((p) => !isCell(p));
+  const lines = placesIn(parts).filter((p) => !isCell(p));
   const used = [...brought(parts), ...driven(parts)];
   const drive = (p) => `drive ${nameOf(p)}`;
   return (chosen ? '' : option('', 'choose …', true)) + group('lines in use', lines.filter((p) => used.includes(p)))
     + (onlyLines ? '' : group('cells', wiredCells(parts)) + group('what the card drives', driven(parts), drive, drive))
     + group('other lines', lines.filter((p) => !used.includes(p)))
-    + (onlyLines ? '' : group('other cells', PLACES.filter((p) => isCell(p) && parts[p].type === 0)));
+    + (onlyLines ? '' : group('other cells', placesIn(parts).filter((p) => isCell(p) && parts[p].type === 0)));
 }
 
 function howsFor(kind, what) {
@@ -274,7 +277,7 @@ function changeQuestion(index) {
 
 const answerAt = (index) => readAnswers(reach.text, reach.questions).answers[index];
 
-export const promisesText = () => reachInput(wiringLines(), state.questions);
+export const promisesText = inputNow;
 
 export const questionsIn = (text) => text.split(/\r?\n/).map((q) => q.trim()).filter(Boolean);
 

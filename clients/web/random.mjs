@@ -1,5 +1,6 @@
 // Random lines, the same in every run.
-import { PLACES, isCell } from './wire.js';
+import { isCell } from './session.js';
+import { placesIn } from './wire.js';
 
 function numbers(seed) {
   let at = (seed * 2654435761) % 2147483646 + 1;
@@ -24,10 +25,10 @@ export function randomLines(seed, count) {
 const hex = (n) => n.toString(16).padStart(4, '0');
 
 // Lines that wire cells and connectors of every type, with ticks between them; some are refused.
-export function randomWiring(seed, count) {
+export function randomWiring(seed, count, cells = 16) {
   const below = numbers(seed);
-  const address = () => [below(17), 33 + below(16)][below(2)] + 64 * below(4);
-  const place = () => [1 + below(16), 33 + below(16)][below(4) === 0 ? 1 : 0];
+  const address = () => [below(cells + 1), 33 + below(16)][below(2)] + 64 * below(4);
+  const place = () => [1 + below(cells), 33 + below(16)][below(4) === 0 ? 1 : 0];
   const slots = () => `36CCB ${['X', 'Y', 'Z', 'F'].slice(0, 1 + below(4)).map((s) => `${s}=${address()}`).join(' ')}`;
   const tick = () => `T ${below(12) ? 0 : below(5)} ${hex(below(65536))} ${below(3) ? 'ffff' : hex(below(65536))} ${below(3) ? 'Q' : 'F'}`;
   const read = () => ['W E', '36CCA Y?', '36CCA Z?', '36CCA F?', '36CCB X?', '36CCB F?', '36RDADC X?', '36RDADC Y?', '36RDADC Z?'][below(9)];
@@ -41,10 +42,11 @@ export function randomWiring(seed, count) {
 export function randomPart(seed, lines, { types, addresses }, partsAt) {
   const below = numbers(seed);
   const pick = (from) => from[below(from.length)];
-  const place = pick(PLACES);
   const ticks = lines.flatMap((line, i) => (line.startsWith('T ') ? [i] : []));
   const end = below(2) && ticks.length ? pick(ticks) : lines.length;
-  const now = partsAt(end)[place];
+  const parts = partsAt(end);
+  const place = pick(placesIn(parts));
+  const now = parts[place];
   const slotsOf = (type) => Object.fromEntries(Object.entries(types[type].slots).map(([s, x]) => [s, x.initial]));
   const fresh = (type) => ({ type, configuration: types[type].configuration ? 0 : null, slots: slotsOf(type) });
   const address = () => Number(pick(Object.keys(addresses)));
@@ -53,17 +55,16 @@ export function randomPart(seed, lines, { types, addresses }, partsAt) {
     return { place, end, wanted, initial: { type: wanted.type, configuration: 0, slots: {} } };
   }
   const { configuration, slots } = types[now.type];
-  const kept = configuration ? now : { ...now, configuration: null };
   const kind = below(4);
   if (kind === 0) {
     const wanted = fresh(below(types.length));
     return { place, end, wanted, initial: below(2) ? fresh(wanted.type) : wanted.type ? fresh(wanted.type) : wanted };
   }
-  if (kind === 1 && configuration) return { place, end, wanted: { ...kept, configuration: below(Math.min(configuration.most, 500) + 1) }, initial: fresh(now.type) };
+  if (kind === 1 && configuration) return { place, end, wanted: { ...now, configuration: below(Math.min(configuration.most, 500) + 1) }, initial: fresh(now.type) };
   const slot = pick(Object.keys(slots));
-  if (!slot) return { place, end, wanted: { ...kept, configuration: below(2) }, initial: fresh(0) };
+  if (!slot) return { place, end, wanted: { ...now, configuration: below(2) }, initial: fresh(0) };
   const found = address();
-  return { place, end, wanted: { ...kept, slots: { ...kept.slots, [slot]: slots[slot].edge && found < 128 ? found + 128 : found } }, initial: fresh(now.type) };
+  return { place, end, wanted: { ...now, slots: { ...now.slots, [slot]: slots[slot].edge && found < 128 ? found + 128 : found } }, initial: fresh(now.type) };
 }
 
 // A trigger source, and a state of a cell that keeps one, as a form might want them.
@@ -72,7 +73,7 @@ export function randomSetting(seed, lines, { types }, readAt) {
   const ticks = lines.flatMap((line, i) => (line.startsWith('T ') ? [i] : []));
   const end = below(2) && ticks.length ? ticks[below(ticks.length)] : lines.length;
   const { parts } = readAt(end);
-  const keepers = PLACES.filter((p) => isCell(p) && types[parts[p].type].state);
+  const keepers = placesIn(parts).filter((p) => isCell(p) && types[parts[p].type].state);
   const place = keepers[below(Math.max(1, keepers.length))] ?? null;
   return { end, clock: below(5), place, value: place && below(Math.min(types[parts[place].type].state.most, 9) + 1) };
 }

@@ -2,6 +2,7 @@
 // gives the lines of one; this file only shows bytes.
 
 import { when } from './runs.js';
+import { complaintHtml } from './panel.js';
 import { outputsFor } from './state.js';
 import { escapeText } from './dom.js';
 
@@ -13,27 +14,22 @@ export function describeRecord({ means, refusals }) {
 }
 
 // Where a program says `:N-17` alone, the manual's words stand behind it.
-export function refusalWords(errors) {
-  const number = errors.match(/^:N-(\d+)\s*$/)?.[1];
-  return [errors.trim(), record.refusals[number]].filter(Boolean).join(': ');
-}
+export const refusalWords = (errors) => errors.trim().replace(/^:N-(\d+)$/, (said, number) => [said, record.refusals[number]].filter(Boolean).join(': '));
 
 export function recordHtml(table) {
   return when(outputsFor(table), (found) => {
     const forms = table.map((p, i) => ({ ...p, ...found[i] }));
     const [present, ...others] = forms.filter((f) => f.output.length);
     const open = '<span><button data-open-record>Open a record</button> <span class="quiet">plload gives its lines</span></span>';
-    return `<p class="tools">${[...forms.filter((f) => f.output.length).map(saveForm), open].join(' ')}</p>${forms.map(complaint).join('')}
-      ${hexHtml(present)}${others.map((f) => `<details><summary>${headOf(f)}</summary>${hexHtml(f)}</details>`).join('')}
+    return `<p class="tools">${[...forms.filter((f, i) => i === 0 || f.output.length).map(saveForm), open].join(' ')}</p>${forms.map((f) => complaintHtml(f, { ...f, errors: refusalWords(f.errors) })).join('')}
+      ${present ? hexHtml(present) : ''}${others.map((f) => `<details><summary>${headOf(f)}</summary>${hexHtml(f)}</details>`).join('')}
       <details><summary>what the bytes mean</summary><div class="prose">${record.means}</div></details>`;
   });
 }
 
-const headOf = (f) => `${escapeText(f.title)}, ${f.output.length} bytes`;
+const headOf = (f) => `${escapeText(f.title)}${f.output.length ? `, ${f.output.length} bytes` : ''}`;
 
 const saveForm = (f) => `<span><button data-save="${f.name}">Save as ${f.file}</button> <span class="quiet">${headOf(f)}</span></span>`;
-
-const complaint = (f) => (f.errors ? `<p class="bad said">${escapeText(`${f.title}, ${f.name}: ${refusalWords(f.errors)}`)}</p>` : '');
 
 const hexHtml = (f) => `<pre class="hex">${fieldsOf(f.output).map(fieldRow).join('\n')}</pre>`;
 

@@ -2,31 +2,31 @@
 // can be stopped: it is ended then, and the next run starts another.
 
 import { decoded, programsOf } from './programs.js';
-import { runWithCard, cardAfter, outputOf } from './session.js';
+import { SIZES, runWithHints, outputOf } from './session.js';
 
 const LINES_IN_PAGE = 1000;
 const PROGRESS_EVERY = 100; // ms
 
 // What can be asked, each of lines on a fresh card.
-const JOBS = { whole: runWithCard, card: cardAfter, output: outputOf };
+const JOBS = { whole: runWithHints, output: outputOf };
 
 export class Stopped extends Error {}
 
 // The answer, or a promise of it where it comes from the worker.
 export function makeRuns(modules, workerSource) {
-  const programs = programsOf(modules);
+  const programs = Object.fromEntries(SIZES.map((cells) => [cells, programsOf(modules, cells)]));
   const lines = worker(modules, workerSource);
   const questions = worker(modules, workerSource);
   return {
     programs,
-    ask: (job, given, ...rest) => (given.length <= LINES_IN_PAGE ? JOBS[job](programs, given, ...rest) : lines.ask({ job, args: [given, ...rest] })),
+    ask: (cells, job, given, ...rest) => (given.length <= LINES_IN_PAGE ? JOBS[job](programs[cells], given, ...rest) : lines.ask({ cells, job, args: [given, ...rest] })),
     onProgress: (told) => { lines.told = told; },
     stop: lines.stop,
     // One program on one input, always in a worker of its own; `onText` is told what it has written so far.
-    stream(name, input, onText) {
+    stream(cells, name, input, onText) {
       questions.stop();
       questions.told = onText;
-      return questions.ask({ job: 'stream', args: [name, input] });
+      return questions.ask({ cells, job: 'stream', args: [name, input] });
     },
     stopStream: questions.stop,
   };
@@ -80,10 +80,10 @@ export function serveJobs(scope) {
       modules = data.modules;
       return;
     }
-    const { id, job, args } = data;
+    const { id, cells, job, args } = data;
     const tell = (told) => scope.postMessage({ id, told });
     try {
-      scope.postMessage({ id, value: job === 'stream' ? streamed(modules, tell, ...args) : JOBS[job](programsOf(modules, progressHooks(tell)), ...args) });
+      scope.postMessage({ id, value: job === 'stream' ? streamed(modules, cells, tell, ...args) : JOBS[job](programsOf(modules, cells, progressHooks(tell)), ...args) });
     } catch (error) {
       scope.postMessage({ id, error: String(error?.message ?? error) });
     }
@@ -102,8 +102,8 @@ function progressHooks(tell) {
   });
 }
 
-function streamed(modules, tell, name, input) {
-  const { output, errors } = programsOf({ [name]: modules[name] }, () => ({ onWrite: (bytes) => tell(decoded(bytes)) }))[name](input);
+function streamed(modules, cells, tell, name, input) {
+  const { output, errors } = programsOf(modules, cells, () => ({ onWrite: (bytes) => tell(decoded(bytes)) }))[name](input);
   return { text: decoded(output), errors };
 }
 

@@ -1,16 +1,27 @@
 // From the text of the editor to what the programs say of it.
 //
-// Nothing here knows what a cell does. Levels, types, sources, counts and truth tables are asked of the card by its own read lines ("probes"), which
-// change nothing, and come back as answers of plrun or words of plexplain. This file writes probes, and takes answers apart; words.js takes sentences apart.
+// Nothing here knows what a cell does. What the page has to know comes from the rows that plexplain writes with --rows, one for each line; its sentences are
+// shown as they are. A card of sixteen cells is plrun's too, and its answers have to be the same.
 
 import { decoded } from './programs.js';
-import { blockReader, pointerIn, FRESH_POINTER, typeIn, connectorIn, namesIn, withoutSubject, told, renumbered } from './words.js';
 
 export const CONNECTORS = ['BNC1', 'BNC2', 'BNC3', 'BNC4', 'BNC5', 'BNC6', 'BNC7', 'BNC8',
   'TTL0', 'TTL1', 'TTL2', 'TTL3', 'TTL4', 'TTL5', 'TTL6', 'TTL7'];
-export const CELLS = Array.from({ length: 16 }, (_, i) => i + 1);
 export const FIRST_CONNECTOR = 33;
 export const CLOCKS = [0, 1, 2, 3, 4];
+export const SIZES = [16, 32]; // cells of a card
+export const sizeWords = (cells) => ({ 16: 'sixteen', 32: 'thirty-two' })[cells];
+export const SLOT_LETTERS = ['X', 'Y', 'Z', 'F'];
+
+// ---- cells and connectors by their places
+
+const upTo = (count) => Array.from({ length: count }, (_, i) => i + 1);
+const PLACES = Object.fromEntries(SIZES.map((cells) => [cells, [...upTo(cells), ...CONNECTORS.map((_, i) => FIRST_CONNECTOR + i)]]));
+
+export const placesOf = (cells) => PLACES[cells];
+export const isCell = (place) => place < FIRST_CONNECTOR;
+export const nameOf = (place) => (isCell(place) ? `cell ${place}` : CONNECTORS[place - FIRST_CONNECTOR]);
+export const placeOf = (name) => (name.startsWith('cell ') ? Number(name.slice(5)) : FIRST_CONNECTOR + CONNECTORS.indexOf(name));
 
 // ---- text and lines
 
@@ -34,159 +45,138 @@ const hexWord = (word) => word.toString(16).padStart(4, '0');
 
 export const tickLine = ({ clock, levels, attached }, kind) => `T ${clock} ${hexWord(levels)} ${hexWord(attached)} ${kind}`;
 
+export function tickInput(line) {
+  const [, clock, sample, attached] = line.split(' ');
+  return { clock, sample: parseInt(sample, 16), attached: parseInt(attached, 16) };
+}
+
 export const bitOf = (word, index) => (word >> index & 1) === 1;
 
-// What a program writes for lines, as it is; or for what another program, `of`, writes for them. `words` are those of its command line.
+// What a program writes for lines, as it is; or for what another program, `of`, writes for them. `words` are those of the first program's command line.
 export function outputOf(programs, lines, name, of = null, words = []) {
-  return programs[name](of ? outputOf(programs, lines, of).output : asInput(withoutRemarks(lines)), words);
+  if (!of) return programs[name](asInput(withoutRemarks(lines)), words);
+  const { output } = outputOf(programs, lines, of, null, words);
+  return output.length ? programs[name](output) : { output, errors: '' };
 }
 
 const textOf = (programs, lines, name) => decoded(outputOf(programs, lines, name).output);
 
-// The numbers in what plexplain writes go by the lines that it got; this gives those of the editor.
-export function withEditorNumbers(text, lines) {
+// The numbers in what a program writes go by the lines that it got; this gives those of the editor.
+export function editorNumbers(lines) {
   const numbers = lines.flatMap((line, i) => (isRemark(line) ? [] : [i + 1]));
-  return numbers.length === lines.length ? text : renumbered(text, (n) => numbers[n - 1]);
+  return (n) => numbers[n - 1] ?? n;
+}
+
+// "5, tick 1> T 0 0000 ffff Q": in what plexplain prints only the line itself begins with a number.
+export function withEditorNumbers(text, lines) {
+  const numberOf = editorNumbers(lines);
+  return lines.some(isRemark) ? text.replace(/^\d+(?=[^\n>]*> )/gm, numberOf) : text;
+}
+
+// ---- rows
+
+// One entry for each line, by plexplain's row of it. A remark has an entry, and no answer. Where plexplain takes no line of the input, what it says of that
+// stands for the rows.
+export function entriesOf(programs, lines) {
+  const { output, errors } = programs.plexplain(asInput(withoutRemarks(lines)), ['--rows']);
+  const rows = JSON.parse(`[${decoded(output).trimEnd().replaceAll('\n', ',')}]`);
+  let [next, pointer] = [0, null];
+  return lines.map((line, index) => {
+    if (isRemark(line)) return { index, line, answer: '', kind: 'remark', pointer };
+    const entry = entryOf(rows[next++] ?? { answer: '', refusal: 0, event: 'none', errors }, line, index, pointer);
+    pointer = entry.pointer;
+    return entry;
+  });
+}
+
+function entryOf(row, line, index, pointerBefore) {
+  const { answer, refusal, event, errors } = row;
+  if (event === 'tick') return { index, line, answer, refusal, kind: row.ran ? 'tick' : 'idle', pointer: pointerBefore, hints: row.hints ?? [], tick: tickOf(row) };
+  const { pointer = pointerBefore, trigger = null, changed = null, edited = [], pointer_did_not_move: astray = false } = row;
+  return { index, line, answer, refusal, kind: refusal || errors ? 'refused' : 'accepted', pointer, trigger, changed, edited: edited.length > 0, astray, errors };
+}
+
+// Of the cells that the rules name only what they are behind the tick is kept: a run may have many ticks.
+function tickOf({ tick, full, clock, sample, attached, ran, driven, cells, woken, levels, named }) {
+  if (!ran) return { idle: true, full, clock, sample, attached };
+  return { number: tick, full, clock, sample, attached, driven, cells, woken, levels, named: Object.fromEntries(named.map((n) => [n.cell, { type: n.type, ...n.after }])) };
 }
 
 // ---- a whole run
 
-// One entry for each line: its answer by plrun, and plexplain's words. A remark has an entry, and no answer.
-//
-// Behind each tick line plrun gets two reads, which give the levels of the front and of the backplane; behind every other line plexplain gets `W E`, which says
-// where the pointer is. So the two get different probes, and their answers to the lines have to be the same.
+// The entries with plexplain's sentences: it writes for each line its number and the line, its answer, and sentences, each behind four blanks or more.
 export function runSession(programs, lines) {
-  const handed = withoutRemarks(lines);
-  const answers = textOf(programs, handed.flatMap((line) => (isTick(line) ? [line, ...LEVEL_READS] : [line])), 'plrun').split('\n');
-  const reader = blockReader(textOf(programs, handed.flatMap((line) => (isTick(line) ? [line] : [line, 'W E'])), 'plexplain'));
-  let [next, pointer] = [0, FRESH_POINTER];
-  const entries = lines.map((line, index) => {
-    if (isRemark(line)) return { index, line, answer: '', words: [], kind: 'remark', pointer, agrees: true };
-    const entry = readEntry(reader, line, index, answers[next], pointer);
-    if (entry.kind === 'tick') Object.assign(entry.tick, { levels: numberIn(answers[next + 1]) + numberIn(answers[next + 2]) * 256 });
-    next += isTick(line) ? 1 + LEVEL_READS.length : 1;
-    pointer = entry.pointer;
-    return entry;
+  const entries = entriesOf(programs, lines);
+  const asked = entries.filter((e) => e.kind !== 'remark');
+  const blocks = textOf(programs, lines, 'plexplain').split(/\n(?=\d)/).map((block) => block.trimEnd().split('\n'));
+  const answers = programs.cells === 16 ? textOf(programs, lines, 'plrun').split('\n') : null;
+  asked.forEach((entry, i) => {
+    const [, answer = '', ...words] = blocks[i] ?? [];
+    entry.words = entry.errors ? [entry.errors.trim()] : words.map((text) => text.slice(4));
+    if (entry.errors) entry.answer = answers?.[i] ?? '';
+    entry.agrees = entry.answer === (entry.errors ? entry.answer : answer) && (!answers || entry.answer === answers[i]);
+    if (entry.hints) entry.hints.forEach((hint, n) => { hint.words = entry.words.at(n - entry.hints.length); });
   });
-  numberTicks(entries);
-  return { lines, entries, disagreements: disagreementsOf(entries, answers.length - 1 === next && reader.atEnd()), ticks: entries.filter((e) => e.tick) };
-}
-
-const LEVEL_READS = ['36RDADC X?', '36RDADC Y?'];
-const numberIn = (answer) => Number(answer?.slice(3));
-
-function readEntry(reader, line, index, answerOfPlrun, pointerBefore) {
-  const { answer, words } = reader.block();
-  const entry = { index, line, answer, words, kind: kindOf(answer), pointer: pointerBefore, agrees: answer === answerOfPlrun };
-  if (entry.kind === 'tick') entry.tick = readTick(line, answer, words);
-  if (entry.kind === 'idle') entry.tick = { idle: true, ...tickInput(line) };
-  if (isTick(line)) return entry;
-  const probe = reader.block(1);
-  return { ...entry, pointer: pointerIn(probe.words), agrees: entry.agrees && Boolean(probe.echo?.endsWith('W E')) };
-}
-
-function kindOf(answer = '') {
-  if (answer === 'T -') return 'idle';
-  if (answer.startsWith('T ')) return 'tick';
-  if (answer.startsWith(':A')) return 'accepted';
-  return 'refused';
-}
-
-export function tickInput(line) {
-  const [, clock, sample, attached, kind] = line.split(' ');
-  return { clock, sample: parseInt(sample, 16), attached: parseInt(attached, 16), full: kind === 'F' };
-}
-
-function readTick(line, answer, words) {
-  const [, driven, cells, woken, count] = answer.split(' ');
-  return { ...tickInput(line), driven: parseInt(driven, 16), cells: parseInt(cells, 16), woken: parseInt(woken, 16), count: Number(count), words };
-}
-
-function numberTicks(entries) {
-  let number = 0;
-  for (const entry of entries) if (entry.kind === 'tick') entry.tick.number = ++number;
-}
-
-// If plrun and plexplain ever do not agree, the page must not look sure.
-function disagreementsOf(entries, wholeRead) {
-  const lines = entries.filter((e) => !e.agrees).map((e) => e.index + 1);
-  return wholeRead ? lines : [...lines, entries.length];
+  for (const entry of entries) entry.words ??= [];
+  return { lines, entries, disagreements: asked.filter((e) => !e.agrees).map((e) => e.index + 1), ticks: entries.filter((e) => e.tick) };
 }
 
 // ---- the card at one moment
 
-// The session, and what the card is wired to after it in plexplain's words. The questions stand behind the last line, so that moving the pointer does
-// no harm, and one run of the programs gives both.
-export function runWithCard(programs, lines) {
-  const { session, card } = runAndRead(programs, lines);
-  return { session, card, hints: hintsOn(programs, textOf(programs, lines, 'plprint')) };
+const freshCards = {}; // by size
+
+// A fresh card by its own reads, since a row has only what a line changed.
+function freshCard(programs) {
+  const { cells } = programs;
+  if (freshCards[cells]) return freshCards[cells];
+  const places = placesOf(cells);
+  const [start, ...read] = entriesOf(programs, ['W E', ...places.flatMap((place) => [`M E=${place}`, '36CCA Y?', '36CCA Z?'])]);
+  const numberOf = ({ refusal, answer }) => (refusal ? 0 : Number(answer.slice(3)));
+  const parts = places.map((place, i) => [place, { type: numberOf(read[3 * i + 1]), config: numberOf(read[3 * i + 2]), slots: [0, 0, 0, 0], bit: false, count: 0 }]);
+  freshCards[cells] = { pointer: start.pointer, trigger: start.trigger, parts: Object.fromEntries(parts) };
+  return freshCards[cells];
 }
 
-function runAndRead(programs, lines) {
-  const whole = runSession(programs, [...lines, ...CARD_PROBES]);
-  const entries = whole.entries.slice(0, lines.length);
-  return { session: { ...whole, lines, entries }, card: readCard(whole.entries.slice(lines.length)) };
+// The card behind entries: { pointer, trigger, parts: what each place has, as the rows say it }.
+export function cardBehind(programs, entries) {
+  const card = freshCard(programs);
+  const parts = { ...card.parts };
+  let { pointer, trigger } = card;
+  for (const e of entries) {
+    for (const c of e.changed?.cells ?? []) parts[c.cell] = c;
+    for (const c of e.changed?.connectors ?? []) parts[placeOf(c.connector)] = { type: c.type, config: c.source, slots: [] };
+    for (const [cell, { bit, count }] of Object.entries(e.tick?.named ?? {})) parts[cell] = { ...parts[cell], bit, count };
+    pointer = e.pointer ?? pointer;
+    trigger = e.trigger ?? trigger;
+  }
+  return { pointer, trigger, parts };
 }
 
-export const cardAfter = (programs, lines) => runAndRead(programs, lines).card;
+// ---- hints
 
-// plexplain gives hints in the first tick behind a wiring. So the wiring that plprint prints is set on a card of its own, and gets a tick of every clock: one
-// of them runs. The last wiring's are kept, since most changes are ticks.
-const lastHints = { printed: null, hints: [] };
+// plexplain gives hints in the first tick behind a wiring. So the lines are given without their ticks to a card of its own, which then gets a tick of every
+// clock: one of them runs. The last wiring's are kept, since most changes are ticks.
+const lastHints = { wiring: null, hints: [] };
 
-function hintsOn(programs, printed) {
-  if (lastHints.printed === printed) return lastHints.hints;
-  const ticks = CLOCKS.map((clock) => tickLine({ clock, levels: 0, attached: 0xffff }, 'Q'));
-  const hints = runSession(programs, [...splitLines(printed).lines, ...ticks]).ticks.flatMap((e) => told(e.tick).hints);
-  Object.assign(lastHints, { printed, hints });
-  return hints;
-}
-
-const CELL_READS = ['M E=', '36CCA Y?', '36CCA Z?', '36CCA F?', '36CCB X?', '36CCB Y?', '36CCB Z?', '36CCB F?'];
-
-const cellProbes = (cell) => CELL_READS.map((read) => (read === 'M E=' ? read + cell : read));
-
-const CARD_PROBES = [...CELLS.flatMap(cellProbes), ...CONNECTORS.map((_, i) => `M E=${FIRST_CONNECTOR + i}`)];
-
-function readCard(said) {
-  const ofCell = (i) => said.slice(i * CELL_READS.length, (i + 1) * CELL_READS.length);
-  return {
-    cells: CELLS.map((cell, i) => readCell(cell, ofCell(i))),
-    connectors: CONNECTORS.map((name, i) => readConnector(name, said[CELLS.length * CELL_READS.length + i])),
-  };
-}
-
-const SLOT_LETTERS = ['X', 'Y', 'Z', 'F'];
-
-function readCell(cell, [place, type, configuration, state, ...slots]) {
-  const words = [configuration, state, ...slots].filter(isAccepted).map(sentenceOfRead);
-  return {
-    cell, typeName: typeIn(place.pointer), name: `cell ${cell}`,
-    type: numberOf(type), configuration: isAccepted(configuration) ? numberOf(configuration) : null,
-    slotCount: slots.filter(isAccepted).length,
-    slots: Object.fromEntries(slots.map((e, i) => [SLOT_LETTERS[i], e]).filter(([, e]) => isAccepted(e)).map(([s, e]) => [s, numberOf(e)])),
-    words: [...new Set(words)],
-    names: namesIn(slots.filter(isAccepted).map(sentenceOfRead).join(' ')),
-  };
-}
-
-const isAccepted = (entry) => entry.kind === 'accepted';
-const numberOf = (entry) => numberIn(entry.answer);
-const sentenceOfRead = (entry) => withoutSubject(entry.words[0]);
-
-function readConnector(name, entry) {
-  const found = connectorIn(entry.pointer);
-  return { name, ...found, isInput: found.kind === 'input', names: namesIn(found.source ?? '') };
+export function runWithHints(programs, lines) {
+  const session = runSession(programs, lines);
+  const wired = withoutRemarks(lines).filter((line) => !isTick(line));
+  const wiring = `${programs.cells} ${wired.join('\n')}`;
+  if (lastHints.wiring !== wiring) {
+    const ticks = CLOCKS.map((clock) => tickLine({ clock, levels: 0, attached: 0xffff }, 'Q'));
+    Object.assign(lastHints, { wiring, hints: runSession(programs, [...wired, ...ticks]).entries.flatMap((e) => e.hints ?? []) });
+  }
+  return { session, hints: lastHints.hints };
 }
 
 // ---- truth tables
 
 // The rows of a lookup, each tried on a card of its own: the slots are wired to TTL0 to TTL3, and one tick is given for each combination.
-export function truthTable(programs, { type, configuration, slotCount }) {
-  const slots = SLOT_LETTERS.slice(0, slotCount);
+export function truthTable(programs, { type, configuration, slots: its }) {
+  const slots = Object.keys(its);
   const wiring = ['M E=1', `36CCA Y=${type}`, `36CCA Z=${configuration}`, `36CCB ${slots.map((s, i) => `${s}=${41 + i}`).join(' ')}`];
-  const combinations = Array.from({ length: 2 ** slotCount }, (_, p) => p);
+  const combinations = Array.from({ length: 2 ** slots.length }, (_, p) => p);
   const ticks = combinations.map((p) => tickLine({ clock: 0, levels: p << 8, attached: 0xffff }, 'F'));
-  const answers = textOf(programs, [...wiring, ...ticks], 'plrun').split('\n').slice(wiring.length);
-  return { slots, rows: combinations.map((p) => ({ p, high: bitOf(parseInt(answers[p].split(' ')[2], 16), 0) })) };
+  const entries = entriesOf(programs, [...wiring, ...ticks]).slice(wiring.length);
+  return { slots, rows: combinations.map((p) => ({ p, high: bitOf(entries[p].tick.cells, 0) })) };
 }

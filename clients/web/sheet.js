@@ -1,8 +1,7 @@
 // On paper: a handout with the picture, the wiring with a sentence for each line, and the ticks in columns. Covered ticks stay covered.
 
 import { imageHtml } from './panel.js';
-import { outputOf } from './session.js';
-import { isAboutEdits } from './words.js';
+import { outputOf, sizeWords } from './session.js';
 import { svgOf } from './drawing.js';
 import { answersNow } from './questions.js';
 import { state, view, programs, wired } from './state.js';
@@ -11,8 +10,9 @@ import { byId, capital, escapeText } from './dom.js';
 export function fillSheet() {
   const { session } = view;
   const firstTick = session.ticks[0]?.index ?? session.entries.length;
-  const picture = session.ticks.length && !state.cover ? imageHtml(outputOf(programs(), session.lines, 'pldraw').output) : '';
-  byId('sheet').innerHTML = `<h1>${escapeText(capital(state.title || (state.cover ? 'Exercise' : 'Wiring')))}</h1>
+  const drawn = session.ticks.length && !state.cover ? outputOf(programs(), session.lines, 'pldraw').output : [];
+  const picture = drawn.length ? imageHtml(drawn) : '';
+  byId('sheet').innerHTML = `<h1>${escapeText(capital(state.title || (state.cover ? 'Exercise' : 'Wiring')))}</h1>${state.cells === 16 ? '' : `<p>A card of ${sizeWords(state.cells)} cells.</p>`}
     ${state.brief ? `<p class="said">${escapeText(state.brief)}</p>` : ''}${svgOf(wired().parts, null)}${picture}${questionsHtml()}
     <h2>Wiring</h2><table><tbody>${session.entries.slice(0, firstTick).map(wiringRow).join('')}</tbody></table>
     <h2>Ticks${state.tickMs ? `, ${state.tickMs} ms each` : ''}</h2><div class="ticks">${session.entries.slice(firstTick).map(runRow).join('')}</div>`;
@@ -31,7 +31,7 @@ const answerCode = (e) => (e.covered ? '<i></i>' : code(e.answer));
 
 function wiringRow(e) {
   if (e.kind === 'remark') return `<tr class="remark"><td>${e.index + 1}</td><td colspan="3">${escapeText(e.line)}</td></tr>`;
-  const words = e.covered ? '' : e.words.filter((w) => !isAboutEdits(w)).join('\n');
+  const words = e.covered ? '' : (e.edited ? e.words.slice(0, -1) : e.words).join('\n'); // the last one says which cells it edited
   return `<tr class="${e.covered ? '' : e.kind}"><td>${e.index + 1}</td><td>${code(e.line)}</td><td>${answerCode(e)}</td><td>${escapeText(words)}</td></tr>`;
 }
 

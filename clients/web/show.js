@@ -1,10 +1,9 @@
 // Showing what the state holds: lines with their answers, connectors, the diagram. It reads the state and never changes it.
 
-import { CONNECTORS, FIRST_CONNECTOR, CLOCKS, splitLines, bitOf } from './session.js';
-import { shortened, told } from './words.js';
-import { TRIGGER, linesOf } from './wire.js';
+import { CONNECTORS, FIRST_CONNECTOR, CLOCKS, SIZES, nameOf, sizeWords, splitLines, bitOf } from './session.js';
+import { TRIGGER, addressName, linesOf } from './wire.js';
 import { state, view, canUndo, wired, tickLookedAt } from './state.js';
-import { showForm, hintedInForm } from './form.js';
+import { describe, hintedInForm, showForm, typeName, withoutNumber } from './form.js';
 import { showTabs, showPanel } from './panel.js';
 import { showDiagram, columnOf, placeColumn, scrollToColumn, whereWords } from './timing.js';
 import { checkedCount } from './exercise.js';
@@ -116,11 +115,15 @@ export function linesScrolled() {
 function answerRow(e) {
   if (e.covered) return `<div class="answer" data-line="${e.index}"><b>?</b> <span>covered</span></div>`;
   if (e.kind === 'remark') return `<div class="answer remark" data-line="${e.index}"><span>remark</span></div>`;
-  const gist = e.kind === 'tick' ? `tick ${e.tick.number}${hintsWords(told(e.tick).hints)}` : shortened(e.words[0] ?? '');
-  return `<div class="answer ${e.kind}" data-line="${e.index}" title="${escapeText(e.words.join('\n'))}"><b>${escapeText(e.answer)}</b> <span>${escapeText(gist)}</span></div>`;
+  const gist = e.kind === 'tick' ? `tick ${e.tick.number}${e.hints.length ? `, ${count(e.hints.length, 'hint')}` : ''}` : gistOf(e);
+  return `<div class="answer ${e.kind}${e.astray ? ' astray' : ''}" data-line="${e.index}" title="${escapeText(e.words.join('\n'))}"><b>${escapeText(e.answer)}</b> <span>${escapeText(gist)}</span></div>`;
 }
 
-const hintsWords = (hints) => (hints.length ? `, ${count(hints.length, 'hint')}` : '');
+// What plexplain says first, without what the answer and the lines above say already: the refusal's number, the cell's type.
+function gistOf(e) {
+  if (e.astray && !e.refusal) return `goes to ${nameOf(e.pointer)}: the pointer did not move`;
+  return withoutNumber(e).split('\n')[0].replace(/^(cell \d+) \([^)]*\):/, '$1:');
+}
 
 function tally() {
   const refused = refusedLines().length;
@@ -146,10 +149,12 @@ function showRefusals() {
     <code>${escapeText(cutLine(e.line)) || '(empty)'}</code> <b>${escapeText(e.answer)}</b><div class="said">${escapeText(e.words.join('\n'))}</div></li>`);
   const more = refused.length - rows.length;
   put(byId('refusals'), rows.length ? `<ul>${rows.join('')}</ul>${more > 0 ? `<p>and ${more} more, red in the lines above</p>` : ''}` : '');
-  put(byId('wiring-hints'), view.hints.filter((hint) => !hintedInForm(hint)).map((hint) => `<p class="said">${escapeText(hint)}</p>`).join(''));
+  put(byId('wiring-hints'), view.hints.filter((hint) => !hintedInForm(hint)).map((hint) => `<p class="said">${escapeText(hint.words)}</p>`).join(''));
 }
 
 // ---- connectors
+
+const PUSH_PULL = 2;
 
 const PLUG = '<svg viewBox="0 0 16 16" aria-hidden="true"><path d="M5 1v4M11 1v4M3 5h10v2a5 5 0 0 1-10 0zM8 12v3"/><path class="strike" d="M2 14 14 2"/></svg>';
 
@@ -179,16 +184,23 @@ export function showConnectors() {
   byId('undo').disabled = !canUndo();
   for (const id of ['quick', 'full', 'many', 'predict', 'trigger']) byId(id).disabled = exercise;
   document.title = state.title ? `${capital(state.title)} – trigger card` : 'Trigger card';
-  view.card.connectors.forEach((c, i) => {
+  for (const cells of SIZES) {
+    byId(`cells-${cells}`).setAttribute('aria-pressed', state.cells === cells);
+    byId(`cells-${cells}`).disabled = exercise || Boolean(state.task);
+  }
+  byId('size').textContent = `${sizeWords(state.cells)} cells`;
+  byId('by-plrun').hidden = state.cells !== 16;
+  CONNECTORS.forEach((name, i) => {
+    const c = view.card.parts[FIRST_CONNECTOR + i];
     const jack = byId(`switch-${i}`).parentElement;
-    jack.classList.toggle('output', !c.isInput);
-    jack.classList.toggle('pushpull', c.kind === 'push-pull');
-    jack.classList.toggle('wired', !c.isInput && c.address !== '0');
+    jack.classList.toggle('output', c.type !== 0);
+    jack.classList.toggle('pushpull', c.type === PUSH_PULL);
+    jack.classList.toggle('wired', c.type !== 0 && c.configuration !== 0);
     jack.classList.toggle('loose', !bitOf(state.attached, i));
-    jack.title = `${c.name}: ${c.words}.`;
+    jack.title = `${name}: ${describe(c, FIRST_CONNECTOR + i)}.`;
     byId(`switch-${i}`).setAttribute('aria-checked', bitOf(state.levels, i));
     byId(`plug-${i}`).setAttribute('aria-pressed', bitOf(state.attached, i));
-    byId(`source-${i}`).textContent = c.isInput ? c.kind : `←\u2009${c.address === '0' ? '0' : c.source}`;
+    byId(`source-${i}`).textContent = c.type === 0 ? typeName(c, FIRST_CONNECTOR + i) : `←\u2009${c.configuration === 0 ? '0' : addressName(c.configuration)}`;
   });
 }
 

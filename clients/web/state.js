@@ -3,13 +3,13 @@
 // Everything that is said about the card comes from a program's output. A change of the text runs the programs anew, from a fresh card, and so the page
 // never holds a card of its own that could differ from theirs.
 
-import { splitLines, asInput, isTick, tickInput, tickLine, withoutRemarks } from './session.js';
+import { splitLines, asInput, isTick, placesOf, tickInput, tickLine } from './session.js';
 import { Stopped, when } from './runs.js';
 import { rowsOf } from './diagram.js';
 import { coverFrom, unmarked, withMark, judged } from './predict.js';
 import { TICK_MS, hashOf } from './link.js';
 import { keep, kept } from './keep.js';
-import { tried, rewired, retriggered, restated } from './wire.js';
+import { wiringBefore, rewired, retriggered, restated } from './wire.js';
 import { againstWords, focusForm } from './form.js';
 import { capital, notice } from './dom.js';
 
@@ -18,9 +18,9 @@ const TYPING_PAUSE = 700;
 const LAST = Infinity;
 
 export const state = {
-  // what undo takes back: the lines, the switches, the example that was opened, what had to be repaired in a file, the title, the length of a tick, the
-  // questions about the wiring
-  text: '', levels: 0, attached: ALL_ATTACHED, clock: '0', about: null, notes: [], title: '', tickMs: TICK_MS, questions: [],
+  // what undo takes back: the lines, the cells of the card, the switches, the example that was opened, what had to be repaired in a file, the title, the
+  // length of a tick, the questions about the wiring
+  text: '', cells: 16, levels: 0, attached: ALL_ATTACHED, clock: '0', about: null, notes: [], title: '', tickMs: TICK_MS, questions: [],
   task: null, brief: '', // an exercise: ticks with their answers, for which a wiring is to be found; its text
   exercise: null, // the line from which an exercise was covered, while its lines are as they were
   selected: -1, // the line that is looked at
@@ -28,6 +28,7 @@ export const state = {
   tab: 'line', allRows: false, zoom: null, row: null, // zoom: pixels of a tick, where it is chosen; row: whose changes are jumped to
   form: null, formSaid: '', // the cell or connector whose form is open, and why its last choice was not written
   large: false, // whether the words take the room of the timing diagram
+  anyway: false, // what programs answer is wanted though lines were refused
   predicting: false, // new ticks are covered, until what they do has been predicted
   cover: null, // the covered lines, and what is predicted of the first tick among them
   score: [], // of each tick that was predicted, what was as predicted
@@ -38,7 +39,7 @@ export const view = { session: null, card: null, hints: [], at: null, rows: [], 
 
 const past = [];
 const undone = [];
-const cards = new Map(); // by line, since the last run
+const cards = new Map(); // by line and form, since the last run
 let runs = null;
 let changed = () => {}; // what shows the page
 let reportFailure = () => {};
@@ -49,17 +50,18 @@ export function startState(itsRuns, show, fail) {
   runs = itsRuns;
   changed = show;
   reportFailure = fail;
-  takeRun(runs.ask('whole', []), -1);
+  takeRun(runs.ask(state.cells, 'whole', []), -1);
 }
 
-export const programs = () => runs.programs;
-export const askStream = (name, input, onText) => runs.stream(name, input, onText);
+export const programsOfSize = (cells) => runs.programs[cells];
+export const programs = () => programsOfSize(state.cells);
+export const askStream = (name, input, onText) => runs.stream(state.cells, name, input, onText);
 export const stopStream = () => runs.stopStream();
-export const has = (name) => name in runs.programs;
+export const has = (name) => name in programs();
 export const canUndo = () => past.length > 0;
 export const forgetPast = () => { past.length = 0; };
 
-const UNDOABLE = ['text', 'levels', 'attached', 'clock', 'about', 'notes', 'title', 'tickMs', 'questions', 'task', 'brief'];
+const UNDOABLE = ['text', 'cells', 'levels', 'attached', 'clock', 'about', 'notes', 'title', 'tickMs', 'questions', 'task', 'brief'];
 const snapshot = () => ({ ...Object.fromEntries(UNDOABLE.map((k) => [k, state[k]])), selected: state.selected });
 
 // A run of keystrokes is one step of undo.
@@ -76,11 +78,12 @@ export function change(patch, { typing = false, caret = false, wrote = -1, selec
   work.touched = !opened;
   if (!opened) notice('');
   Object.assign(state, patch, { formSaid: '' });
-  if (!('text' in patch)) {
+  if (state.form && !placesOf(state.cells).includes(state.form)) state.form = null;
+  if (!('text' in patch) && !('cells' in patch)) {
     keepInAddress();
     return changed({ typing });
   }
-  Object.assign(state, { cover, score, exercise: cover?.exercise ? cover.first : null });
+  Object.assign(state, { cover, score, exercise: cover?.exercise ? cover.first : null, anyway: false });
   return rerun(select, { typing, caret, wrote });
 }
 
@@ -112,7 +115,7 @@ function coverBack(text) {
 function rerun(select, how) {
   waitingRun = [select, how];
   if (view.running) return changed({ running: true });
-  const answer = runs.ask('whole', splitLines(state.text).lines);
+  const answer = runs.ask(state.cells, 'whole', splitLines(state.text).lines);
   waitingRun = null;
   view.running = answer instanceof Promise;
   if (view.running) changed({ running: true });
@@ -145,9 +148,10 @@ export function stopRun() {
   notice('Stopped: the lines are as they were.');
 }
 
-function takeRun({ session, card, hints }, select) {
-  Object.assign(view, { session, card, hints });
+function takeRun({ session, hints }, select) {
+  Object.assign(view, { session, hints });
   cards.clear();
+  view.card = cardAt(session.lines.length - 1);
   state.selected = Math.min(select, session.lines.length - 1);
   if (!session.entries[state.mark]?.tick) state.mark = -1;
   placeCover();
@@ -161,34 +165,28 @@ export function select(index) {
   changed({ moved: true });
 }
 
-// The card at a line, from the first run that asked for it.
-export function cardAt(index) {
-  if (index >= view.session.lines.length - 1) return view.card;
-  if (!cards.has(index)) cards.set(index, runs.ask('card', view.session.lines.slice(0, index + 1)));
-  return cards.get(index);
+// The card behind the lines before `end`, by their rows; with the states that its ticks gave, or as it was wired.
+function cardBefore(end, withTicks) {
+  const key = `${end} ${withTicks}`;
+  if (!cards.has(key)) cards.set(key, wiringBefore(programs(), view.session.lines, view.session.entries, end, withTicks));
+  return cards.get(key);
 }
 
-export const outputFor = ({ name, of, words }) => runs.ask('output', view.session.lines, name, of, words?.());
+export const cardAt = (index) => cardBefore(index + 1, true);
+
+// Where a line was refused, the programs that answer about a wiring answer only if that is asked for.
+export const outputFor = ({ name, of, words, anyway }, asked = state.anyway) => runs.ask(state.cells, 'output', view.session.lines, name, of,
+  [...(words?.() ?? []), ...(anyway && asked ? ['--anyway'] : [])]);
 
 export function outputsFor(table) {
-  const outputs = table.map(outputFor);
+  const outputs = table.map((program) => outputFor(program));
   return outputs.some((o) => o instanceof Promise) ? Promise.all(outputs) : outputs;
 }
 
 // Labels go by the card at the line that is looked at, or at the last line that is not covered.
 function lookAt() {
-  const index = Math.min(state.selected, (state.cover?.from ?? Infinity) - 1);
-  const { session } = view;
-  const card = cardAt(index);
-  view.at = card instanceof Promise ? view.card : card;
+  view.at = cardAt(Math.min(state.selected, (state.cover?.from ?? Infinity) - 1));
   makeRows();
-  if (!(card instanceof Promise)) return;
-  card.then((found) => {
-    if (view.session !== session || Math.min(state.selected, (state.cover?.from ?? Infinity) - 1) !== index) return;
-    view.at = found;
-    makeRows();
-    changed({ moved: true });
-  }).catch(reportFailure);
 }
 
 export function makeRows() {
@@ -240,9 +238,16 @@ export function tickLookedAt() {
 
 // The lines in front of the first tick, as programs get them: what is asked of a wiring is asked of these. An empty line would end them, and does nothing.
 export function wiringLines() {
-  const first = view.session.ticks[0]?.index ?? view.session.lines.length;
-  return withoutRemarks(view.session.lines.slice(0, first)).filter((line) => line !== '');
+  return wiringEntries().map((e) => e.line);
 }
+
+function wiringEntries() {
+  const first = view.session.ticks[0]?.index ?? view.session.lines.length;
+  return view.session.entries.slice(0, first).filter((e) => e.kind !== 'remark' && e.line !== '');
+}
+
+// The number in the editor of the n-th of these.
+export const editorLineOf = (n) => (wiringEntries()[n - 1]?.index ?? n - 1) + 1;
 
 // Ticks behind the wiring, in place of those that are there.
 export function putTicks(ticks) {
@@ -260,23 +265,11 @@ function wiringEnd() {
   return Math.min(next?.index ?? view.session.lines.length, state.cover?.from ?? Infinity);
 }
 
-const wiring = { session: null, end: -1, found: null, ran: null };
-
-export function wired() {
-  const end = wiringEnd();
-  if (wiring.session !== view.session || wiring.end !== end) {
-    Object.assign(wiring, { session: view.session, end, found: tried(runs.programs, view.session.lines, end), ran: null });
-  }
-  return wiring.found;
-}
-wired.fresh = () => tried(runs.programs, [], 0);
+export const wired = () => cardBefore(wiringEnd(), false);
+wired.fresh = () => cardBefore(0, false);
 
 // The states in front of the tick that is looked at, ticks and all.
-export function wiredStates() {
-  wired();
-  wiring.ran ??= tried(runs.programs, view.session.lines, wiring.end, true);
-  return wiring.ran.states;
-}
+export const wiredStates = () => cardBefore(wiringEnd(), true).states;
 
 export function openForm(place) {
   const before = state.form;
@@ -289,16 +282,16 @@ const mayRewire = () => !view.running && !state.cover?.exercise;
 
 // Writes a part as wanted into the lines; where that does not go, it says so at the form. The tick that is looked at stays the same one.
 export function rewire(place, wanted, initial) {
-  if (mayRewire()) writeFound(rewired(runs.programs, view.session.lines, wiringEnd(), place, wanted, initial), sayAtForm);
+  if (mayRewire()) writeFound(rewired(programs(), view.session.lines, wiringEnd(), place, wanted, initial), sayAtForm);
 }
 
 export function setState(place, value) {
-  if (mayRewire()) writeFound(restated(runs.programs, view.session.lines, wiringEnd(), place, value), sayAtForm);
+  if (mayRewire()) writeFound(restated(programs(), view.session.lines, wiringEnd(), place, value), sayAtForm);
 }
 
 // The ticks that are made from now on are of that clock too.
 export function setTrigger(clock) {
-  if (mayRewire()) writeFound(retriggered(runs.programs, view.session.lines, wiringEnd(), clock), notice, { clock: String(clock) });
+  if (mayRewire()) writeFound(retriggered(programs(), view.session.lines, wiringEnd(), clock), notice, { clock: String(clock) });
 }
 
 function writeFound(found, say, patch = {}) {
@@ -392,7 +385,7 @@ function keepInAddress() {
   work.timer = setTimeout(writeAddress, 300);
 }
 
-const KEPT = ['text', 'title', 'tickMs', 'questions', 'task', 'brief'];
+const KEPT = ['text', 'cells', 'title', 'tickMs', 'questions', 'task', 'brief'];
 
 // Only what somebody has worked on: what was only opened and looked at does not take the place of it. An exercise with covered ticks is kept by itself.
 export function keepWork() {

@@ -1,7 +1,7 @@
 // The timing diagram in the page: its columns and rows, zoom, the two marks, and jumps from change to change. diagram.js draws it.
 
 import { drawWaves, drawGuess, drawMisses, columnWidthFor, widthToFit, nextZoom, nearZoom, widthOf, rowHeight, HEAD_HEIGHT } from './diagram.js';
-import { placeOf } from './wire.js';
+import { placeOf } from './session.js';
 import { state, view, select } from './state.js';
 import { boxOf, byId, count, escapeText, msWords, put, putRows, scrollTo } from './dom.js';
 

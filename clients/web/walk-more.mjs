@@ -96,14 +96,15 @@ async function travels(page, url) {
   expect('and out of the file', [await questions(page), await lines(page)], [asked, `${TASK.join('\n')}\nT 0 0000 ffff Q\n`]);
 }
 
-// All states of a counter of sixteen bits take a while: it says so, and can be stopped. The first example is the busy line.
+// All states of eight timers take a while, thirty times: it says so, and can be stopped. The first example is the busy line.
 export async function stopsAsking(page) {
-  await typeLines(page, '36CCA X=4\n');
+  const timers = Array.from({ length: 8 }, (_, i) => `M E=${i + 1}\n36CCA Y=14\n36CCA Z=${60 + i}\n36CCB X=${41 + i} Y=192\n`);
+  await typeLines(page, timers.join(''));
   await page.click('#tab-reach');
   await page.evaluate('document.getElementById("reach-lines").open = true');
-  await setValue(page, '#reach-text', 'never cell 16 and cell 15\\ndead');
+  await setValue(page, '#reach-text', Array.from({ length: 30 }, (_, i) => `after cell ${i % 8 + 1} and cell 9: cell 1 within ${i + 1}`).join('\\n'));
   await page.until('document.querySelector("[data-stop-asking]")');
-  await page.until('/plreach is at question 1 of 2, \\d/.test(document.getElementById("reach-state").innerText)');
+  await page.until('/plreach is at question \\d+ of 30, \\d/.test(document.getElementById("reach-state").innerText)');
   await page.press('[data-stop-asking]');
   await page.until('document.getElementById("reach-state").innerText.startsWith("Stopped after")');
   await page.click('#examples [data-group=busy]');
@@ -187,11 +188,18 @@ export async function makesManyTicks(page) {
   await setValue(page, '#count', 100001);
   await page.click('#many');
   expect('more is said, and not cut', await page.text('#notice'), 'At most 100000 ticks at a time.');
-  await setValue(page, '#count', 60000);
-  await page.evaluate(`(async () => { document.getElementById('many').click(); const bar = document.getElementById('progress-bar');
-    for (let i = 0; i < 2000 && !(bar.value > 0 && bar.checkVisibility()); i += 1) await new Promise((r) => setTimeout(r, 5)); document.getElementById('stop').click(); })()`);
+  await page.evaluate(`(() => { const bar = document.getElementById('progress-bar'); window.progress = [];
+    new MutationObserver(() => window.progress.push(bar.value)).observe(bar, { attributes: true }); })()`);
+  await setValue(page, '#count', 20000);
+  await page.click('#many');
+  await page.until('!document.documentElement.classList.contains("running") && document.getElementById("tally").innerText.includes("23000 ticks")', 60000);
+  expect('how far it is', await page.evaluate('window.progress.some(part => part > 0 && part <= 1)'), true);
+  await page.click('#undo');
+  await page.until('!document.documentElement.classList.contains("running") && document.getElementById("tally").innerText.includes(" 3000 ticks")', 60000);
+  await page.evaluate(`['many', 'stop'].forEach((id) => document.getElementById(id).click())`);
   expect('stopped', [await page.text('#notice'), await page.text('#tally')], ['Stopped: the lines are as they were.', '3012 lines, 3000 ticks']);
   await page.click('#undo');
+  await page.until('!document.documentElement.classList.contains("running")');
   expect('and it goes on', await page.text('#tally'), '12 lines, 0 ticks');
   await setValue(page, '#count', 10);
   await leaveLines(page);
@@ -202,13 +210,18 @@ export async function makesManyTicks(page) {
 export async function readsManual(page) {
   await page.click('#new');
   await page.press('#open-manual');
-  const sections = fs.readFileSync(path.join(TOP, 'docs', 'MANUAL.md'), 'utf8').match(/^## \d+ .*$/gm).length;
-  expect('every section', await page.evaluate('document.querySelectorAll("#manual-text section").length'), sections);
-  await page.click('#manual-contents [data-section="11"]');
-  await page.click('#section-11 td [data-section="4"]');
-  const inSight = (id) => page.evaluate(`(() => { const r = document.getElementById('${id}').getBoundingClientRect(), a = document.getElementById('manual-text').getBoundingClientRect(); return Math.abs(r.top - a.top) < 40; })()`);
-  expect('"look at section 4" goes there', await inSight('section-4'), true);
-  await page.click('#section-7 [data-try]');
+  const sections = fs.readFileSync(path.join(TOP, 'docs', 'MANUAL.md'), 'utf8').match(/^## .*$/gm).map((line) => line.slice(3));
+  expect('every section', await page.evaluate('[...document.querySelectorAll("#manual-text section h2")].map(h => h.textContent)'), sections);
+  const inSight = (title) => page.evaluate(`(() => { const h = [...document.querySelectorAll('#manual-text h2')].find(e => e.textContent.endsWith(${JSON.stringify(title)}));
+    const r = h.getBoundingClientRect(), a = document.getElementById('manual-text').getBoundingClientRect(); return r.top - a.top > -2 && r.top - a.top < 60; })()`);
+  for (const title of ['When the card says no', 'How a tick goes']) {
+    await page.evaluate(`[...document.querySelectorAll('#manual-contents a')].find(a => a.textContent.endsWith(${JSON.stringify(title)})).click()`);
+    expect(`the contents lead to "${title}"`, await inSight(title), true);
+  }
+  const astray = `(() => { const ids = [...document.querySelectorAll('#manual-text section')].map(s => s.id.slice('section-'.length));
+    return [...document.querySelectorAll('#manual-text [data-section]')].map(a => a.dataset.section).filter(name => !ids.some(id => id === name || id.startsWith(name + '-'))); })()`;
+  expect('every link inside the manual has its section', await page.evaluate(astray), []);
+  await page.evaluate(`[...document.querySelectorAll('#manual-text section')].find(s => s.querySelector('h2').textContent.endsWith('How a tick goes') || s.querySelector('[data-try]')).querySelector('[data-try]').click()`);
   expect('an example is tried', (await answers(page)).filter((a) => a.startsWith(':N')), []);
   await typeLines(page, 'M E=');
   await page.press('#tab-tables');
@@ -275,6 +288,105 @@ export async function asksBeforeRecord(page) {
   await page.click('[data-save=plsave]');
   await page.press('#sure-yes');
   expect('and yes', (await savedBytes(page)).length, 308);
+}
+
+// ---- thirty-two cells
+
+// A pulse of cell 17 to BNC3, and cell 32 that reads it.
+const LARGE = ['M E=17', '36CCA Y=14', '36CCA Z=2', '36CCB X=41 Y=192', 'M E=32', '36CCA Y=6', '36CCB X=17', 'M E=35', '36CCA Z=17', 'T 0 0100 ffff Q', 'T 0 0100 ffff Q', 'T 0 0000 ffff Q'];
+const LARGER = ['--cells', '32'];
+
+export async function switchesCells(page, url) {
+  const text = `${LARGE.join('\n')}\n`;
+  await typeLines(page, text);
+  const refused = () => page.evaluate('[...document.querySelectorAll(".answer.refused")].map(e => Number(e.dataset.line))');
+  expect('sixteen cells refuse what is of cells 17 and 32', await refused(), [0, 4, 6, 8]);
+  expect('and a line behind a refused move says where it goes', await page.text('.answer.astray span'), 'goes to cell 1: the pointer did not move');
+  await page.press('#cells-32');
+  expect('the switch', await page.evaluate('[16, 32].map(n => document.getElementById("cells-" + n).getAttribute("aria-pressed"))'), ['false', 'true']);
+  expect('the page says which card it shows', [await page.text('#size'), await page.text('#notice')], ['thirty-two cells', 'The card has thirty-two cells now; the lines are the same.']);
+  expect('the lines are kept, and none is refused', [await lines(page), await refused()], [text, []]);
+  const wanted = program('plexplain', text, [...LARGER, '--rows']).trim().split('\n').map((row) => JSON.parse(row));
+  expect('the answers of plexplain --cells 32', await answers(page), wanted.map((row) => row.answer));
+  expect('its words have eight digits', wanted.at(-1).answer.split(' ')[2].length, 8);
+  expect('rows of cells 17 and 32', await page.texts('#labels b'), ['TTL0', 'cell 17', 'cell 32', 'BNC3 ← cell 17']);
+  await leaveLines(page);
+  await page.key('Home');
+  expect('cells that are high', await page.evaluate('document.getElementById("waves").getAttribute("aria-valuetext")'), 'tick 1, quick; high: TTL0, cell 17, cell 32');
+  await page.press('#tab-drawing');
+  expect('its drawing', await page.evaluate('[...document.querySelectorAll(".canvas .node")].map(n => n.dataset.key)'), ['in 41 0', 'cell 17', 'cell 32', 'out 35']);
+  expect('woken there', await page.evaluate('[...document.querySelectorAll(".node.woken")].map(n => n.dataset.place)'), ['17', '32']);
+  await page.press('#tab-card');
+  expect('the card', [(await page.text('#panel h3')), (await page.texts('#panel th')).slice(0, 2)], ['Card of 32 cells after line 10', ['cell 17', 'cell 32']]);
+  await page.press('.label [data-place="32"]');
+  await setValue(page, '#form [data-form="what Y"]', 'base 31');
+  expect('its form writes', (await lines(page)).split('\n')[6], '36CCB X=17 Y=31');
+  expect('and has all cells to choose', await page.evaluate('document.querySelectorAll("#form [data-form=place] optgroup:first-child option").length'), 32);
+  await page.click('#undo');
+  await page.click('#form [data-form=close]');
+  await page.click('#tab-tables');
+  expect('addresses of cells 17 to 32', await page.evaluate('[17, 32, 96, 224].map(a => Boolean(document.querySelector(`.addresses [data-insert="${a}"]`)))'), [true, true, true, true]);
+  await page.click('#open-presets');
+  await page.until('document.querySelector("[data-preset=\\"51\\"]")');
+  await page.click('#presets .close');
+  await showsOutputs(page, text);
+  await travelsLarge(page, url, text);
+}
+
+// Each program gets the size; one that does not take it is quoted.
+async function showsOutputs(page, text) {
+  for (const name of ['plexplain', 'plprint', 'plsurvey', 'pltally']) {
+    await page.click(`#tab-${name}`);
+    expect(`${name} --cells 32`, await page.evaluate('document.querySelector("#panel pre").textContent'), program(name, text, LARGER));
+  }
+  await page.click('#tab-pldraw');
+  await page.until('document.querySelector("#panel .picture, #panel .bad")');
+  const drawn = program('pldraw', text, LARGER);
+  expect('the picture, or why there is none', await page.evaluate('Boolean(document.querySelector("#panel .picture"))'), drawn !== '');
+  if (!drawn) expect('in the program’s words', (await page.text('#panel .bad')).startsWith('pldraw: --cells'), true);
+  await page.click('#tab-reach');
+  await page.evaluate('document.getElementById("reach-lines").open = true');
+  await setValue(page, '#reach-text', 'never cell 17 and not cell 32');
+  await answered(page);
+  expect('a question about cells 17 and 32', await said(page), ['never']);
+  await setValue(page, '#reach-text', '');
+}
+
+async function travelsLarge(page, url, text) {
+  await page.click('#tab-plsave');
+  await keepSaved(page);
+  await page.click('[data-save=plsave]');
+  const record = await savedBytes(page);
+  expect('a record of 516 bytes', Buffer.from(record).toString('latin1'), program('plsave', text, LARGER, 'latin1'));
+  await page.click('#save');
+  const file = await savedText(page);
+  expect('the file says of which card it is', file, `# a card of 32 cells\n${text}`);
+  await pause(500);
+  const hash = await page.evaluate('location.hash');
+  expect('and the link', hash.includes('&c=32'), true);
+  await page.press('#cells-16');
+  expect('back to sixteen cells', [await lines(page), await page.text('#notice')], [text, 'The card has sixteen cells now; the lines are the same, and it refuses 4 lines of them.']);
+  await page.click('#tab-plsave');
+  expect('no record of a wiring that is not meant', [await page.evaluate('document.querySelectorAll("#panel pre.hex").length'), (await page.text('#panel .bad')).includes('line 1 was refused')], [0, true]);
+  await page.click('[data-anyway]');
+  expect('but where it is asked for', (await page.texts('#panel pre.hex')).length > 0, true);
+  await openFile(page, 'large.record', record);
+  await inText(page, '#hint', 'large.record');
+  expect('a record of the other card is called so', (await page.text('#hint')).endsWith('It is of a card of thirty-two cells, so the page shows that card now, and no longer one of sixteen.'), true);
+  expect('and is shown as that', await page.text('#size'), 'thirty-two cells');
+  await page.click('#tab-plsave');
+  await page.click('[data-save=plsave]');
+  expect('and is the same record again', await savedBytes(page), record);
+  await page.click('#cells-16');
+  await openFile(page, 'large.lines', file);
+  await page.until('document.getElementById("size").innerText === "thirty-two cells"');
+  expect('a file of the other card too', await lines(page), text);
+  await page.click('#undo');
+  expect('undo takes the size back', await page.text('#size'), 'sixteen cells');
+  await page.open(`${url}${hash}`);
+  expect('a link of the other card', [await page.text('#size'), await lines(page)], ['thirty-two cells', text]);
+  await page.open(url);
+  expect('and a page without one has sixteen', await page.text('#size'), 'sixteen cells');
 }
 
 // The tab is closed and opened again.

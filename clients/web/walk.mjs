@@ -283,7 +283,7 @@ export async function runsLong(page, url) {
   expect('the first answers', (await answers(page)).slice(0, 60), stored.slice(0, 60));
   await page.click('#answers [data-line="20"]');
   await page.click('#tab-card');
-  await page.until('/^Card after line 21|^Nothing is wired/.test(document.getElementById("panel").innerText)');
+  await page.until('/^Card of 16 cells after line 21|^Nothing is wired/.test(document.getElementById("panel").innerText)');
   expect('nothing failed', await page.text('#notice'), '');
 }
 

@@ -1,91 +1,105 @@
 // From a form to lines: which lines wire a cell or a connector, and how they are changed.
 //
-// Nothing here knows what the card makes of a line. Each way of writing is tried with plrun on a card of its own, and taken where the part then reads as it
-// was wanted, every other part reads as before, and no line above is refused that was not. Ticks are left out of these trials, since they change no setting;
-// where a state is set, they run too.
+// Nothing here knows what the card makes of a line. Each way of writing is tried with plexplain on a card of its own, and taken where its rows then have the
+// part as it was wanted, every other part as before, and no line above is refused that was not. Ticks are left out of these trials, since they change no
+// setting; where a state is set, they run too.
 
-import { decoded } from './programs.js';
-import { CONNECTORS, CELLS, CLOCKS, FIRST_CONNECTOR, asInput, runSession, isRemark, isTick, tickLine } from './session.js';
-import { typeIn, configurationNameIn, mostIn, slotNameIn, stateNameIn, mostStateIn, sourceNameIn } from './words.js';
+import { SLOT_LETTERS, cardBehind, entriesOf, isCell, isRemark, isTick, nameOf, placesOf, runSession } from './session.js';
+import { configurationNameIn, slotNameIn, typeNameIn } from './words.js';
 
-const SLOTS = ['X', 'Y', 'Z', 'F'];
-const HIGHEST = 4294967295; // the greatest number that a line may hold
 const ADDRESSES = 256;
 const MOST_TYPES = 64;
 export const FIXED_BASE = 64; // an address is a base below this, and how it is read
 
-// ---- cells and connectors by name
-
-export const PLACES = [...CELLS, ...CONNECTORS.map((_, i) => FIRST_CONNECTOR + i)];
-export const isCell = (place) => place < FIRST_CONNECTOR;
-export const nameOf = (place) => (isCell(place) ? `cell ${place}` : CONNECTORS[place - FIRST_CONNECTOR]);
-export const placeOf = (name) => (name.startsWith('cell ') ? Number(name.slice(5)) : FIRST_CONNECTOR + CONNECTORS.indexOf(name));
-
 // ---- what there is to choose, asked of the programs once
 
-// Types of cells with their slots, and addresses by name: all in plexplain's words, from lines on a card of its own.
-export function catalogueOf(programs) {
-  return { types: typesOf(programs), addresses: addressesOf(programs) };
-}
+const catalogues = {}; // by size
 
-const TYPE_READS = ['36CCA Z?', `36CCA Z=${HIGHEST}`, '36CCA F?', `36CCA F=${HIGHEST}`, ...SLOTS.map((s) => `36CCB ${s}?`)];
+// Types of cells with their slots, and addresses by name: { types: [..], addresses: { 169: 'rise of TTL0', .. } }, each that the card takes.
+export const catalogueOf = (programs) => (catalogues[programs.cells] ??= { types: typesOf(programs), addresses: addressesOf(programs) });
+
+const numberIn = ({ answer }) => Number(answer.slice(3));
+const isTaken = (entry) => entry.kind === 'accepted';
+const upToMost = Array.from({ length: 33 }, (_, bits) => 2 ** bits - 1); // every limit is the greatest number of so many bits
+
+// The greatest number that a setting takes, or none.
+const mostOf = (entries) => upToMost.findLast((_, i) => isTaken(entries[i])) ?? null;
+
+const TYPE_READS = ['W E', '36CCA Z?', ...SLOT_LETTERS.map((s) => `36CCB ${s}?`)];
+const TYPE_TRIES = [...upToMost.map((n) => `36CCA Z=${n}`), ...upToMost.map((n) => `36CCA F=${n}`)];
 
 function typesOf(programs) {
-  const asked = Array.from({ length: MOST_TYPES }, (_, type) => [`36CCA Y=${type}`, 'W E', ...TYPE_READS]);
-  const { entries } = runSession(programs, ['M E=1', ...asked.flat()]);
-  const size = TYPE_READS.length + 2;
-  return asked.map((_, type) => entries.slice(1 + type * size, 1 + (type + 1) * size)).filter(([set]) => set.kind === 'accepted').map(readType);
+  const all = Array.from({ length: MOST_TYPES }, (_, type) => `36CCA Y=${type}`);
+  const known = entriesOf(programs, ['M E=1', ...all]).slice(1).filter(isTaken).map((e) => e.line);
+  const asked = (entries, lines) => known.map((_, i) => entries.slice(2 + i * (lines.length + 1), 1 + (i + 1) * (lines.length + 1)));
+  const behind = (lines) => ['M E=1', ...known.flatMap((line) => [line, ...lines])];
+  const reads = asked(runSession(programs, behind(TYPE_READS)).entries, TYPE_READS);
+  const tries = asked(entriesOf(programs, behind(TYPE_TRIES)), TYPE_TRIES);
+  return known.map((_, type) => readType(type, reads[type], mostOf(tries[type]), mostOf(tries[type].slice(upToMost.length))));
 }
 
 // A slot that reads 128 when its type is new is an edge slot.
-function readType([, at, read, most, state, mostState, ...slots], type) {
-  const mayWrite = most.kind === 'accepted' || mostIn(most.words[0]) !== null;
-  const found = slots.flatMap((e, i) => {
-    const initial = Number(e.answer.slice(3));
-    return e.kind === 'accepted' ? [[SLOTS[i], { name: slotNameIn(e.words[0]), initial, edge: initial >= 128 }]] : [];
-  });
+function readType(type, [at, read, ...slots], most, mostState) {
+  const found = slots.flatMap((e, i) => (isTaken(e) ? [[SLOT_LETTERS[i], { name: slotNameIn(e.words[0]), initial: numberIn(e), edge: numberIn(e) >= 128 }]] : []));
   return {
-    type, name: typeIn(at.pointer), slots: Object.fromEntries(found),
-    configuration: mayWrite ? { name: configurationNameIn(read.words[0]), most: Number(mostIn(most.words[0]) ?? HIGHEST) } : null,
-    state: state.kind === 'accepted' ? { name: stateNameIn(state.words[0]), most: Number(mostStateIn(mostState.words[0]) ?? HIGHEST) } : null,
+    type, name: typeNameIn(at.words[0]), slots: Object.fromEntries(found),
+    configuration: most === null ? null : { name: configurationNameIn(read.words[0]), most },
+    state: mostState === null ? null : { name: mostState === 1 ? 'bit' : 'count', most: mostState },
   };
 }
 
-// { 169: 'rise of TTL0', ... }: those that the card takes.
+// "rise of TTL0", as plexplain calls an address.
+export function addressName(address) {
+  const base = address % FIXED_BASE;
+  const how = (address - base) / FIXED_BASE;
+  return base ? ['', 'inverse of ', 'rise of ', 'fall of '][how] + nameOf(base) : ['always low', 'always high'][how % 2];
+}
+
 function addressesOf(programs) {
-  const all = Array.from({ length: ADDRESSES }, (_, a) => a);
-  const { entries } = runSession(programs, ['M E=35', ...all.flatMap((a) => [`36CCA Z=${a}`])]);
-  return Object.fromEntries(entries.slice(1).flatMap((e, a) => (e.kind === 'accepted' ? [[a, sourceNameIn(e.words[0])]] : [])));
+  const tries = entriesOf(programs, ['M E=35', ...Array.from({ length: ADDRESSES }, (_, a) => `36CCA Z=${a}`)]).slice(1);
+  return Object.fromEntries(tries.flatMap((e, a) => (isTaken(e) ? [[a, addressName(a)]] : [])));
 }
 
 // ---- what lines set
 
 export const TRIGGER = 'trigger source'; // beside the places: a part that is no place of the pointer
 
-const PART_READS = ['36CCA Y?', '36CCA Z?', ...SLOTS.map((s) => `36CCB ${s}?`), '36CCA F?'];
-const CONNECTOR_READS = PART_READS.slice(0, 2);
-const readsAt = (place) => (isCell(place) ? PART_READS : CONNECTOR_READS);
+const placesSeen = new WeakMap();
 
-// No line reads the trigger source; but of a tick of each clock only that of the source is not idle.
-const ALL_READS = [...PLACES.flatMap((place) => [`M E=${place}`, ...readsAt(place)]), ...CLOCKS.map((clock) => tickLine({ clock, levels: 0, attached: 0xffff }, 'Q'))];
+// The places that parts are of.
+export function placesIn(parts) {
+  if (!placesSeen.has(parts)) placesSeen.set(parts, Object.keys(parts).filter((p) => p !== TRIGGER).map(Number));
+  return placesSeen.get(parts);
+}
 
-// For each line before `end` where the pointer is behind it and its answer, and what every part reads there.
+// A part by its fields in a row; of its slots those that its type has.
+function partOf(types, place, { type, config, slots }) {
+  if (!isCell(place)) return { type, configuration: config, slots: {} };
+  const its = Object.keys(types[type].slots);
+  return { type, configuration: types[type].configuration ? config : null, slots: Object.fromEntries(its.map((s) => [s, slots[SLOT_LETTERS.indexOf(s)]])) };
+}
+
+const stateOf = (types, { type, bit, count }) => (types[type].state && (types[type].state.name === 'bit' ? Number(bit) : count));
+
+// For each line before `end` where the pointer is behind it and whether it was taken; and what every part is there.
+export function wiringBefore(programs, lines, entries, end, withTicks = false) {
+  const { types } = catalogueOf(programs);
+  const before = entries.slice(0, end).filter((e) => e.kind !== 'remark' && (withTicks || !isTick(e.line)));
+  const card = cardBehind(programs, before);
+  const start = cardBehind(programs, []).pointer;
+  const places = placesOf(programs.cells);
+  return {
+    lines, end, withTicks, start, pointer: card.pointer,
+    rows: before.map((e) => ({ line: e.line, index: e.index, ok: e.kind !== 'refused', at: e.pointer ?? start })),
+    parts: { ...Object.fromEntries(places.map((p) => [p, partOf(types, p, card.parts[p])])), [TRIGGER]: card.trigger },
+    states: Object.fromEntries(places.filter(isCell).map((p) => [p, stateOf(types, card.parts[p])])),
+  };
+}
+
+// The same of lines that are tried.
 export function tried(programs, lines, end, withTicks = false) {
-  const rows = lines.slice(0, end).map((line, index) => ({ line, index })).filter((r) => !isRemark(r.line) && (withTicks || !isTick(r.line)));
-  const answers = decoded(programs.plrun(asInput(['W E', ...rows.flatMap((r) => [r.line, 'W E']), ...ALL_READS])).output).split('\n');
-  const numberAt = (i) => (answers[i].startsWith(':A ') ? Number(answers[i].slice(3)) : null);
-  rows.forEach((row, i) => Object.assign(row, { answer: answers[1 + 2 * i], ok: !answers[1 + 2 * i].startsWith(':N'), at: numberAt(2 + 2 * i) }));
-  let next = 1 + 2 * rows.length;
-  const read = (count) => Array.from({ length: count }, () => numberAt(next++));
-  const [parts, states] = [{}, {}];
-  for (const place of PLACES) {
-    next += 1; // M E=
-    const [type, configuration, ...slots] = read(readsAt(place).length);
-    parts[place] = { type, configuration, slots: Object.fromEntries(SLOTS.flatMap((s, i) => (slots[i] === null || slots[i] === undefined ? [] : [[s, slots[i]]]))) };
-    if (isCell(place)) states[place] = slots.at(-1);
-  }
-  parts[TRIGGER] = CLOCKS.find((_, i) => answers[next + i] !== 'T -');
-  return { lines, end, rows, parts, states, withTicks, start: numberAt(0) };
+  const given = lines.slice(0, end).map((line) => (withTicks || !isTick(line) ? line : '#'));
+  return wiringBefore(programs, lines, entriesOf(programs, given), end, withTicks);
 }
 
 const same = (a, b) => JSON.stringify(a) === JSON.stringify(b);
@@ -100,7 +114,7 @@ const setsConfiguration = (row) => /^36CCA Z=/.test(row.line);
 const setsState = (row) => /^36CCA F=/.test(row.line);
 const setsSlots = (row) => /^36CCB /.test(row.line);
 
-const slotLine = (slots) => `36CCB ${SLOTS.filter((s) => s in slots).map((s) => `${s}=${slots[s]}`).join(' ')}`;
+const slotLine = (slots) => `36CCB ${SLOT_LETTERS.filter((s) => s in slots).map((s) => `${s}=${slots[s]}`).join(' ')}`;
 
 const ownRows = ({ rows }, place) => rows.filter((r) => r.at === place && r.ok && SETS.test(r.line));
 
@@ -238,8 +252,8 @@ const timesRefused = (rows, line) => rows.filter((r) => !r.ok && r.line === line
 function verdictOf(programs, before, next, place, reads) {
   const after = tried(programs, next.lines, next.end, before.withTicks);
   const refused = after.rows.findLast((r) => !r.ok && timesRefused(after.rows, r.line) > timesRefused(before.rows, r.line));
-  const others = [...PLACES, TRIGGER].filter((p) => p !== place && !same(before.parts[p], after.parts[p]));
-  const states = before.withTicks ? CELLS.filter((p) => p !== place && before.states[p] !== after.states[p]) : [];
+  const others = Object.keys(before.parts).filter((p) => p !== String(place) && !same(before.parts[p], after.parts[p]));
+  const states = before.withTicks ? Object.keys(before.states).filter((p) => p !== String(place) && before.states[p] !== after.states[p]) : [];
   return { lines: next.lines, fits: reads(after) && !others.length && !states.length && !refused, refused, others: [...new Set([...others, ...states])] };
 }
 
@@ -267,8 +281,7 @@ export function rewired(programs, lines, end, place, wanted, initial) {
   const before = tried(programs, lines, end);
   if (same(before.parts[place], wanted)) return { lines, end, changed: -1 };
   const ways = (wanted === initial ? [withoutPart, asBlock, behindAll] : [inPlace, asBlock, behindAll]).map((way) => () => way(before, place, wanted, initial));
-  const asWanted = (part) => ({ ...part, ...wanted, configuration: wanted.configuration ?? part.configuration });
-  return firstThatFits(programs, before, ways, place, ({ parts }) => same(parts[place], asWanted(parts[place])));
+  return firstThatFits(programs, before, ways, place, ({ parts }) => same(parts[place], wanted));
 }
 
 // The lines with another trigger source.
@@ -282,11 +295,7 @@ export function retriggered(programs, lines, end, clock) {
 export function restated(programs, lines, end, place, value) {
   const before = tried(programs, lines, end, true);
   if (before.states[place] === value) return { lines, end, changed: -1 };
-  // what reads a counter's configuration reads its count
-  const readsCount = ({ parts, states }) => parts[place].configuration === states[place];
-  const sameSettings = (after) => same({ ...after.parts[place], configuration: null }, { ...before.parts[place], configuration: null })
-    && (after.parts[place].configuration === before.parts[place].configuration || (readsCount(before) && readsCount(after)));
-  const reads = (after) => after.states[place] === value && sameSettings(after);
+  const reads = (after) => after.states[place] === value && same(after.parts[place], before.parts[place]);
   return firstThatFits(programs, before, stateWays(before, place, value), place, reads);
 }
 
