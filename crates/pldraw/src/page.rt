@@ -31,13 +31,8 @@ use program::writer::put_with;
 fn count_rows(rows: u64) -> u64
     ensures { λ n. ⌜ n ≤ mostRows ⌝ }
 {
-    let mut n: u64 = 0;
-    for r in 0..ROWS {
-        if words::bit(rows, r) {
-            n += 1;
-        }
-    }
-    n
+    let n = u64::count_ones(rows);
+    if n < ROWS { n as u64 } else { ROWS as u64 }
 }
 
 // A strip that begins at height y.
@@ -101,7 +96,7 @@ fn width_of(n: usize, report: Report) -> u64 {
     width_for(x_of(end_of(0, n), is_wide(n)) + RIGHT, report)
 }
 
-// What stands above the strips, which have a height each.
+// What is above the strips, which have a height each.
 fn put_frame(out: &mut Room, w: Writer, p: Shape, report: Report, head: u64, strip: u64) -> Writer
     requires { ⌜ p .n ≤ keptTicks ⌝ }
     requires { ⌜ head ≤ highestStrip ⌝ }

@@ -1,2 +1,2 @@
 -- What a reader must believe: the definitions that the contracts cite.
-pub mod Steps
+pub mod Shows
