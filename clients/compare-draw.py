@@ -1,10 +1,10 @@
-# compare-draw.py NAME SVG LINES RUN FROM: a picture against what plrun printed for the same lines. Behind each tick of LINES stand 36RDADC X? and Y?, so that RUN has
-# its levels. Called by check-draw.
+# compare-draw.py NAME SVG LINES RUN FROM ERRORS: a picture, and what was said on the error output, against what plrun printed for the same lines. After each tick of
+# LINES come 36RDADC X? and Y?, so that RUN has its levels. Called by check-draw.
 import re
 import sys
 import xml.etree.ElementTree as ET
 
-name, svg_path, lines_path, run_path, first = sys.argv[1:]
+name, svg_path, lines_path, run_path, first, errors_path = sys.argv[1:]
 SVG = "{http://www.w3.org/2000/svg}"
 LEFT, KEPT, SIDE_BY_SIDE, HIGH = 215, 300, 60, 4
 before = max(int(first) - 1, 0)
@@ -25,7 +25,7 @@ def ticks_of(lines, answers):
 
 
 def refusals_of(lines, answers):
-    """What the picture must say of refused lines. The reads behind ticks are ours and have no number."""
+    """What the picture must say of refused lines. The reads after ticks are ours and have no number."""
     refused, number, skip = [], 0, 0
     for line, answer in zip(lines, answers):
         if skip:
@@ -85,6 +85,8 @@ strips = [g for g in root if g.tag == SVG + "g"]
 said = [t.text for t in root.findall(SVG + "text") if t.get("class") == "e" and "no LF" not in t.text]
 if said != refusals_of(lines, answers):
     wrong.append("refused lines")
+if [line for line in read(errors_path) if "no LF" not in line] != refusals_of(lines, answers):
+    wrong.append("error output")
 title = root.find(SVG + "text").text
 if run and not title.startswith("Trigger card: ticks %d to %d of %d" % (before + 1, before + len(run), len(every))):
     wrong.append("title")

@@ -1,34 +1,51 @@
-# compare-wave.py NAME LINES VCD RUN WIRING: the values of a dump against the words that plrun printed. Called by check-wave.
+# compare-wave.py NAME CELLS LINES DIR: the values of a dump against the words that plrun printed and the levels that plexplain gives, and what plwave says of
+# refused lines, in its dump and on the error output, against the answers. DIR has wave.vcd and said.txt of plwave, read.vcd that another program made of the dump,
+# rows.txt of plexplain, and of sixteen cells run.txt and wiring.txt of plrun and plprint. Called by check-wave.
+import json
 import re
 import sys
 
-name, lines_path, vcd_path, run_path, wiring_path = sys.argv[1:]
+name, size, lines_path, work = sys.argv[1:]
+small = size == "16"
 
 
-def words_of_run(path):
+def read(path):
+    return open(path, encoding="latin-1", newline="\n").read().split("\n")[:-1]
+
+
+def words_of(answers):
     """(driven, cells, woken) of each tick that ran."""
-    return [tuple(int(w, 16) for w in line.split()[1:4]) for line in open(path) if re.match(r"T [0-9a-f]{4} ", line)]
+    return [tuple(int(w, 16) for w in answer.split()[1:4]) for answer in answers if re.match(r"T [0-9a-f]{4} ", answer)]
 
 
-def samples_of(lines, run):
+def samples_of(lines, answers):
     """The effective sample of each tick that ran."""
     samples = []
-    for line, answer in zip(open(lines), open(run)):
-        tick = re.fullmatch(r"T \d ([0-9a-f]{4}) ([0-9a-f]{4}) [FQ]\n", line)
-        if tick and answer != "T -\n":
+    for line, answer in zip(lines, answers):
+        tick = re.fullmatch(r"T \d ([0-9a-f]{4}) ([0-9a-f]{4}) [FQ]", line)
+        if tick and answer != "T -":
             sample, attached = (int(w, 16) for w in tick.groups())
             samples.append((sample & attached) | (~attached & 0xFF00))
     return samples
 
 
+def refusals_of(lines, answers):
+    """What must be said of refused lines."""
+    pairs = enumerate(zip(lines, answers), 1)
+    refused = ["line %d: %s (%s)" % (n, re.sub("[^ -~]", "?", line[:96]), answer) for n, (line, answer) in pairs if answer.startswith(":N")]
+    if not refused:
+        return []
+    return ["1 line was refused; it is " + refused[0] if len(refused) == 1 else "%d lines were refused; the first is %s" % (len(refused), refused[0])]
+
+
 def inputs_of(wiring):
     """The word of the connectors that are inputs at the run's end."""
     word, at = 0, 0
-    for line in open(wiring):
-        moved = re.fullmatch(r"M E=(\d+)\n", line)
+    for line in wiring:
+        moved = re.fullmatch(r"M E=(\d+)", line)
         if moved:
             at = int(moved.group(1))
-        if line == "36CCA Y=0\n" and at > 32:
+        if line == "36CCA Y=0" and at > 32:
             word |= 1 << (at - 33)
     return word
 
@@ -67,24 +84,36 @@ def word(values, names):
 connectors = ["BNC%d" % i for i in range(1, 9)] + ["TTL%d" % i for i in range(8)]
 driven = ["card.driven.drive_" + n for n in connectors]
 levels = ["card.front." + n for n in connectors[:8]] + ["card.backplane." + n for n in connectors[8:]]
-cells = ["card.cells.cell%d" % i for i in range(1, 17)]
-woken = ["card.woken.woken%d" % i for i in range(1, 17)]
+cells = ["card.cells.cell%d" % i for i in range(1, int(size) + 1)]
+woken = ["card.woken.woken%d" % i for i in range(1, int(size) + 1)]
 
-names, rows = read_dump(vcd_path)
-run = words_of_run(run_path)
-samples = samples_of(lines_path, run_path)
-inputs = inputs_of(wiring_path)
+names, rows = read_dump(work + "/read.vcd")
+lines = read(lines_path)
+explained = [row for row in map(json.loads, read(work + "/rows.txt")) if "answer" in row]
+answers = read(work + "/run.txt") if small else [row["answer"] for row in explained]
+run = words_of(answers)
+samples = samples_of(lines, answers)
+inputs = inputs_of(read(work + "/wiring.txt")) if small else 0
+shown = [row["levels"] for row in explained if row.get("ran")]
+refusals = refusals_of(lines, answers)
 wrong = []
 if set(names.values()) != set(driven + levels + cells + woken):
     wrong.append("names of wires")
-if set(line.strip() for line in open("examples/card.gtkw") if line.startswith("card.")) != set(names.values()):
+listed = set(line.strip() for line in open("examples/card.gtkw") if line.startswith("card."))
+if not listed <= set(names.values()) or small and listed != set(names.values()):
     wrong.append("names in examples/card.gtkw")
+if [row["answer"] for row in explained] != answers:
+    wrong.append("answers of plexplain")
+if re.findall(r"^\$comment (.* refused; .*) \$end$", open(work + "/wave.vcd").read(), re.M) != [r.replace("$", "?") for r in refusals]:
+    wrong.append("comment on refused lines")
+if [line for line in read(work + "/said.txt") if "no LF" not in line] != refusals:
+    wrong.append("error output")
 if len(rows) != len(run):
     wrong.append("%d ticks in the dump, %d in the run" % (len(rows), len(run)))
 for t, (values, words) in enumerate(zip(rows, run)):
     if (word(values, driven), word(values, cells), word(values, woken)) != words:
         wrong.append("tick %d" % t)
-    if (word(values, levels) ^ samples[t]) & inputs:
-        wrong.append("levels of inputs at tick %d" % t)
+    if (word(values, levels) ^ samples[t]) & inputs or word(values, levels) != shown[t]:
+        wrong.append("levels at tick %d" % t)
 print("%s: %d ticks, %s" % (name, len(run), "the same" if not wrong else "DIFFERS: " + "; ".join(wrong[:3])))
 sys.exit(1 if wrong else 0)

@@ -9,13 +9,13 @@ keptTicks = 300
 abbrev pub columns : ℕ
 columns = 60
 
--- the rows that there can be: connectors as inputs, cells, connectors as outputs, sixteen each
+-- the rows that there can be: sixteen connectors as inputs, thirty-two cells, sixteen connectors as outputs
 abbrev pub mostRows : ℕ
-mostRows = 48
+mostRows = 64
 
 -- no strip is higher
 abbrev pub highestStrip : ℕ
-highestStrip = 1200
+highestStrip = 1500
 
 -- a strip of kept ticks that has room side by side
 abbrev pub Fits : Strip → Type 0

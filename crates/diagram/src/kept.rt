@@ -1,63 +1,77 @@
-// The ticks that a picture keeps, in one array of words, four words for each tick; the first four
-// are those of the tick before the first that is kept.
+// The ticks that a picture keeps, in one array of words, thirteen words for each tick; the first
+// thirteen are those of the tick before the first that is kept.
 //
-// The words of a tick: what it showed (scope::packed), twice why cells woke in it, and what kind of
-// tick and of cells it had. Each of these three has a bit for each cell in every sixteen: 0 edited,
-// 16 X changed, 32 Y, 48 Z; 0 F changed, 16 clock high, 32 X high, 48 F high; 0 its clock wakes it
-// only while it is active, 16 it has a start and a stop. Bit 32 of the last is set in a full tick.
-ghost use Prim.Native.Nat.{_≤_, _<_};
+// The first word of a tick is what it showed (`trace::packed`). Each of the others is a set of
+// cells, with bit i for cell i + 1: those that woke, those that have a reason to wake, by reason,
+// and two kinds of cells.
+ghost use Prim.Native.Nat.{_<_};
 use card::card::Card;
 use card::limits::CELLS;
 use cells::cell::Cell;
 use cells::table::Class;
 use cells::table::class_of;
 use reasons::cell::Reasons;
-use ticks::view::Input;
+use trace::Shown;
+use trace::packed;
 
 // `keptTicks`: of a longer run only these are drawn.
 pub const KEPT: usize = 300;
 
-pub const WORDS: usize = 4 * KEPT + 4;
+pub const WORDS: usize = PER_TICK * (KEPT + 1);
 
 pub type Ticks = [u64; WORDS];
 
-// Why cells woke in a tick.
-pub struct Why {
-    pub first: u64,
-    pub second: u64,
-    pub kinds: u64,
+const PER_TICK: usize = 13;
+
+// ---- the words of a tick
+
+pub const WAVES: usize = 0;
+
+pub const WOKEN: usize = 1;
+
+pub const EDITED: usize = 2;
+
+// a slot has changed
+pub const X: usize = 3;
+
+pub const Y: usize = 4;
+
+pub const Z: usize = 5;
+
+pub const F: usize = 6;
+
+// the clock is high, X as a trigger or a start is, F as a second trigger or a stop is
+pub const CLOCK: usize = 7;
+
+pub const TRIGGER: usize = 8;
+
+pub const OTHER: usize = 9;
+
+// a cell that its clock wakes only while it is active, and one that has a start and a stop
+pub const TIMED: usize = 10;
+
+pub const STARTED: usize = 11;
+
+// bit 0 alone, in a full tick
+pub const FULL: usize = 12;
+
+// A word of tick t, counted from 1; 0 is the tick before the first. The remainders change no tick
+// of a picture: with them no caller has to show that there is room.
+fn place_of(t: usize, word: usize) -> usize
+    ensures { λ r. ⌜ r < 3913 ⌝ }
+{
+    PER_TICK * (t % (KEPT + 1)) + word % PER_TICK
 }
 
 // ---- making
 
-// The word with bit i set, where it is to be.
-fn set_if(w: u64, i: u32, b: bool) -> u64
-    requires { ⌜ i < 64 ⌝ }
-{
+// Cell i is in a set of tick t, where it is to be. No place is used for two ticks, and all start
+// empty.
+fn mark(ticks: &mut Ticks, t: usize, set: usize, i: u32, b: bool) {
+    let at = place_of(t, set);
     if b {
-        return words::with_set(w, i);
+        ticks[at] = words::with_set(ticks[at], i % 64);
     }
-    w
-}
-
-fn first_of(w: u64, i: u32, q: Reasons) -> u64
-    requires { ⌜ i < 16 ⌝ }
-{
-    let m = q.moved;
-    let a = set_if(w, i, q.edited);
-    let b = set_if(a, 16 + i, m.x);
-    let c = set_if(b, 32 + i, m.y);
-    set_if(c, 48 + i, m.z)
-}
-
-fn second_of(w: u64, i: u32, q: Reasons) -> u64
-    requires { ⌜ i < 16 ⌝ }
-{
-    let m = q.moved;
-    let a = set_if(w, i, m.f);
-    let b = set_if(a, 16 + i, q.clock);
-    let c = set_if(b, 32 + i, q.trigger);
-    set_if(c, 48 + i, q.other)
 }
 
 fn is_timer(class: Class) -> bool {
@@ -75,85 +89,54 @@ fn is_counter(class: Class) -> bool {
     }
 }
 
-fn kinds_of(w: u64, i: u32, kind: u8) -> u64
-    requires { ⌜ i < 16 ⌝ }
-{
+// Why cell i, of a type, wakes in tick t.
+fn keep_cell(ticks: &mut Ticks, t: usize, i: u32, q: Reasons, kind: u8) {
+    let m = q.moved;
     let class = class_of(kind);
     let counter = is_counter(class);
-    let a = set_if(w, i, counter | is_timer(class));
-    set_if(a, 16 + i, counter)
+    mark(ticks, t, EDITED, i, q.edited);
+    mark(ticks, t, X, i, m.x);
+    mark(ticks, t, Y, i, m.y);
+    mark(ticks, t, Z, i, m.z);
+    mark(ticks, t, F, i, m.f);
+    mark(ticks, t, CLOCK, i, q.clock);
+    mark(ticks, t, TRIGGER, i, q.trigger);
+    mark(ticks, t, OTHER, i, q.other);
+    mark(ticks, t, TIMED, i, counter | is_timer(class));
+    mark(ticks, t, STARTED, i, counter);
 }
 
-fn gathered(found: [Reasons; CELLS], cells: [Cell; CELLS], full: bool) -> Why {
-    let mut first: u64 = 0;
-    let mut second: u64 = 0;
-    let mut kinds: u64 = 0;
-    for i in 0..16u32 {
+fn keep_cells(ticks: &mut Ticks, t: usize, found: [Reasons; CELLS], cells: [Cell; CELLS]) {
+    for i in 0..CELLS as u32 {
         let k = i as usize;
         let q = found[k];
         let cell = cells[k];
-        first = first_of(first, i, q);
-        second = second_of(second, i, q);
-        kinds = kinds_of(kinds, i, cell.kind);
-    }
-    Why {
-        first: first,
-        second: second,
-        kinds: set_if(kinds, 32, full),
+        keep_cell(ticks, t, i, q, cell.kind);
     }
 }
 
-// Why the cells of a card wake in a tick.
-pub fn why_of(card: Card, input: Input, full: bool) -> Why {
-    let found = reasons::reasons(card, input, full);
-    let cells = card.cells;
-    gathered(found, cells, full)
-}
-
-// The place of tick t, counted from 1; 0 is the tick before the first. The remainder changes no
-// tick of a picture: with it no caller has to show that there is room.
-fn place_of(t: usize) -> usize
-    ensures { λ r. ⌜ r ≤ 1200 ⌝ }
-{
-    4 * (t % (KEPT + 1))
-}
-
-// Tick t is kept.
-pub fn keep(ticks: &mut Ticks, t: usize, word: u64, why: Why) {
-    let at = place_of(t);
-    ticks[at] = word;
-    ticks[at + 1] = why.first;
-    ticks[at + 2] = why.second;
-    ticks[at + 3] = why.kinds;
+// Tick t is kept, with why the cells of the card that it met wake in it.
+pub fn keep(ticks: &mut Ticks, t: usize, shown: Shown, before: Card) {
+    let tick = shown.tick;
+    let answer = tick.answer;
+    let waves = place_of(t, WAVES);
+    let woken = place_of(t, WOKEN);
+    ticks[waves] = packed(shown);
+    ticks[woken] = answer.woken as u64;
+    mark(ticks, t, FULL, 0, tick.full);
+    let found = reasons::reasons(before, tick.input, tick.full);
+    let cells = before.cells;
+    keep_cells(ticks, t, found, cells);
 }
 
 // ---- reading
 
 // What tick t showed.
-pub fn word_of(ticks: &Ticks, t: usize) -> u64 {
-    ticks[place_of(t)]
+pub fn waves_of(ticks: &Ticks, t: usize) -> u64 {
+    ticks[place_of(t, WAVES)]
 }
 
-// Why cells woke in it.
-pub fn why_in(ticks: &Ticks, t: usize) -> Why {
-    let at = place_of(t);
-    Why {
-        first: ticks[at + 1],
-        second: ticks[at + 2],
-        kinds: ticks[at + 3],
-    }
-}
-
-// The bit of cell i in one of the four sixteens of a word.
-pub fn flag(word: u64, sixteen: u32, i: u32) -> bool {
-    words::bit(word, 16 * (sixteen % 4) + i % 16)
-}
-
-pub fn is_full(why: Why) -> bool {
-    flag(why.kinds, 2, 0)
-}
-
-pub fn is_full_at(ticks: &Ticks, t: usize) -> bool {
-    let why = why_in(ticks, t);
-    is_full(why)
+// Whether cell i is in a set of tick t.
+pub fn has(ticks: &Ticks, t: usize, set: usize, i: u32) -> bool {
+    words::bit(ticks[place_of(t, set)], i % 64)
 }

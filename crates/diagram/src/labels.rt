@@ -6,6 +6,7 @@ use card::connectors::connector_at;
 use card::limits::CONNECTORS_END;
 use card::limits::FIRST_CONNECTOR;
 use card::limits::OPEN_DRAIN;
+use phrases::names::CONNECTOR_NAME;
 use phrases::names::LONGEST_NAME;
 use program::writer::Room;
 use program::writer::Writer;
@@ -20,7 +21,7 @@ fn put_kind(out: &mut Room, w: Writer, kind: u8) -> Writer {
 }
 
 fn put_cell_name(out: &mut Room, w: Writer, card: Card, i: u32) -> Writer
-    requires { ⌜ i < 16 ⌝ }
+    requires { ⌜ i < 32 ⌝ }
 {
     let cells = card.cells;
     let cell = cells[i as usize];
@@ -29,13 +30,10 @@ fn put_cell_name(out: &mut Room, w: Writer, card: Card, i: u32) -> Writer
 }
 
 // Connector k, BNC1 first.
-fn put_connector(out: &mut Room, w: Writer, k: u32) -> Writer
-    requires { ⌜ k < 16 ⌝ }
-{
-    if k < 8 {
-        return put_with(out, w, b"BNC", k as u64 + 1, b"");
-    }
-    put_with(out, w, b"TTL", k as u64 - 8, b"")
+fn put_connector(out: &mut Room, w: Writer, k: u8) -> Writer {
+    let mut name = [0u8; CONNECTOR_NAME];
+    phrases::names::put_connector(&mut name, 0, k);
+    put(out, w, &name)
 }
 
 // What is at a base: a cell or a connector.
@@ -44,7 +42,7 @@ fn put_base(out: &mut Room, w: Writer, base: u8) -> Writer {
         return put_with(out, w, b"cell ", base as u64, b"");
     }
     if base < CONNECTORS_END {
-        return put_connector(out, w, base as u32 - 33);
+        return put_connector(out, w, base - FIRST_CONNECTOR);
     }
     put(out, w, b"reserved")
 }
@@ -79,7 +77,7 @@ fn put_output(out: &mut Room, w: Writer, card: Card, k: u32) -> Writer
 {
     let row = card.connectors;
     let c = connector_at(row, k);
-    let a = put_connector(out, w, k);
+    let a = put_connector(out, w, k as u8);
     let b = put(out, a, b" &lt;- ");
     let d = put_address(out, b, c.source);
     if c.kind == OPEN_DRAIN {
@@ -93,11 +91,11 @@ pub fn put_name(out: &mut Room, w: Writer, card: Card, r: u32) -> Writer
     requires { ⌜ r < mostRows ⌝ }
 {
     if r < 16 {
-        let a = put_connector(out, w, r);
+        let a = put_connector(out, w, r as u8);
         return put(out, a, b" in");
     }
-    if r < 32 {
+    if r < 48 {
         return put_cell_name(out, w, card, r - 16);
     }
-    put_output(out, w, card, r - 32)
+    put_output(out, w, card, r - 48)
 }

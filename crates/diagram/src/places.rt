@@ -11,7 +11,7 @@ use std::num::wrapping_add_u64;
 pub const COLUMNS: usize = 60;
 
 // `mostRows`: connectors that are inputs, cells, connectors that are outputs.
-pub const ROWS: u32 = 48;
+pub const ROWS: u32 = 64;
 
 // The label column, a tick's column, wide or narrow, and the space to the right of them.
 pub const LEFT: u64 = 215;
@@ -67,15 +67,15 @@ pub fn number_of(before: u64, t: usize) -> u64 {
     wrapping_add_u64(wrapping_add_u64(before, t as u64), 1)
 }
 
-// The bit of a tick's packed words that row r shows.
+// The bit of what a tick showed that row r shows.
 pub fn bit_of(r: u32) -> u32
     requires { ⌜ r < mostRows ⌝ }
-    ensures { λ i. ⌜ i < 48 ⌝ }
+    ensures { λ i. ⌜ i < 64 ⌝ }
 {
     if r < 16 {
         return r;
     }
-    if r < 32 { r + 16 } else { r - 32 }
+    if r < 48 { r + 16 } else { r - 48 }
 }
 
 // Where the strip ends that starts at a tick, of n.

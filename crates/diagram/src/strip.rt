@@ -2,9 +2,10 @@
 ghost use Prim.Native.Nat.{_≤_, _<_, _+_};
 ghost use Rattle.diagram.specs.Page.{columns, mostRows, Fits};
 use crate::boxes::put_boxes;
+use crate::kept::FULL;
 use crate::kept::Ticks;
-use crate::kept::is_full_at;
-use crate::kept::word_of;
+use crate::kept::has;
+use crate::kept::waves_of;
 use crate::labels::put_name;
 use crate::places::LEFT;
 use crate::places::NUMBERS;
@@ -40,7 +41,7 @@ fn put_start(out: &mut Room, w: Writer, high: bool) -> Writer {
 
 // Bit i of what tick t showed.
 fn shows(ticks: &Ticks, t: usize, i: u32) -> bool {
-    words::bit(word_of(ticks, t), i % 64)
+    words::bit(waves_of(ticks, t), i % 64)
 }
 
 // The wave of a bit, with an edge where it differs from the tick before, in the first column too.
@@ -139,7 +140,7 @@ fn put_numbers(out: &mut Room, writer: Writer, ticks: &Ticks, s: Strip) -> Write
     );
     for t in start..end {
         let number = number_of(s.before, t);
-        let full = is_full_at(ticks, t + 1);
+        let full = has(ticks, t + 1, FULL, 0);
         w = put_column_head(out, w, number, full, t - start, s.wide);
     }
     w
@@ -192,11 +193,14 @@ fn put_row_boxes(out: &mut Room, w: Writer, ticks: &Ticks, s: Strip, r: u32, y: 
     requires { ⌜ Fits s ⌝ }
     requires { ⌜ r < mostRows ⌝ }
 {
-    if (r < 16) | (31 < r) {
+    if r < 16 {
+        return w;
+    }
+    if 47 < r {
         return w;
     }
     let a = put_with(out, w, b"<g transform=\"translate(0 ", y, b")\">\n");
-    let b = put_boxes(out, a, ticks, s, r);
+    let b = put_boxes(out, a, ticks, s, r - 16);
     put(out, b, b"</g>\n")
 }
 

@@ -11,11 +11,11 @@ use program::writer::Writer;
 use program::writer::put;
 use program::writer::put_number;
 use program::writer::put_with;
-use scope::notes::Form;
-use scope::notes::has_refused;
-use scope::notes::has_rest;
-use scope::notes::put_refused;
-use scope::notes::put_rest;
+use trace::notes::Form;
+use trace::notes::has_refused;
+use trace::notes::has_rest;
+use trace::notes::put_refused;
+use trace::notes::put_rest;
 
 // What a picture shows: n ticks, those before them, all ticks that ran, and the rows as a set, in
 // the order in which they are drawn.

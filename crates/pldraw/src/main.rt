@@ -11,20 +11,21 @@ mod rows; // who has a row
 
 ghost use Prim.Native.Nat.{_≤_};
 ghost use Rattle.diagram.specs.Page.{keptTicks};
+ghost use Rattle.session.specs.Feed.{Ready};
 use card::card::Card;
 use diagram::kept::KEPT;
 use diagram::kept::Ticks;
 use diagram::kept::WORDS;
 use diagram::kept::keep;
-use diagram::kept::why_of;
+use diagram::kept::waves_of;
 use frame::Shape;
+use input::BUFFER;
+use input::LINE;
 use program::arguments;
 use program::writer::ROOM;
 use program::writer::empty;
-use scope::BUFFER;
-use scope::Feed;
-use scope::LINE;
-use scope::STORE;
+use session::feed::Feed;
+use session::feed::STORE;
 use std::num::wrapping_add_u64;
 
 // Ticks that were passed over: how many, and what the last of them showed.
@@ -42,17 +43,21 @@ fn pass(
     block: &mut [u8; BUFFER],
     line: &mut [u8; LINE],
     store: &mut [u8; STORE],
-) -> Passed {
+) -> Passed
+    requires { ⌜ Ready (feed .reader) ⌝ }
+    ensures { λ r. ⌜ Ready (r .feed .reader) ⌝ }
+{
     let mut f = feed;
     let mut count: u64 = 0;
     let mut word: u64 = 0;
     while count < most {
-        f = scope::next(f, input, block, line, store);
-        let shown = f.shown;
-        if !shown.ran {
+        let step = trace::next(f, input, block, line, store);
+        f = step.feed;
+        let shown = step.shown;
+        if !shown.tick.answer.ran {
             break;
         }
-        word = scope::packed(shown.words);
+        word = trace::packed(shown);
         count += 1;
     }
     Passed {
@@ -78,6 +83,8 @@ fn gather(
     line: &mut [u8; LINE],
     store: &mut [u8; STORE],
 ) -> Gathered
+    requires { ⌜ Ready (start .reader) ⌝ }
+    ensures { λ r. ⌜ Ready (r .feed .reader) ⌝ }
     ensures { λ r. ⌜ r .n ≤ keptTicks ⌝ }
 {
     let mut feed = start;
@@ -85,17 +92,16 @@ fn gather(
     let mut set: u64 = 0;
     let mut n: usize = 0;
     while n < KEPT {
-        feed = scope::next(feed, input, block, line, store);
-        let shown = feed.shown;
-        if !shown.ran {
+        let step = trace::next(feed, input, block, line, store);
+        feed = step.feed;
+        let shown = step.shown;
+        if !shown.tick.answer.ran {
             break;
         }
-        let word = scope::packed(shown.words);
-        let why = why_of(feed.before, shown.input, shown.full);
         n += 1;
-        keep(ticks, n, word, why);
+        keep(ticks, n, shown, feed.before);
         card = feed.card;
-        set = set | (rows::wired(card) | (word ^ ticks[4]));
+        set = set | (rows::wired(card) | (waves_of(ticks, n) ^ waves_of(ticks, 1)));
     }
     Gathered {
         feed: feed,
@@ -127,13 +133,14 @@ fn shape_of(before: u64, drawn: Gathered, behind: u64) -> Shape
     }
 }
 
-// The run of an input, from tick `from` on.
-fn draw(input: i32, from: u64) {
+// The run of an input to a card of 16 or 32 cells, from tick `from` on. Where a read fails, that has
+// been reported, and nothing is drawn.
+fn draw(input: i32, cells: u8, from: u64) {
     let mut block = [0u8; BUFFER];
     let mut line = [0u8; LINE];
     let mut store = [0u8; STORE];
     let mut ticks = [0u64; WORDS];
-    let first = scope::start();
+    let first = session::feed::start(cells);
     let start = pass(
         first,
         before_of(from),
@@ -160,6 +167,10 @@ fn draw(input: i32, from: u64) {
         &mut store,
     );
     let last = rest.feed;
+    let reader = last.reader;
+    if reader.failed {
+        return;
+    }
     let report = last.report;
     let shape = shape_of(start.count, drawn, rest.count);
     let mut out = [0u8; ROOM];
@@ -171,16 +182,16 @@ fn main() {
     let o = arguments::read(
         b"pldraw reads lines of a card and ticks, and draws a timing diagram of the ticks that ran, as an SVG picture.
 
-usage: pldraw [--from N] [FILE]     with no FILE it reads standard input
+usage: pldraw [--cells 32] [--from N] [FILE]     with no FILE it reads standard input
 
 A picture has 300 ticks, from tick N on, counted from 1. A tinted box is a cell that woke; where one points at it, a browser says why. Lines that were
-refused are reported in the picture and on the error output.
+refused are reported in the picture and on the error output. --cells 32 is for a card of thirty-two cells.
 
     pldraw first.lines > first.svg
 ",
-        arguments::FROM,
+        arguments::CELLS | arguments::FROM,
     );
     if o.input != arguments::NOTHING {
-        draw(o.input, o.from);
+        draw(o.input, o.cells, o.from);
     }
 }

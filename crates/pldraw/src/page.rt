@@ -31,13 +31,8 @@ use program::writer::put_with;
 fn count_rows(rows: u64) -> u64
     ensures { λ n. ⌜ n ≤ mostRows ⌝ }
 {
-    let mut n: u64 = 0;
-    for r in 0..ROWS {
-        if words::bit(rows, r) {
-            n += 1;
-        }
-    }
-    n
+    let n = u64::count_ones(rows);
+    if n < ROWS { n as u64 } else { ROWS as u64 }
 }
 
 // A strip that begins at height y.

@@ -1,13 +1,13 @@
 // Which connectors and cells have a row: those that change, and those that are wired. A set has bit
-// k for connector k, BNC1 first, and bit 32 + i for cell i, as in a tick's packed words
-// (scope::packed).
+// k for connector k, BNC1 first, and bit 32 + i for cell i, as in what a tick showed
+// (`trace::packed`).
 //
 // A cell is wired where it is anything but a constant 0. A connector is wired where it is an output
 // with a source other than 0, or where a wired cell or such an output reads it. A fresh card's
 // front connectors are outputs from 0, so they have no row of their own.
 //
 // Inputs are drawn first, then cells, then outputs: `in_order` gives the set of rows in that order,
-// sixteen bits for each.
+// sixteen bits, thirty-two and sixteen.
 ghost use Prim.Native.Nat.{_<_};
 use card::card::Card;
 use card::card::Connector;
@@ -37,7 +37,7 @@ fn read_by(cell: Cell) -> u64 {
 
 // Cell i and what it reads, where it is wired.
 fn by_cell(i: u32, cell: Cell) -> u64
-    requires { ⌜ i < 16 ⌝ }
+    requires { ⌜ i < 32 ⌝ }
 {
     if (cell.kind == 0) & (cell.config == 0) {
         return 0;
@@ -57,7 +57,7 @@ fn by_connector(k: u32, c: Connector) -> u64
 
 fn by_cells(cells: [Cell; CELLS]) -> u64 {
     let mut set: u64 = 0;
-    for i in 0..16u32 {
+    for i in 0..CELLS as u32 {
         set = set | by_cell(i, cells[i as usize]);
     }
     set
@@ -85,6 +85,6 @@ pub fn in_order(set: u64, card: Card) -> u64 {
     let outputs = (row.push_pull as u64) | (row.open_drain as u64);
     let connectors = set % 65536;
     let driven = connectors & outputs;
-    let cells = (set >> 32) % 65536;
-    ((connectors ^ driven) | (cells << 16)) | (driven << 32)
+    let cells = set >> 32;
+    ((connectors ^ driven) | (cells << 16)) | (driven << 48)
 }

@@ -3,38 +3,29 @@
 // asks for how many ticks the card is steady, sleeps through them, makes the next one, and asks
 // again; a line and another input end the sleep, and are followed by the question too. An idle tick
 // is no tick of the card's clock, and is left out.
-ghost use Prim.Native.Nat.{_≤_, _<_};
-ghost use lib.ListN.{length};
+ghost use Prim.Native.Nat.{_<_};
+ghost use Rattle.session.specs.Feed.{Ready};
 use card::card::Card;
 use input::BUFFER;
 use input::LINE;
-use input::Reader;
-use input::next_line;
-use libc::STDOUT_FILENO;
 use program::arguments;
-use program::report;
-use program::report::Report;
-use saved::record::RECORD_LENGTH;
+use program::writer::ROOM;
+use program::writer::Room;
+use program::writer::Writer;
+use program::writer::empty;
+use program::writer::flush;
+use program::writer::put_with;
 use session::Event;
+use session::feed::Feed;
+use session::feed::STORE;
 use steady::steady_for;
 use ticks::view::Input;
 
-fn put(text: &[u8]) {
-    io::write_all(STDOUT_FILENO, text);
-}
-
-fn put_number(n: u64) {
-    io::print_decimal(STDOUT_FILENO, n);
-}
-
 // ---- one line
 
-// Between two lines: the card, the report of the lines so far, and the counts.
+// Between two lines: the input of the last tick that ran, and for how many ticks more with it the
+// card is steady, unless a line has come since.
 struct Run {
-    card: Card,
-    report: Report,
-    // the input of the last tick that ran, and for how many ticks more with it the card is steady,
-    // unless a line has come since
     input: Input,
     known: bool,
     left: u32,
@@ -55,7 +46,7 @@ fn one_more(n: u64, more: bool) -> u64 {
     if !more {
         return n;
     }
-    if n < 18446744073709551615 { n + 1 } else { n }
+    if n < u64::MAX { n + 1 } else { n }
 }
 
 fn same(a: Input, b: Input) -> bool {
@@ -72,11 +63,10 @@ fn after_line(run: Run) -> Run {
     next
 }
 
-// A tick that ran, on the card that it met.
-fn after_tick(run: Run, before: Card, input: Input) -> Run {
+// A tick that ran, with the card that it met and the one that it left.
+fn after_tick(run: Run, before: Card, card: Card, input: Input) -> Run {
     let old = run.input;
     let same_input = same(old, input);
-    let card = run.card;
     let mut left = run.left;
     if !(run.known & same_input) {
         left = steady_for(before, input);
@@ -99,50 +89,27 @@ fn after_tick(run: Run, before: Card, input: Input) -> Run {
     next
 }
 
-fn take_line(run: Run, text: &[u8], store: &mut [u8]) -> Run {
-    let before = run.card;
-    let past = run.report;
-    let stepped = scope::step(before, past, text, store);
-    let card = stepped.card;
-    let report = stepped.report;
-    let shown = stepped.shown;
-    let mut next = run;
-    next.card = card;
-    next.report = report;
-    if shown.ran {
-        let input = shown.input;
-        return after_tick(next, before, input);
+// After the line that a feed has given, if it has given one.
+fn after(run: Run, feed: Feed) -> Run {
+    let event = feed.event;
+    if !feed.reader.going {
+        return run;
     }
-    let event = stepped.event;
     match event {
-        Event::Tick(_) => next,
-        Event::Load(_) => after_line(next),
-        Event::Line(_) => after_line(next),
+        Event::Tick(t) => {
+            if !t.answer.ran {
+                return run;
+            }
+            after_tick(run, feed.before, feed.card, t.input)
+        }
+        Event::Load(_) => after_line(run),
+        Event::Line(_) => after_line(run),
     }
 }
 
 // ---- the input
 
-// The line that a reader has given; where it has given none, what is after the last LF is reported.
-fn take_given(run: Run, r: Reader, block: &[u8], store: &mut [u8]) -> Run
-    requires { ⌜ r .start ≤ r .end ⌝ }
-    requires { ⌜ r .end ≤ length (now block) ⌝ }
-{
-    let start = r.start;
-    let end = r.end;
-    let text = &block[start..end];
-    if !r.going {
-        let report = report::at_end(run.report, text);
-        let mut last = run;
-        last.report = report;
-        return last;
-    }
-    take_line(run, text, store)
-}
-
 fn fresh_run() -> Run {
-    let card = card::card::fresh();
-    let report = report::none();
     let input = Input {
         code: 0,
         sample: 0,
@@ -155,8 +122,6 @@ fn fresh_run() -> Run {
         lines: 0,
     };
     Run {
-        card: card,
-        report: report,
         input: input,
         known: false,
         left: 0,
@@ -164,74 +129,73 @@ fn fresh_run() -> Run {
     }
 }
 
-fn run_from(file: i32) -> Run {
+// The run of an input. What was refused is reported, and where a read fails nothing is printed.
+fn run_from(file: i32, cells: u8) {
     let mut block = [0u8; BUFFER];
     let mut line = [0u8; LINE];
-    let mut store = [0u8; RECORD_LENGTH];
+    let mut store = [0u8; STORE];
     let mut run = fresh_run();
-    let mut r = input::start();
+    let mut feed = session::feed::start(cells);
+    let mut r = feed.reader;
     while r.left > 0 && r.going {
-        r = next_line(r, file, &mut block, &mut line);
-        run = take_given(run, r, &block, &mut store);
+        feed = session::feed::next(feed, file, &mut block, &mut line, &mut store);
+        run = after(run, feed);
+        r = feed.reader;
     }
-    run
+    program::report::say(feed.report);
+    if !r.failed {
+        print(run.counts);
+    }
 }
 
 // ---- what is printed
 
 // What part a number is of a total, in percent, cut to a tenth.
-fn put_share(n: u64, total: u64) {
+fn put_share(out: &mut Room, w: Writer, n: u64, total: u64) -> Writer {
     if total == 0 {
-        return;
+        return w;
     }
     let tenths = (n % 281474976710656) * 1000 / total;
-    put(b", ");
-    put_number(tenths / 10);
-    put(b".");
-    put_number(tenths % 10);
-    put(b" %");
+    let a = put_with(out, w, b", ", tenths / 10, b".");
+    put_with(out, a, b"", tenths % 10, b" %")
 }
 
 fn less(a: u64, b: u64) -> u64 {
     if b < a { a - b } else { 0 }
 }
 
-// The last piece is written with a check, so that an output which takes nothing is reported once.
-fn put_counts(c: Counts) {
-    put(b"ticks: ");
-    put_number(c.ticks);
-    put(b"\nslept through: ");
-    put_number(c.slept);
-    put_share(c.slept, c.ticks);
-    put(b"\nawake: ");
-    put_number(less(c.ticks, c.slept));
-    put(b" ticks, ");
-    put_number(c.changes);
-    put(b" other inputs, ");
-    put_number(c.lines);
-    program::writer::write(b" lines\n");
+fn put_counts(out: &mut Room, c: Counts) {
+    let a = put_with(out, empty(), b"ticks: ", c.ticks, b"");
+    let b = put_with(out, a, b"\nslept through: ", c.slept, b"");
+    let d = put_share(out, b, c.slept, c.ticks);
+    let awake = less(c.ticks, c.slept);
+    let e = put_with(out, d, b"\nawake: ", awake, b" ticks, ");
+    let f = put_with(out, e, b"", c.changes, b" other inputs, ");
+    let g = put_with(out, f, b"", c.lines, b" lines\n");
+    flush(out, g);
+}
+
+fn print(c: Counts) {
+    let mut out = [0u8; ROOM];
+    put_counts(&mut out, c);
 }
 
 fn main() {
     let o = arguments::read(
         b"plskip reads lines of a card and ticks, and prints how many of the ticks a processor may sleep through.
 
-usage: plskip [FILE]     with no FILE it reads standard input
+usage: plskip [--cells 32] [FILE]     with no FILE it reads standard input
 
 In a tick that is slept through nothing changes but counts, and none comes to its end: the outputs stay as they
 are, and the tick may be made later, with others at once. The processor is awake for the other ticks, and
 wakes where an input changes and where a line comes. Idle ticks are left out. What was refused is reported on the
-error output.
+error output. --cells 32 is for a card of thirty-two cells.
 
     plskip examples/clock.lines
 ",
-        0,
+        arguments::CELLS,
     );
-    if o.input == arguments::NOTHING {
-        return;
+    if o.input != arguments::NOTHING {
+        run_from(o.input, o.cells);
     }
-    let run = run_from(o.input);
-    let report = run.report;
-    program::report::say(report);
-    put_counts(run.counts);
 }

@@ -10,15 +10,15 @@ use Rattle.words.specs.Bits.{bitAt}
 use Rattle.text.proofs.Stores.{Stored, behind}
 use Rattle.plwave.specs.Dump.{changeOf, changes}
 
-pub changes-next : (word set i : ℕ) → changes word set (i + 1) ≡ changes word set i ++ changeOf i (bitAt set i) (bitAt word i)
+pub changes-next : (from word set i : ℕ) → changes from word set (i + 1) ≡ changes from word set i ++ changeOf (from + i) (bitAt set i) (bitAt word i)
 unfolding changes
-changes-next word set i = rw (add-one i) refl
+changes-next from word set i = rw (add-one i) refl
 
 -- a turn of the loop: the bits below i are stored, and now bit i
-pub stored-change : (word set i : ℕ) {l a r : List ℕ} {at end : ℕ} {shown b : Bool} → shown ≡ bitAt set i → b ≡ bitAt word i
-    → Stored l a (changes word set i) at → (r ≡ sets a at (changeOf i shown b)) × (end ≡ at + length (changeOf i shown b))
-    → Stored l r (changes word set (i + 1)) end
-stored-change word set i {l} {a} {r} {at} {end} {shown} {b} es eb below e =
-    let text : changes word set i ++ changeOf i shown b ≡ changes word set (i + 1) =
-    ap (λ (t : List ℕ). changes word set i ++ t) (ap₂ (λ (s v : Bool). changeOf i s v) es eb) ∙ sym (changes-next word set i) in
-    subst (λ (t : List ℕ). Stored l r t end) text (behind below (changeOf i shown b) e)
+pub stored-change : (from word set i : ℕ) {l a r : List ℕ} {at end : ℕ} {shown b : Bool} → shown ≡ bitAt set i → b ≡ bitAt word i
+    → Stored l a (changes from word set i) at → (r ≡ sets a at (changeOf (from + i) shown b)) × (end ≡ at + length (changeOf (from + i) shown b))
+    → Stored l r (changes from word set (i + 1)) end
+stored-change from word set i {l} {a} {r} {at} {end} {shown} {b} es eb below e =
+    let text : changes from word set i ++ changeOf (from + i) shown b ≡ changes from word set (i + 1) =
+    ap (λ (t : List ℕ). changes from word set i ++ t) (ap₂ (λ (s v : Bool). changeOf (from + i) s v) es eb) ∙ sym (changes-next from word set i) in
+    subst (λ (t : List ℕ). Stored l r t end) text (behind below (changeOf (from + i) shown b) e)

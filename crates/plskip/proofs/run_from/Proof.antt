@@ -1,17 +1,15 @@
--- `plskip::run_from` is safe and ends: the reader stays within its block, and each line leaves fewer lines and reads.
-use Prim.Native.Nat.{_≤_}
+-- `plskip::run_from` is safe and ends: each line leaves fewer lines and reads.
 use mathlib.Core.Path.{_≡_}
-use lib.ListN.{length}
+use Rattle.session.specs.Feed.{Ready}
 use borrow.Author.Needs.{needs}
 use Rattle.plskip.proofs.run_from.Statement.{statement}
 use Rattle.plskip.proofs.run_from.Tie as tie
 
 abbrev Inv-loop : tie.InvT-loop
-Inv-loop file block₀ line₀ store₀ run₀ r₀ block line store run r = (r .end ≤ r .n) × (r .n ≤ length block) × (length block ≡ 2144) ×
-    (length line ≡ 96) × (length store ≡ 308)
+Inv-loop file cells block₀ line₀ store₀ run₀ feed₀ r₀ block line store run feed r = Ready (feed .reader) × (r .left ≡ feed .reader .left)
 
 abbrev μ-loop : tie.MeasureT-loop
-μ-loop file block₀ line₀ store₀ run₀ r₀ block line store run r = r .left
+μ-loop file cells block₀ line₀ store₀ run₀ feed₀ r₀ block line store run feed r = r .left
 
 pub run-from-spec : {M : Type 1} → statement M
 run-from-spec =
@@ -22,13 +20,11 @@ run-from-spec =
     (λ c κs. search needs)
     (λ c κs. search needs)
     (λ c. search needs)
-    (λ c. search needs)
-    (λ c. search needs)
+    (λ c κs. search needs)
     (λ c κs. search needs)
     (λ c. search needs)
     (λ c. search needs)
     (λ c κs. search needs)
-    (λ c. search needs)
-    (λ c. search needs)
+    (λ c κs. search needs)
     (λ c. search needs)
     (λ c. search needs))

@@ -5,7 +5,7 @@ use Rattle.pldraw.proofs.page.put_strips.Statement.{statement}
 use Rattle.pldraw.proofs.page.put_strips.Tie as tie
 
 abbrev Inv-loop : tie.InvT-loop
-Inv-loop out₀ card ticks p low head n rows w₀ start₀ y₀ out w start y = (start ≤ n + 60) × (y ≤ 1200 + 1216 * start)
+Inv-loop out₀ card ticks p low head n rows w₀ start₀ y₀ out w start y = (start ≤ n + 60) × (y ≤ 1500 + 1516 * start)
 
 abbrev μ-loop : tie.MeasureT-loop
 μ-loop out₀ card ticks p low head n rows w₀ start₀ y₀ out w start y = n - start

@@ -1,2 +1,2 @@
 -- What a reader must believe of pictures of a run: what one line shows.
-pub mod Steps
+pub mod Shows

@@ -1,9 +1,9 @@
--- `scope::notes::put_bytes` is safe and ends: the index stays within the text.
+-- `trace::notes::put_bytes` is safe and ends: the index stays within the text.
 use Prim.Native.Nat.{_≤_, _-_}
 use lib.ListN.{length}
 use borrow.Author.Needs.{needs}
-use Rattle.scope.proofs.notes.put_bytes.Statement.{statement}
-use Rattle.scope.proofs.notes.put_bytes.Tie as tie
+use Rattle.trace.proofs.notes.put_bytes.Statement.{statement}
+use Rattle.trace.proofs.notes.put_bytes.Tie as tie
 
 abbrev Inv-loop : tie.InvT-loop
 Inv-loop out₀ bytes form s₀ i₀ out s i = i ≤ length bytes
