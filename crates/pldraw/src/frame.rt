@@ -131,7 +131,7 @@ pub fn put_style(out: &mut Room, w: Writer) -> Writer {
 
 // ---- the head
 
-// How to see the ticks behind those that are shown, if there are any.
+// How to see the ticks after those that are shown, if there are any.
 fn put_more(out: &mut Room, w: Writer, next: u64, total: u64) -> Writer {
     if total < next {
         return w;
