@@ -133,8 +133,8 @@ fn shape_of(before: u64, drawn: Gathered, behind: u64) -> Shape
     }
 }
 
-// The run of an input to a card of 16 or 32 cells, from tick `from` on. Where a read fails, that has
-// been reported, and nothing is drawn.
+// The run of an input to a card of 16 or 32 cells, from tick `from` on. Where a read fails, that is
+// reported, and nothing is drawn.
 fn draw(input: i32, cells: u8, from: u64) {
     let mut block = [0u8; BUFFER];
     let mut line = [0u8; LINE];
