@@ -222,24 +222,32 @@ function formHtmlOf({ kind, from, to, within, index }) {
     ${index < 0 ? '' : '<button type="button" data-ask="leave">Leave it</button>'}${ready ? `<code class="quiet">${escapeText(questionText(asking))}</code>` : ''}`;
 }
 
-// Questions at a press: whether an output can be high together with a line that comes in, and whether it is off one tick after that.
-const meets = (line, out) => [`never ${line} and ${out}`, `after ${line} rises: not ${out} within 1`];
+// Questions at a press: whether an output can be high together with a line that comes in, and, where
+// a cell drives the output, whether that cell can: the output shows it one tick later.
+const meets = (line, out, cell) => [`never ${line} and ${out}`, ...(cell ? [`never ${line} and ${cell}`] : [])];
+
+const sourceCell = ({ configuration }) => (configuration > 0 && isCell(configuration) ? nameOf(configuration) : '');
 
 function pairsOf(parts) {
-  return driven(parts).flatMap((out) => brought(parts).filter((line) => line !== out).map((line) => [nameOf(line), nameOf(out)]));
+  return driven(parts).flatMap((out) => brought(parts).filter((line) => line !== out)
+    .map((line) => [nameOf(line), nameOf(out), sourceCell(parts[out])]));
 }
 
 function offersHtml() {
-  const offers = pairsOf(wired().parts).map(([line, out]) => [`Can ${out} be high while ${line} is, and for how long?`, meets(line, out)]);
+  const offers = pairsOf(wired().parts).map(([line, out, cell]) => [`Can ${out} be high while ${line} is, and for how long?`, meets(line, out, cell)]);
   const open = [...offers, ['What never moves?', ['dead']]].filter(([, questions]) => questions.some((q) => !state.questions.includes(q))).slice(0, OFFERED);
   return open.map(([words, questions]) => `<button data-offer="${escapeText(questions.join('\n'))}">${escapeText(words)}</button>`).join(' ');
 }
 
-// Where both are answered so: they meet, and one tick later they do not.
+// Where they meet, and the cell that drives the output never meets the line: the output shows the cell one tick later, so
+// it is low in the tick after each tick in which the line is high.
 function conclusions(answers) {
   const verdict = (q) => answers.filter((a) => a.question === q).map(verdictIn)[0];
-  return pairsOf(wired().parts).filter(([line, out]) => verdict(meets(line, out)[0]) === 'broken' && verdict(meets(line, out)[1]) === 'kept')
-    .map(([line, out]) => `<p class="concluded">So ${out} can meet ${line} for one tick, and no wiring can do better. ${escapeText(reach.drives)}</p>`);
+  return pairsOf(wired().parts).filter(([line, out, cell]) => {
+    const [together, atCell] = meets(line, out, cell);
+    return verdict(together) === 'broken' && atCell && verdict(atCell) === 'kept';
+  }).map(([line, out]) => `<p class="concluded">So ${out} can meet ${line} only in the tick in which ${line} rises, and no wiring can do better. ${
+    escapeText(reach.drives)}</p>`);
 }
 
 function chosenInForm(element) {

@@ -29,9 +29,9 @@ export async function asksOfBusyLine(page, url) {
   await page.press('#tab-reach');
   await page.evaluate(`[...document.querySelectorAll('[data-offer]')].find(b => b.innerText === 'Can BNC3 be high while BNC2 is, and for how long?').click()`);
   await answered(page);
-  expect('two questions', await questions(page), ['never BNC2 and BNC3', 'after BNC2 rises: not BNC3 within 1']);
-  expect('they meet, and one tick later they do not', await said(page), ['yes, tick 22 shows it', 'always']);
-  expect('so it is told', (await page.text('.concluded')).startsWith('So BNC3 can meet BNC2 for one tick, and no wiring can do better.'), true);
+  expect('two questions', await questions(page), ['never BNC2 and BNC3', 'never BNC2 and cell 2']);
+  expect('they meet, and the cell does not', await said(page), ['yes, tick 22 shows it', 'never']);
+  expect('what follows is said', (await page.text('.concluded')).startsWith('So BNC3 can meet BNC2 only in the tick in which BNC2 rises,'), true);
   expect('the ticks are drawn', await page.evaluate('document.querySelectorAll(".witness-picture .wave").length'), 5);
   await page.press('[data-put-ticks]');
   expect('and put behind the wiring', (await lines(page)).split('\n').length, TASK.length + 22 + 1);
@@ -44,15 +44,17 @@ export async function asksOfBusyLine(page, url) {
 }
 
 async function asksByForm(page) {
-  await ask(page, 'kind', 'never');
+  await ask(page, 'kind', 'after');
   await ask(page, 'what from 0', 'BNC2');
-  await page.press('[data-ask="more from"]');
-  await ask(page, 'what from 1', 'cell 2');
+  await ask(page, 'how from 0', 'rises');
+  await ask(page, 'what to 0', 'BNC3');
+  await ask(page, 'how to 0', 'low');
+  await ask(page, 'within', 1);
   await page.press('[data-ask=ask]');
   await answered(page);
   await page.until('document.querySelectorAll("#reach-list .answered").length === 3');
   await answered(page);
-  expect('by names in a form', [(await questions(page))[2], (await said(page))[2]], ['never BNC2 and cell 2', 'never']);
+  expect('by names in a form', [(await questions(page))[2], (await said(page))[2]], ['after BNC2 rises: not BNC3 within 1', 'always']);
   await ask(page, 'kind', 'given');
   await ask(page, 'what from 0', 'BNC2');
   await ask(page, 'how from 0', 'low');
@@ -64,18 +66,18 @@ async function asksByForm(page) {
   await page.press('[data-drop-question="0"]');
   await page.until('document.querySelectorAll("#reach-list .answered").length === 3');
   await answered(page);
-  await page.press('[data-change-question="1"]');
+  await page.press('[data-change-question="2"]');
   await ask(page, 'within', 0);
   await page.press('[data-ask=ask]');
   await page.until('document.querySelectorAll("#reach-list .answered.broken").length === 2');
-  expect('a question is changed', (await questions(page))[1], 'after BNC2 rises: not BNC3 within 0');
+  expect('a question is changed', (await questions(page))[2], 'after BNC2 rises: not BNC3 within 0');
   await page.click('#undo');
   await answered(page);
 }
 
 // A wiring and its questions travel together.
 async function travels(page, url) {
-  const asked = ['never BNC2 and BNC3', 'after BNC2 rises: not BNC3 within 1', 'never BNC2 and cell 2'];
+  const asked = ['never BNC2 and BNC3', 'never BNC2 and cell 2', 'after BNC2 rises: not BNC3 within 1'];
   await page.until(`[...document.querySelectorAll('#reach-list .answered code')].length === 3`);
   await pause(500);
   const hash = await page.evaluate('location.hash');
@@ -110,7 +112,7 @@ export async function stopsAsking(page) {
   await page.click('#examples [data-group=busy]');
   await answered(page);
   expect('the first example', await said(page), ['yes, tick 22 shows it', 'always', 'never']);
-  expect('and what it comes to', (await page.text('#reach-about')).includes('the lamp can meet busy for one tick, and no wiring can do better'), true);
+  expect('and what it comes to', (await page.text('#reach-about')).includes('the lamp can meet busy in one tick only, that in which busy rises'), true);
 }
 
 // ---- time and zoom
