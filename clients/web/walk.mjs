@@ -169,6 +169,9 @@ export async function opensEverything(page) {
   }
   await page.click('#new');
   const numbers = presets.flatMap((p) => p.numbers);
+  await page.click('#open-presets'); // the menu is filled when it opens
+  await page.until('document.querySelector("#presets [data-preset]")');
+  await page.click('#presets .close');
   for (const number of numbers) await page.click(`#presets [data-preset="${number}"]`);
   expect('presets', await answers(page), numbers.map(() => ':A'));
 }
@@ -203,7 +206,7 @@ export async function keepsRecord(page) {
   await openFile(page, 'long.lines', 'M E=1\n36CCA Y=14\n36CCA Z=100000\n');
   await page.until('document.getElementById("text").value.includes("100000")');
   await page.click('#tab-plsave');
-  expect('what an older card cannot have', (await page.text('#panel .bad')).includes('plconvert: :N-17: a record that is to have 276 bytes'), true);
+  expect('what an older card cannot have', (await page.text('#panel .bad')).includes('plconvert: :N-17: a record of 276 bytes is to hold a duration'), true);
 }
 
 // A student gets ticks with their answers, and finds the wiring.
