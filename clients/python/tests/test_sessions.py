@@ -32,7 +32,21 @@ def _stdout(path: Path) -> bytes:
     return (path.parents[1] / "stdout").read_bytes()
 
 
-@pytest.mark.parametrize("path", FILES, ids=NAMES)
+# Forms that gate_sessions prints in words or rows: a card has no such output.
+WORDS = {"explain", "asleep", "rows", "rows-asleep", "check"}
+
+
+def _only_in_words(path: Path) -> bool:
+    """Whether the gate stores nothing of a file but sentences and rows."""
+    rows = [row.split() for row in (path.parents[1] / "stdin").read_text(errors="replace").splitlines()]
+    forms = {row[2] for row in rows if len(row) == 3 and row[1] == path.name}
+    return bool(forms) and forms <= WORDS
+
+
+STORED = [path for path in FILES if path.parts[-3] != "gate_sessions" or not _only_in_words(path)]
+
+
+@pytest.mark.parametrize("path", STORED, ids=[f"{path.parts[-3]}/{path.name}" for path in STORED])
 def test_stored(path: Path) -> None:
     """What a card prints for a file is in the stored output of its program."""
     forms = stored_forms(path, _stdout(path))
