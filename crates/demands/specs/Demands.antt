@@ -136,8 +136,8 @@ pub record Demand3 (n : ℕ) : Type 0 where
 
 -- ---- The requests of document 02, by their numbers
 
--- 3: the answer of a gate with four slots is what it was, and how many slots were looked at is the
--- place of the first that decides
+-- 3: the answer of a gate with four slots is what it was. How many slots were looked at is no field
+-- here: the contract of a step says it (`StepsTo`, cells/specs/Effect.antt)
 pub record FourSlots : Type 0 where
   pub and4 : (r : Slots) → looked decidesAnd r .out ≡ ((r .x && r .y) && (r .z && r .f))
   pub or4 : (r : Slots) → looked decidesOr r .out ≡ ((r .x || r .y) || (r .z || r .f))
