@@ -1,4 +1,6 @@
 // The card: what it holds, and how lines change its settings.
+#![tactic(auto)]
+
 pub mod card; // what a card holds
 pub mod change; // what a line changes in a card, as a value
 pub mod chart; // the chart of the addresses

@@ -1,4 +1,6 @@
 // The cells of a card: their types, what their slots read, what wakes them, and what they work out.
+#![tactic(auto)]
+
 pub mod cell; // a cell as the card holds it
 mod families; // one cell in a tick, family by family
 mod named; // whether the waking rules name a cell, family by family

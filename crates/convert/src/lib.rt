@@ -1,4 +1,6 @@
 // A saved record in another form, for cards that read only the old one of sixteen cells, and back.
+#![tactic(auto)]
+
 ghost use Rattle.std.specs.Prelude.{◌≡◌, ◌+◌, ◌≤◌, length, take, drop};
 ghost use Rattle.card.specs.Address.{cell_count, cell_room};
 ghost use Rattle.text.specs.Digits.{every};

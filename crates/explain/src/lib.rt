@@ -1,6 +1,8 @@
 // Says what a line did and why, for people and as rows for machines, and compares transcripts,
 // which are lines with the answers that must come. `facts` enters a line once, `line` and `rows`
 // say what it did, `checking` compares. Stored output checks what they write.
+#![tactic(auto)]
+
 mod accepted; // what an accepted line changed or read
 pub mod checking; // a transcript compared with the card's answers
 pub mod facts; // what a line did

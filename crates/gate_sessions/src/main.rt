@@ -12,6 +12,8 @@
 //     rows      the same as rows of JSON; `rows-asleep` with the cells that sleep
 //     check     what plcheck writes of a transcript
 // Each run starts with its row. Where it cannot be run, `?` and the reason follow.
+#![tactic(auto)]
+
 mod both; // a session by plrun's loop and in memory
 mod checked; // what plcheck writes of a transcript
 mod ending; // the card that a session leaves

@@ -3,6 +3,8 @@
 //
 // The stored output was checked against document 01's tables by hand, and the rows of records
 // against records that were written out from its tables.
+#![tactic(auto)]
+
 mod chart; // the cell types
 mod loads; // loads and conversions of records
 mod presets; // the presets

@@ -5,6 +5,8 @@
 // line to line by `next_line`, in constant memory: a block of input with room for a line before it,
 // and the line that has not ended. The calls that read are in `read_at`; no contract can say
 // which bytes come there.
+#![tactic(auto)]
+
 ghost use Rattle.std.specs.Prelude.{true, false, ◌≡◌, ℕ, ◌≤◌, ◌<◌, ◌+◌, min, length, take, get_or};
 ghost use Rattle.input.specs.Lines.{part, kept, block_length, most_reads};
 ghost use Rattle.input.specs.Reading.{Looked, Refilled, Next};

@@ -1,4 +1,6 @@
 // The line reader: refusals, replies, and what a line does to the card.
+#![tactic(auto)]
+
 pub mod decision; // what a line comes to
 pub mod line; // the public call
 mod reads; // the commands that read or save

@@ -2,6 +2,8 @@
 // names of types, slots, places and addresses; cells and connectors with their settings; why a line
 // was refused; what a tick did and why; and hints. plexplain and plcheck are made of them. Stored
 // output checks what they say.
+#![tactic(auto)]
+
 mod causes; // why a cell was worked out
 pub mod form; // what is wrong with a malformed line
 pub mod hints; // hints on legal wirings

@@ -1,5 +1,7 @@
 // Prints the chart of the addresses: a row for each, which has the address, its base, inverted,
 // edge and permitted.
+#![tactic(auto)]
+
 ghost use Rattle.std.specs.Prelude.{◌≡◌, ◌+◌, ◌≤◌, length};
 ghost use Rattle.std.proofs.lemmas.List.Edits.{sets};
 ghost use Rattle.card.specs.Address.{cell_count};

@@ -1,5 +1,7 @@
 // Compares a transcript with what the card answers: its inputs are entered, and the answers below
 // them are what must come. It takes constant memory, whatever the input.
+#![tactic(auto)]
+
 ghost use Rattle.std.specs.Prelude.{length, ◌≤◌};
 
 use explain::checking::{Answer, Check, Text, end, take, take_last};

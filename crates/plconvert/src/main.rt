@@ -1,6 +1,8 @@
 // Converts a saved record: it reads one record and writes the same settings in the other form,
 // those of a card of 32 cells in the old form of sixteen. A refusal is a line `:N-k` on the error
 // output. It is the program of document 02, "Records for cards already at sea".
+#![tactic(auto)]
+
 use libc::STDERR_FILENO;
 use program::arguments::NOTHING;
 

@@ -5,6 +5,8 @@
 // tinted in the ticks that woke it. Sixty ticks are side by side, and the next sixty below them.
 // The picture keeps 300 ticks, from the one that is asked for, and says how many there are. Rows
 // are named by the wiring of the last tick that is drawn. No contract can say what is written.
+#![tactic(auto)]
+
 mod frame; // the size, the style and the head of a picture
 mod page; // the picture as text
 mod rows; // who has a row

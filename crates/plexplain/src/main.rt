@@ -1,5 +1,7 @@
 // Explains a run: it reads what plrun reads, and writes each line with its answer and what that
 // means. It takes constant memory, whatever the input.
+#![tactic(auto)]
+
 ghost use Rattle.std.specs.Prelude.{length, ◌≤◌};
 
 use explain::facts::{Run, more};

@@ -1,5 +1,7 @@
 // Writes a saved record as lines: it reads a record as a card would load it, and writes the wiring
 // that the card then has, or why the card refuses it.
+#![tactic(auto)]
+
 use input::least;
 use libc::STDERR_FILENO;
 use program::arguments::{Arguments, CELLS, NOTHING};

@@ -1,5 +1,7 @@
 // Prints the wiring of a card as lines: it reads what plrun reads, and at the end writes the wiring
 // of the card. It is the program of document 02, "Print the wiring as lines".
+#![tactic(auto)]
+
 use program::arguments::{ANYWAY, Arguments, CELLS, NOTHING};
 use wiring::parts::TEXT_MOST;
 

@@ -14,6 +14,8 @@
 // The cards are held by value, and given as a row for each order to them (rack::held::on_row): a
 // start, a tick, and the look at the row that a line and a load begin with. What those do to their
 // card is done by the functions that the calls on the caller's row are made of (rack::job).
+#![tactic(auto)]
+
 mod fields; // the fields of a call
 
 ghost use Rattle.std.specs.Prelude.{◌≤◌, length};

@@ -1,4 +1,6 @@
 // Runs the lines of an input through one card, and prints the answers: document 01, "One run".
+#![tactic(auto)]
+
 fn main() {
     let given = program::arguments::read(
         b"plrun reads lines of a card and ticks, and prints an answer for each.

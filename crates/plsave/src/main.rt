@@ -1,5 +1,7 @@
 // Saves a wiring as a record: it reads what plrun reads, and at the end writes the record of the
 // card, which `plload` turns into lines again.
+#![tactic(auto)]
+
 ghost use Rattle.std.specs.Prelude.{◌≤◌};
 
 use card::limits::LARGE;

@@ -3,6 +3,8 @@
 // asks for how many ticks the card is steady, sleeps through them, makes the next one, and asks
 // again; a line and another input end the sleep, and are followed by the question too. An idle tick
 // is no tick of the card's clock, and is left out.
+#![tactic(auto)]
+
 ghost use Rattle.std.specs.Prelude.{◌<◌};
 ghost use Rattle.session.specs.Feed.{Ready};
 

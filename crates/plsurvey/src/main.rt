@@ -2,6 +2,8 @@
 // that something else depends on, and after these, for each output that something else moves, the
 // lines that can reach it. The second rows are the columns of the first: what is in no row is in no
 // column.
+#![tactic(auto)]
+
 ghost use Rattle.std.specs.Prelude.{◌≤◌, ◌<◌};
 
 use card::card::Card;

@@ -9,6 +9,8 @@
 //
 // The wires of a card of n cells, in order: the levels of the sixteen connectors, what the card
 // drives, the outputs of the cells, and which of these woke, 32 + 2n in all.
+#![tactic(auto)]
+
 ghost use Rattle.std.specs.Prelude.{◌≡◌, ◌≤◌, ◌<◌, ◌+◌, length};
 ghost use Rattle.std.proofs.lemmas.List.Edits.{sets};
 ghost use Rattle.session.specs.Feed.{Ready};

@@ -1,6 +1,8 @@
 // Up to four cards on one backplane: a row of cards that the caller holds, each changed where it
 // is. What is done to one card, by value, is covered; the functions that take the row (row,
 // rack_calls) are few and thin, and proved by a walk of their code.
+#![tactic(auto)]
+
 pub mod held; // a row that a program holds by value
 pub mod job; // a line or a load to one card of a row
 pub mod pass; // what goes from card to card

@@ -1,4 +1,6 @@
 // Why the cells of a card wake in a tick.
+#![tactic(auto)]
+
 pub mod cell; // why a single cell wakes
 
 ghost use Rattle.std.specs.Prelude.{◌++◌, ◌≡◌, ◌^◌, ◌<◌, ◌≤◌, get_or, drop, replicate};

@@ -1,4 +1,6 @@
 // One line of input of a run: a tick, a load or a card line, and what it prints.
+#![tactic(auto)]
+
 pub mod feed; // the lines of an input, for every program but plrun
 pub mod run; // the loop of plrun
 

@@ -1,6 +1,8 @@
 // Many ticks at once. Where a quick tick changes nothing but counts, the ticks after it with the
 // same input do the same again until a count comes to its end. So they are made in one step, and a
 // processor may sleep until then, or until an input changes.
+#![tactic(auto)]
+
 ghost use Rattle.std.specs.Prelude.{◌≡◌, ◌&&◌, ◌+◌, ◌-◌, ◌≤◌, ◌<◌};
 ghost use Rattle.words.specs.Bits.{bit_at};
 ghost use Rattle.cells.specs.Work.{largest_count};

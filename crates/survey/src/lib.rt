@@ -1,4 +1,6 @@
 // What depends on a line: the cells and connectors that a change at one connector can reach.
+#![tactic(auto)]
+
 ghost use Rattle.std.specs.Prelude.{◌≡◌, ◌≤◌, ◌<◌, get_or};
 ghost use Rattle.words.specs.Bits.{bit_at, word_of};
 ghost use Rattle.card.specs.Address.{cell_room, cells_for, connector_count, base_of};

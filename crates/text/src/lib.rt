@@ -1,4 +1,6 @@
 // Numbers in text: decimal and hexadecimal, read from bytes and written as bytes.
+#![tactic(auto)]
+
 ghost use Rattle.std.specs.Prelude.{◌≡◌, true, ◌++◌, ◌+◌, ◌^◌, ◌≤◌, ◌<◌, length, drop};
 ghost use Rattle.std.proofs.lemmas.List.Edits.{sets};
 ghost use Rattle.text.specs.Decimal.{digits_of, value_from, max_digits, plain, is_digit, number_at, decimal};

@@ -2,6 +2,8 @@
 //
 // `next` goes on to the next tick that ran, by the lines of an input (`session::feed`), and
 // `shown_in` is what it showed. `notes` is what a picture says of lines that it does not show.
+#![tactic(auto)]
+
 pub mod notes; // what a picture says of lines that it does not show
 
 ghost use Rattle.std.specs.Prelude.{◌≡◌};

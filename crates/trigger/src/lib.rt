@@ -1,5 +1,7 @@
 // The public calls on one card, for programs in C and Rust: a static library whose calls take and
 // give the card by value; those whose name ends in `_in` change it where it is.
+#![tactic(auto)]
+
 ghost use Rattle.std.specs.Prelude.{true, false, ◌≡◌, ◌≤◌, length};
 ghost use Rattle.card.specs.Address.{cell_count, cell_room, cells_for};
 ghost use Rattle.card.specs.Fresh;

@@ -3,6 +3,8 @@
 // A wiring with a refused line is not the one that was written, so there is none, unless the user
 // asks for it all the same. Each refused line is reported with the rule that refused it. An input
 // of a form that no card takes is reported, and nothing more is read.
+#![tactic(auto)]
+
 pub mod refused; // how a refused line is reported
 
 ghost use Rattle.std.specs.Prelude.{◌<◌};

@@ -1,4 +1,6 @@
 // Single bits of words. A caller widens a shorter word, so one width serves all.
+#![tactic(auto)]
+
 ghost use Rattle.std.specs.Prelude.{true, ◌≡◌, ◌+◌, ◌*◌, ◌^◌, ◌<◌};
 ghost use Rattle.words.specs.Bits.{bit_at, with_bit, bit_number, IsLowest};
 

@@ -40,8 +40,8 @@ returns c =
     let end : l.i ≡ a.n = omega arith in
     l.invariant.1 ∙ ap (λ (k : ℕ). every is_blank (take k (drop cell_count a.t1))) end
 
-pub all-blank-spec : {M : Type 1} → statement M
-all-blank-spec =
+pub all_blank_spec : {M : Type 1} → statement M
+all_blank_spec =
     tie.close
     (tie.spec
     invariant-loop

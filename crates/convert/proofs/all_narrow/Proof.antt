@@ -35,8 +35,8 @@ returns c =
     let end : l.i ≡ a.n = omega arith in
     l.invariant.1 ∙ ap (λ (k : ℕ). every narrow_cell (take k a.t1)) end
 
-pub all-narrow-spec : {M : Type 1} → statement M
-all-narrow-spec =
+pub all_narrow_spec : {M : Type 1} → statement M
+all_narrow_spec =
     tie.close
     (tie.spec
     invariant-loop

@@ -11,5 +11,5 @@ returns c = (rw (eq-eqb _ large_length c.if1.true), (omega arith, omega arith))
 returns-2 : tie.Need-returns-2
 returns-2 c = (rw (ne_eqb _ large_length c.if1.false), (omega arith, omega arith))
 
-pub cells-of-spec : {M : Type 1} → statement M
-cells-of-spec = tie.close (tie.spec returns returns-2)
+pub cells_of_spec : {M : Type 1} → statement M
+cells_of_spec = tie.close (tie.spec returns returns-2)

@@ -201,8 +201,8 @@ returns-6 c =
       ),
     )
 
-pub convert-spec : {M : Type 1} → statement M
-convert-spec =
+pub convert_spec : {M : Type 1} → statement M
+convert_spec =
     tie.close
     (tie.spec
     returns

@@ -16,5 +16,5 @@ returns-2 c =
     let wide = ne_eqb _ (record_length cell_count narrow_width) c.if1.false in
     (rw wide, (omega arith, rw wide))
 
-pub other-form-spec : {M : Type 1} → statement M
-other-form-spec = tie.close (tie.spec returns returns-2)
+pub other_form_spec : {M : Type 1} → statement M
+other_form_spec = tie.close (tie.spec returns returns-2)

@@ -11,8 +11,8 @@ invariant-loop row from i₀ i = (from ≤ i) × (i ≤ length row)
 abbrev decreases-loop : tie.decreases-loop
 decreases-loop row from i₀ i = length row - i
 
-pub blank-from-spec : {M : Type 1} → statement M
-blank-from-spec =
+pub blank_from_spec : {M : Type 1} → statement M
+blank_from_spec =
     tie.close
     (tie.spec
     invariant-loop

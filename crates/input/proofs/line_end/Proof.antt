@@ -20,8 +20,8 @@ loop-again c = (search rules, (search rules, below_more _ _ c.before.before.befo
 returns-2 : tie.Need-returns-2 invariant-loop decreases-loop
 returns-2 c = (search rules, (search rules, (c.before.loop.invariant.1.1, λ h. omega (arith, h))))
 
-pub line-end-spec : {M : Type 1} → statement M
-line-end-spec =
+pub line_end_spec : {M : Type 1} → statement M
+line_end_spec =
     tie.close
     (tie.spec
     invariant-loop

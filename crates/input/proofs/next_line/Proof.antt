@@ -52,8 +52,8 @@ returns c =
       (u.order, (u.ends.within, (u.ends.inside, omega (arith, u.left, looked.left)))),
     )
 
-pub next-line-spec : {M : Type 1} → statement M
-next-line-spec =
+pub next_line_spec : {M : Type 1} → statement M
+next_line_spec =
     tie.close
     (tie.spec
     invariant-loop

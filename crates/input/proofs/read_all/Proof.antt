@@ -12,8 +12,8 @@ invariant-loop input buffer₀ n₀ buffer n = (n ≤ length buffer) × (length 
 abbrev decreases-loop : tie.decreases-loop
 decreases-loop input buffer₀ n₀ buffer n = length buffer₀ - n
 
-pub read-all-spec : {M : Type 1} → statement M
-read-all-spec =
+pub read_all_spec : {M : Type 1} → statement M
+read_all_spec =
     tie.close
     (tie.spec
     invariant-loop

@@ -12,8 +12,8 @@ returns c =
     let a = o.args in
     (search rules, take_at (take a.at a.block.now) _ a.at (length-take-le a.at a.block.now (omega (arith, o.requires))))
 
-pub read-at-spec : {M : Type 1} → statement M
-read-at-spec =
+pub read_at_spec : {M : Type 1} → statement M
+read_at_spec =
     tie.close
     (tie.spec
     (λ c. search rules)

@@ -23,8 +23,8 @@ returns c =
     ∙ front a.block.now (take a.len a.line.now) a.len (sym size) fits in
     (r.read_at.ensures.0, r.read_at.ensures.1 ∙ line)
 
-pub read-behind-spec : {M : Type 1} → statement M
-read-behind-spec =
+pub read_behind_spec : {M : Type 1} → statement M
+read_behind_spec =
     tie.close
     (tie.spec
     (λ c. search rules)

@@ -32,8 +32,8 @@ returns c =
       left = omega (arith, o.requires);
     }
 
-pub refilled-spec : {M : Type 1} → statement M
-refilled-spec =
+pub refilled_spec : {M : Type 1} → statement M
+refilled_spec =
     tie.close
     (tie.spec
     (λ c. search rules)

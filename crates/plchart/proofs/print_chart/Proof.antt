@@ -17,8 +17,8 @@ whole c = ap length c.put-chart.ensures.0 ∙ length-sets _ 0 (chart_text cell_c
 part-write-end : tie.Need-slice-bounds-write-end
 part-write-end c = omega (arith, whole c.before, c.before.put-chart.ensures.1.1)
 
-pub print-chart-spec : {M : Type 1} → statement M
-print-chart-spec =
+pub print_chart_spec : {M : Type 1} → statement M
+print_chart_spec =
     tie.close
     (tie.spec
     (λ c κs. search rules)

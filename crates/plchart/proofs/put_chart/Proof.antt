@@ -39,8 +39,8 @@ returns c =
     let whole = subst (λ (a : ℕ). Placed s.args.out.now 0 l.out (rows_below cell_count a) l.at) end l.invariant.placed in
     (whole.bytes, (whole.at-end ∙ zero-add _, omega (arith, l.invariant.within, end)))
 
-pub put-chart-spec : {M : Type 1} → statement M
-put-chart-spec =
+pub put_chart_spec : {M : Type 1} → statement M
+put_chart_spec =
     tie.close
     (tie.spec
     invariant-loop

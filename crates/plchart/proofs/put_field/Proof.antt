@@ -34,5 +34,5 @@ returns c =
     let field = placed-then digits (s.args.mark ∷ []) refl refl in
     (field.bytes, (field.at-end, digits-end c))
 
-pub put-field-spec : {M : Type 1} → statement M
-put-field-spec = tie.close (tie.spec (λ c κs. search rules) element-write-out add-result returns)
+pub put_field_spec : {M : Type 1} → statement M
+put_field_spec = tie.close (tie.spec (λ c κs. search rules) element-write-out add-result returns)

@@ -43,8 +43,8 @@ returns c =
     ) in
     (row.bytes, (row.at-end, size))
 
-pub put-row-spec : {M : Type 1} → statement M
-put-row-spec =
+pub put_row_spec : {M : Type 1} → statement M
+put_row_spec =
     tie.close
     (tie.spec
     (λ c κs. search rules)

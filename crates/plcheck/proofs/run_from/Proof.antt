@@ -21,8 +21,8 @@ loop-again c =
     let given = c.before.before.before.before.before.before.before.before.before.before.next-line.ensures.1.1 in
     (given.0, given.1.0, search rules, search rules, search rules)
 
-pub run-from-spec : {M : Type 1} → statement M
-run-from-spec =
+pub run_from_spec : {M : Type 1} → statement M
+run_from_spec =
     tie.close
     (tie.spec
     invariant-loop

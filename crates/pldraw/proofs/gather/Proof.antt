@@ -11,8 +11,8 @@ invariant-loop ticks₀ input block₀ line₀ store₀ feed₀ card₀ set₀ n
 abbrev decreases-loop : tie.decreases-loop
 decreases-loop ticks₀ input block₀ line₀ store₀ feed₀ card₀ set₀ n₀ ticks block line store feed card set n = kept_ticks - n
 
-pub gather-spec : {M : Type 1} → statement M
-gather-spec =
+pub gather_spec : {M : Type 1} → statement M
+gather_spec =
     tie.close
     (tie.spec
     invariant-loop

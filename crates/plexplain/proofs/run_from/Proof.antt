@@ -13,8 +13,8 @@ invariant-loop input size style block₀ line₀ store₀ out₀ s₀ r₀ block
 abbrev decreases-loop : tie.decreases-loop
 decreases-loop input size style block₀ line₀ store₀ out₀ s₀ r₀ block line store out s r = r.left
 
-pub run-from-spec : {M : Type 1} → statement M
-run-from-spec =
+pub run_from_spec : {M : Type 1} → statement M
+run_from_spec =
     tie.close
     (tie.spec
     invariant-loop

@@ -11,8 +11,8 @@ invariant-loop file cells block₀ line₀ store₀ run₀ feed₀ r₀ block li
 abbrev decreases-loop : tie.decreases-loop
 decreases-loop file cells block₀ line₀ store₀ run₀ feed₀ r₀ block line store run feed r = r.left
 
-pub run-from-spec : {M : Type 1} → statement M
-run-from-spec =
+pub run_from_spec : {M : Type 1} → statement M
+run_from_spec =
     tie.close
     (tie.spec
     invariant-loop

@@ -10,8 +10,8 @@ invariant-loop card b set₀ a₀ set a = a ≤ 49
 abbrev decreases-loop : tie.decreases-loop
 decreases-loop card b set₀ a₀ set a = 49 - a
 
-pub lines-to-spec : {M : Type 1} → statement M
-lines-to-spec =
+pub lines_to_spec : {M : Type 1} → statement M
+lines_to_spec =
     tie.close
     (tie.spec
     invariant-loop

@@ -10,8 +10,8 @@ invariant-loop card b₀ b = b ≤ 49
 abbrev decreases-loop : tie.decreases-loop
 decreases-loop card b₀ b = 49 - b
 
-pub put-columns-spec : {M : Type 1} → statement M
-put-columns-spec =
+pub put_columns_spec : {M : Type 1} → statement M
+put_columns_spec =
     tie.close
     (tie.spec
     invariant-loop

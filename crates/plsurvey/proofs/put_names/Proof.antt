@@ -10,8 +10,8 @@ invariant-loop set first end b₀ b = b ≤ end
 abbrev decreases-loop : tie.decreases-loop
 decreases-loop set first end b₀ b = end - b
 
-pub put-names-spec : {M : Type 1} → statement M
-put-names-spec =
+pub put_names_spec : {M : Type 1} → statement M
+put_names_spec =
     tie.close
     (tie.spec
     invariant-loop

@@ -10,8 +10,8 @@ invariant-loop card any₀ b₀ any b = b ≤ 49
 abbrev decreases-loop : tie.decreases-loop
 decreases-loop card any₀ b₀ any b = 49 - b
 
-pub put-rows-spec : {M : Type 1} → statement M
-put-rows-spec =
+pub put_rows_spec : {M : Type 1} → statement M
+put_rows_spec =
     tie.close
     (tie.spec
     invariant-loop

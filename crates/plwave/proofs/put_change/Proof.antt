@@ -31,8 +31,8 @@ returns-2 c =
     let text = placed-then named (10 ∷ []) last.0 last.1 in
     rw (not-false a.shown test.if1.false, ← digit.digit.ensures) (text.bytes, (text.at-end, omega (arith, last.1, identifier.1.1, first.1)))
 
-pub put-change-spec : {M : Type 1} → statement M
-put-change-spec =
+pub put_change_spec : {M : Type 1} → statement M
+put_change_spec =
     tie.close
     (tie.spec
     returns

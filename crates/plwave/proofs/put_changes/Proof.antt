@@ -38,8 +38,8 @@ returns c =
     let all = l.invariant.1.1.1 in
     (rw end at all.bytes, (rw end at all.at-end, search rules))
 
-pub put-changes-spec : {M : Type 1} → statement M
-put-changes-spec =
+pub put_changes_spec : {M : Type 1} → statement M
+put_changes_spec =
     tie.close
     (tie.spec
     invariant-loop

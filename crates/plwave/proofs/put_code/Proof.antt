@@ -18,8 +18,8 @@ returns-2 c =
     let put = c.before.before.copy2.ensures in
     rw (le-ltb _ _ c.before.before.before.before.before.if1.false) (put.0, (put.1, omega (arith, put.1)))
 
-pub put-code-spec : {M : Type 1} → statement M
-put-code-spec =
+pub put_code_spec : {M : Type 1} → statement M
+put_code_spec =
     tie.close
     (tie.spec
     (λ c. search rules)

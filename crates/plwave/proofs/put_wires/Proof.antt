@@ -10,7 +10,7 @@ invariant-loop out₀ from to n w₀ i₀ out w i = (from ≤ i) × (i ≤ to)
 abbrev decreases-loop : tie.decreases-loop
 decreases-loop out₀ from to n w₀ i₀ out w i = to - i
 
-pub put-wires-spec : {M : Type 1} → statement M
-put-wires-spec =
+pub put_wires_spec : {M : Type 1} → statement M
+put_wires_spec =
     tie.close
     (tie.spec invariant-loop decreases-loop (λ c. search rules) (λ c κs. search rules) (λ c. search rules) (λ c. search rules) (λ c. search rules) (λ c. search rules))

@@ -14,8 +14,8 @@ invariant-loop input cells block₀ line₀ store₀ out₀ s₀ feed₀ last₀
 abbrev decreases-loop : tie.decreases-loop
 decreases-loop input cells block₀ line₀ store₀ out₀ s₀ feed₀ last₀ t₀ block line store out s feed last t = most - t
 
-pub write-wave-spec : {M : Type 1} → statement M
-write-wave-spec =
+pub write_wave_spec : {M : Type 1} → statement M
+write_wave_spec =
     tie.close
     (tie.spec
     invariant-loop

@@ -73,8 +73,8 @@ returns-2 c =
     ∙ ap₂ (λ (l : List Reasons) (blank : List Reasons). l ++ drop n blank) found b.none.ensures
     ∙ ap (λ (m : ℕ). tick_reasons m a.full a.card a.input ++ drop m (replicate cell_room no_reasons)) sized
 
-pub reasons-spec : {M : Type 1} → statement M
-reasons-spec =
+pub reasons_spec : {M : Type 1} → statement M
+reasons_spec =
     tie.close
     (tie.spec (λ c κs. search rules) returns (λ c κs. search rules) (λ c κs. search rules) (λ c κs. search rules) (λ c κs. search rules) each-requires
     returns-2)

@@ -38,8 +38,8 @@ returns c =
     c.reasons-of.ensures
     ∙ (λ k. reasons_of cell.kind (s.state-of.ensures k) (b.bit.ensures k) (reads k) (read k))
 
-pub reasons-at-spec : {M : Type 1} → statement M
-reasons-at-spec =
+pub reasons_at_spec : {M : Type 1} → statement M
+reasons_at_spec =
     tie.close
     (tie.spec
     (λ c κs. search rules)

@@ -17,5 +17,5 @@ returns-2 c =
     let a = c.before.before.args in
     c.quick-tick.ensures ∙ ap (λ (full : Bool). tick (cells_for a.card.size) full a.card a.input) (sym c.before.if1.false)
 
-pub ticked-spec : {M : Type 1} → statement M
-ticked-spec = tie.close (tie.spec (λ c κs. search rules) returns (λ c κs. search rules) returns-2)
+pub ticked_spec : {M : Type 1} → statement M
+ticked_spec = tie.close (tie.spec (λ c κs. search rules) returns (λ c κs. search rules) returns-2)

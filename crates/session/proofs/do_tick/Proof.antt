@@ -10,5 +10,5 @@ returns c = (rw c.before.if1.true c.full-tick.ensures, rw c.full-tick.ensures (c
 returns-2 : tie.Need-returns-2
 returns-2 c = (rw c.before.if1.false c.quick-tick.ensures, rw c.quick-tick.ensures (count_small _ _ _))
 
-pub do-tick-spec : {M : Type 1} → statement M
-do-tick-spec = tie.close (tie.spec (λ c κs. search rules) (λ c κs. search rules) returns returns-2)
+pub do_tick_spec : {M : Type 1} → statement M
+do_tick_spec = tie.close (tie.spec (λ c κs. search rules) (λ c κs. search rules) returns returns-2)

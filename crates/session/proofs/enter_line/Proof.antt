@@ -36,8 +36,8 @@ returns c =
       fits = put.1.1;
     }
 
-pub enter-line-spec : {M : Type 1} → statement M
-enter-line-spec =
+pub enter_line_spec : {M : Type 1} → statement M
+enter_line_spec =
     tie.close
     (tie.spec
     (λ c. search rules)

@@ -10,5 +10,5 @@ returns c = rw (ne_eqb _ _ c.if1.true)
 returns-2 : tie.Need-returns-2
 returns-2 c = rw (eq-eqb _ _ c.before.if1.false)
 
-pub is-load-spec : {M : Type 1} → statement M
-is-load-spec = tie.close (tie.spec returns (λ c. search rules) returns-2)
+pub is_load_spec : {M : Type 1} → statement M
+is_load_spec = tie.close (tie.spec returns (λ c. search rules) returns-2)

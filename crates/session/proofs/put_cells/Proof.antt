@@ -67,8 +67,8 @@ returns-2 c =
     let put = c.before.before.put-word2 in
     small a.out.now a.byte.now a.at a.w a.size start.requires.1 i.if1.false _ put.result put.ensures.0 put.ensures.1
 
-pub put-cells-spec : {M : Type 1} → statement M
-put-cells-spec =
+pub put_cells_spec : {M : Type 1} → statement M
+put_cells_spec =
     tie.close
     (tie.spec
     (λ c. search rules)

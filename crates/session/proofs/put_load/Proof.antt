@@ -19,8 +19,8 @@ returns-2 c =
     let whole = c.before.before.put-numbered.ensures in
     within (rw (ne_eqb _ _ refused.if1.false) (whole.0, whole.1.0)) (load-short refused.before.before.args.k (search rules))
 
-pub put-load-spec : {M : Type 1} → statement M
-put-load-spec =
+pub put_load_spec : {M : Type 1} → statement M
+put_load_spec =
     tie.close
     (tie.spec
     (λ c. search rules)

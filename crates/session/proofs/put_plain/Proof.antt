@@ -27,8 +27,8 @@ returns c =
     let all = behind (stored-first l (take (length r - 2) r) (bytes, end)) (10 ∷ []) c.before.before.copy2.ensures in
     within (all.bytes, all.at-end) (plain-short r (search rules))
 
-pub put-plain-spec : {M : Type 1} → statement M
-put-plain-spec =
+pub put_plain_spec : {M : Type 1} → statement M
+put_plain_spec =
     tie.close
     (tie.spec
     (λ c κs. search rules)

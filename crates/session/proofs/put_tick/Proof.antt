@@ -108,8 +108,8 @@ returns-2 c =
     let parts = six (84 ∷ 32 ∷ []) (word a.driven) (cell_word n a.cells) (cell_word n a.woken) (decimal a.count) (10 ∷ []) all in
     within (rw (not-false a.ran ran.if1.false) parts) (tick-short n a s.requires.1)
 
-pub put-tick-spec : {M : Type 1} → statement M
-put-tick-spec =
+pub put_tick_spec : {M : Type 1} → statement M
+put_tick_spec =
     tie.close
     (tie.spec
     slice-aggregate-copy

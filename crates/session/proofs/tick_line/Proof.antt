@@ -54,8 +54,8 @@ returns-3 c =
       c.if2.false,
     )
 
-pub tick-line-spec : {M : Type 1} → statement M
-tick-line-spec =
+pub tick_line_spec : {M : Type 1} → statement M
+tick_line_spec =
     tie.close
     (tie.spec
     returns

@@ -80,8 +80,8 @@ returns-3 c =
     made-many n a.card a.input a.k q.quick-tick.result m.made_of.result _ q.quick-tick.ensures (is_made m) (search rules) through
     (omega (arith, fits, cells-long start)) (omega (arith, fits, tallies-long start))
 
-pub advance-spec : {M : Type 1} → statement M
-advance-spec =
+pub advance_spec : {M : Type 1} → statement M
+advance_spec =
     tie.close
     (tie.spec
     (λ c κs. search rules)

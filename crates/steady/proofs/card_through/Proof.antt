@@ -19,6 +19,6 @@ returns-2 c =
     let a = c.before.before.before.before.before.before.args in
     idle-through a.n a.c a.t a.m _ c.before.cells-through.ensures c.if1.false
 
-pub card-through-spec : {M : Type 1} → statement M
-card-through-spec =
+pub card_through_spec : {M : Type 1} → statement M
+card_through_spec =
     tie.close (tie.spec (λ c κs. search rules) (λ c κs. search rules) returns returns-2)

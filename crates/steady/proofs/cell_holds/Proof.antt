@@ -13,5 +13,5 @@ returns-2 : tie.Need-returns-2
 unfolding state_holds
 returns-2 c = rw c.before.if1.false c.count-holds.ensures
 
-pub cell-holds-spec : {M : Type 1} → statement M
-cell-holds-spec = tie.close (tie.spec (λ c κs. search rules) returns returns-2)
+pub cell_holds_spec : {M : Type 1} → statement M
+cell_holds_spec = tie.close (tie.spec (λ c κs. search rules) returns returns-2)

@@ -18,5 +18,5 @@ returns c =
     let a = c.before.args.a in
     ap (λ (x : ℕ). with_state a (at (state_of a) x)) c.count-through.ensures
 
-pub cell-through-spec : {M : Type 1} → statement M
-cell-through-spec = tie.close (tie.spec count-through-requires returns)
+pub cell_through_spec : {M : Type 1} → statement M
+cell_through_spec = tie.close (tie.spec count-through-requires returns)

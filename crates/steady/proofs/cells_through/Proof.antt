@@ -47,8 +47,8 @@ returns c =
     let end : l.i ≡ c.before.before.args.n = omega arith in
     rw end at l.invariant.1
 
-pub cells-through-spec : {M : Type 1} → statement M
-cells-through-spec =
+pub cells_through_spec : {M : Type 1} → statement M
+cells_through_spec =
     tie.close
     (tie.spec
     invariant-loop

@@ -21,7 +21,7 @@ returns-4 c = c.room.ensures ∙ holds-4 _ _ _ (search rules) (search rules) (se
 returns-5 : tie.Need-returns-5
 returns-5 c = holds-5 _ _ _ (search rules) (search rules) (search rules) (search rules)
 
-pub count-holds-spec : {M : Type 1} → statement M
-count-holds-spec =
+pub count_holds_spec : {M : Type 1} → statement M
+count_holds_spec =
     tie.close
     (tie.spec returns returns-2 (λ c. search rules) returns-3 (λ c. search rules) (λ c κs. search rules) returns-4 returns-5)

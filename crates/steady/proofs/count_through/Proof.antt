@@ -27,6 +27,6 @@ returns-3 c = sym (through-rises _ _ _ (search rules))
 returns-4 : tie.Need-returns-4
 returns-4 c = sym (through_same _ _ _ (omega arith))
 
-pub count-through-spec : {M : Type 1} → statement M
-count-through-spec =
+pub count_through_spec : {M : Type 1} → statement M
+count_through_spec =
     tie.close (tie.spec (λ c. search rules) add-result returns returns-2 returns-3 returns-4)

@@ -14,5 +14,5 @@ returns-2 : tie.Need-returns-2
 unfolding counted_for
 returns-2 c = rw c.if1.false
 
-pub counted-for-spec : {M : Type 1} → statement M
-counted-for-spec = tie.close (tie.spec (λ c κs. search rules) returns returns-2)
+pub counted_for_spec : {M : Type 1} → statement M
+counted_for_spec = tie.close (tie.spec (λ c κs. search rules) returns returns-2)

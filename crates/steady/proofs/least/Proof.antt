@@ -10,5 +10,5 @@ returns c = least-b _ _ (omega arith)
 returns-2 : tie.Need-returns-2
 returns-2 c = least-a _ _ (omega arith)
 
-pub least-spec : {M : Type 1} → statement M
-least-spec = tie.close (tie.spec returns returns-2)
+pub least_spec : {M : Type 1} → statement M
+least_spec = tie.close (tie.spec returns returns-2)

@@ -31,8 +31,8 @@ returns c =
     let end : l.i ≡ c.before.before.args.n = omega arith in
     rw end at l.invariant.1
 
-pub least-holds-spec : {M : Type 1} → statement M
-least-holds-spec =
+pub least_holds_spec : {M : Type 1} → statement M
+least_holds_spec =
     tie.close
     (tie.spec
     invariant-loop

@@ -14,5 +14,5 @@ returns c = c.least.ensures ∙ made_one _ _ (search rules)
 returns-2 : tie.Need-returns-2
 returns-2 c = c.least2.ensures ∙ made_more _ _ (search rules)
 
-pub made-of-spec : {M : Type 1} → statement M
-made-of-spec = tie.close (tie.spec (λ c κs. search rules) (λ c κs. search rules) returns returns-2)
+pub made_of_spec : {M : Type 1} → statement M
+made_of_spec = tie.close (tie.spec (λ c κs. search rules) (λ c κs. search rules) returns returns-2)

@@ -21,6 +21,6 @@ returns c =
     c.steady-from.ensures
     ∙ ap₂ (λ (n : ℕ) (t : Ticked). steady_from n a.card t.card) z.cells-for.ensures.0 q.quick-tick.ensures
 
-pub steady-for-spec : {M : Type 1} → statement M
-steady-for-spec =
+pub steady_for_spec : {M : Type 1} → statement M
+steady_for_spec =
     tie.close (tie.spec (λ c κs. search rules) (λ c κs. search rules) (λ c κs. search rules) returns)

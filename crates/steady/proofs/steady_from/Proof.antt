@@ -28,5 +28,5 @@ returns c =
 returns-2 : tie.Need-returns-2
 returns-2 c = steady-else _ _ _ (test c.before false c.if1.false)
 
-pub steady-from-spec : {M : Type 1} → statement M
-steady-from-spec = tie.close (tie.spec (λ c κs. search rules) (λ c κs. search rules) returns returns-2)
+pub steady_from_spec : {M : Type 1} → statement M
+steady_from_spec = tie.close (tie.spec (λ c κs. search rules) (λ c κs. search rules) returns returns-2)

@@ -66,8 +66,8 @@ returns c =
     let cells = rw end at l.invariant.1.0 in
     (λ k. record { cells = cells k; total = l.invariant.1.1 k }) ∙ ap (λ (x : ℕ). tallies_on a.n (bit_at a.named) x a.t) made.total-after.ensures
 
-pub tallies-through-spec : {M : Type 1} → statement M
-tallies-through-spec =
+pub tallies_through_spec : {M : Type 1} → statement M
+tallies_through_spec =
     tie.close
     (tie.spec
     invariant-loop

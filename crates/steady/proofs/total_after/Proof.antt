@@ -13,5 +13,5 @@ returns-2 c = total-2 c.before.before.args.total c.before.before.args.k (search 
 returns-3 : tie.Need-returns-3
 returns-3 c = total-3 _ _ (search rules)
 
-pub total-after-spec : {M : Type 1} → statement M
-total-after-spec = tie.close (tie.spec (λ c. search rules) (λ c. search rules) (λ c. search rules) returns returns-2 returns-3)
+pub total_after_spec : {M : Type 1} → statement M
+total_after_spec = tie.close (tie.spec (λ c. search rules) (λ c. search rules) (λ c. search rules) returns returns-2 returns-3)

@@ -49,8 +49,8 @@ returns-2 c =
           (λ (n : ℕ). Smallest n a.card.cells a.card.connectors (a.place - first_connector) r.cells r.connectors) same c.reach.ensures;
     }
 
-pub dependents-spec : {M : Type 1} → statement M
-dependents-spec =
+pub dependents_spec : {M : Type 1} → statement M
+dependents_spec =
     tie.close
     (tie.spec
     (λ c κs. search rules)

@@ -13,5 +13,5 @@ returns c =
     let a = c.before.before.before.args in
     ap (λ (b : Bool). is_output a.c.kind && b) c.before.before.holds.ensures
 
-pub driven-from-spec : {M : Type 1} → statement M
-driven-from-spec = tie.close (tie.spec (λ c κs. search rules) returns)
+pub driven_from_spec : {M : Type 1} → statement M
+driven_from_spec = tie.close (tie.spec (λ c κs. search rules) returns)

@@ -47,8 +47,8 @@ returns c =
     let end : l.j ≡ connector_count = omega arith in
     rw end at l.invariant.1
 
-pub followers-spec : {M : Type 1} → statement M
-followers-spec =
+pub followers_spec : {M : Type 1} → statement M
+followers_spec =
     tie.close
     (tie.spec
     invariant-loop

@@ -52,8 +52,8 @@ returns c =
     let end : l.i ≡ c.before.before.args.n = omega arith in
     rw end at l.invariant.1
 
-pub readers-spec : {M : Type 1} → statement M
-readers-spec =
+pub readers_spec : {M : Type 1} → statement M
+readers_spec =
     tie.close
     (tie.spec
     invariant-loop

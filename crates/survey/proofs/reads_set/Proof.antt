@@ -18,8 +18,8 @@ returns c =
     let y = d.before.before.holds2.ensures in
     λ k. any_slot (masked (used k) (slots (x k) (y k) (d.before.holds3.ensures k) (d.holds4.ensures k)))
 
-pub reads-set-spec : {M : Type 1} → statement M
-reads-set-spec =
+pub reads_set_spec : {M : Type 1} → statement M
+reads_set_spec =
     tie.close
     (tie.spec
     (λ c κs. search rules)

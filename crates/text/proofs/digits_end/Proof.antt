@@ -33,8 +33,8 @@ returns-2 c =
     let l = c.before in
     omega (arith, ap length (digits-past l.before.before.args.text.now l.loop.i (search rules)))
 
-pub digits-end-spec : {M : Type 1} → statement M
-digits-end-spec =
+pub digits_end_spec : {M : Type 1} → statement M
+digits_end_spec =
     tie.close
     (tie.spec
     invariant-loop

@@ -70,8 +70,8 @@ returns c =
     let ds = digits_of (drop l.before.args.at l.before.args.text.now) in
     ap (value_from l.loop.v) (sym (drop_of_length-le ds {i = l.loop.i} (omega arith))) ∙ l.loop.invariant.2
 
-pub digits-value-spec : {M : Type 1} → statement M
-digits-value-spec =
+pub digits_value_spec : {M : Type 1} → statement M
+digits_value_spec =
     tie.close
     (tie.spec
     invariant-loop

@@ -77,8 +77,8 @@ returns-2 c =
     let done = four-done a.text.now a.at l.loop.i (search rules) in
     rw (← l.loop.invariant.2, ← l.loop.invariant.3, done)
 
-pub hex4-at-spec : {M : Type 1} → statement M
-hex4-at-spec =
+pub hex4_at_spec : {M : Type 1} → statement M
+hex4_at_spec =
     tie.close
     (tie.spec
     invariant-loop

@@ -13,6 +13,6 @@ returns-2 : tie.Need-returns-2
 unfolding hex_digit
 returns-2 c = rw (le-ltb c.before.args.d 10 c.if1.false)
 
-pub hex-digit-spec : {M : Type 1} → statement M
-hex-digit-spec =
+pub hex_digit_spec : {M : Type 1} → statement M
+hex_digit_spec =
     tie.close (tie.spec (λ c. search rules) (λ c. search rules) returns (λ c. search rules) (λ c. search rules) returns-2)

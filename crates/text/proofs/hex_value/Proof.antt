@@ -31,8 +31,8 @@ returns-2 : tie.Need-returns-2
 unfolding hex_value
 returns-2 c = rw (no_digit c)
 
-pub hex-value-spec : {M : Type 1} → statement M
-hex-value-spec =
+pub hex_value_spec : {M : Type 1} → statement M
+hex_value_spec =
     tie.close
     (tie.spec
     (λ c κs. search rules)

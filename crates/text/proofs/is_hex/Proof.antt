@@ -17,5 +17,5 @@ returns-3 : tie.Need-returns-3
 unfolding is_hex
 returns-3 c = rw (← c.before.before.is_digit.ensures, c.before.if1.false, le-leb 97 c.before.before.before.args.b c.if2.false)
 
-pub is-hex-spec : {M : Type 1} → statement M
-is-hex-spec = tie.close (tie.spec (λ c κs. search rules) returns returns-2 returns-3)
+pub is_hex_spec : {M : Type 1} → statement M
+is_hex_spec = tie.close (tie.spec (λ c κs. search rules) returns returns-2 returns-3)

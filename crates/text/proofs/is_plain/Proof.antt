@@ -34,5 +34,5 @@ returns-3 c =
     let first : get_or a.text.now a.at 0 ≡ get_or (Ds s) 0 0 = rw add-zero at (digits-byte a.text.now a.at 0 (omega arith)) in
     ap (λ (b : ℕ). not (eqb b 48)) first ∙ sym (plain-between (Ds s) (omega arith) (omega arith))
 
-pub is-plain-spec : {M : Type 1} → statement M
-is-plain-spec = tie.close (tie.spec returns returns-2 shared-slice-read-result returns-3)
+pub is_plain_spec : {M : Type 1} → statement M
+is_plain_spec = tie.close (tie.spec returns returns-2 shared-slice-read-result returns-3)

@@ -30,7 +30,7 @@ returns-2 c =
     let p = c.before in
     rw (sym p.is_plain.ensures ∙ c.if1.false, p.before.digits-end.ensures)
 
-pub number-at-spec : {M : Type 1} → statement M
-number-at-spec =
+pub number_at_spec : {M : Type 1} → statement M
+number_at_spec =
     tie.close
     (tie.spec (λ c κs. search rules) (λ c. search rules) (λ c κs. search rules) digits-value-requires returns returns-2)

@@ -20,8 +20,8 @@ returns c =
     rw (d1.hex-digit.ensures, d2.hex-digit2.ensures, d3.hex-digit3.ensures, d4.hex-digit4.ensures) in
     (e.0 ∙ ap (sets a.out.now a.at) four, e.1)
 
-pub put-hex4-spec : {M : Type 1} → statement M
-put-hex4-spec =
+pub put_hex4_spec : {M : Type 1} → statement M
+put_hex4_spec =
     tie.close
     (tie.spec
     (λ c κs. search rules)

@@ -40,8 +40,8 @@ returns c =
     = omega (arith, digits, d.put-decimal.ensures.1, w.copy.ensures.1, last.ensures.1) in
     (whole.0, (whole.1, size))
 
-pub put-numbered-spec : {M : Type 1} → statement M
-put-numbered-spec =
+pub put_numbered_spec : {M : Type 1} → statement M
+put_numbered_spec =
     tie.close
     (tie.spec
     (λ c κs. search rules)

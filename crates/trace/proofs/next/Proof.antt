@@ -17,8 +17,8 @@ loop-less c =
     let next = c.before.before.next.ensures in
     omega (arith, next.1, c.before.before.before.before.before.before.before.before.before.before.before.loop.invariant.1)
 
-pub next-spec : {M : Type 1} → statement M
-next-spec =
+pub next_spec : {M : Type 1} → statement M
+next_spec =
     tie.close
     (tie.spec
     invariant-loop

@@ -16,8 +16,8 @@ returns-3 : tie.Need-returns-3
 unfolding shown_in
 returns-3 c = rw (c.before.enum-told2.given.1, c.nothing2.ensures)
 
-pub shown-in-spec : {M : Type 1} → statement M
-shown-in-spec =
+pub shown_in_spec : {M : Type 1} → statement M
+shown_in_spec =
     tie.close
     (tie.spec
     (λ c. search rules)

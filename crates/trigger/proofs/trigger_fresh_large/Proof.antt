@@ -8,5 +8,5 @@ returns : tie.Need-returns
 unfolding cells_for
 returns c = c.fresh-of.ensures
 
-pub trigger-fresh-large-spec : {M : Type 1} → statement M
-trigger-fresh-large-spec = tie.close (tie.spec (λ c κs. search rules) returns)
+pub trigger_fresh_large_spec : {M : Type 1} → statement M
+trigger_fresh_large_spec = tie.close (tie.spec (λ c κs. search rules) returns)

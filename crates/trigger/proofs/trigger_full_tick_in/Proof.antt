@@ -152,9 +152,9 @@ module _ {M : Type 1} {𝓤 : Ura M} (𝓛 : Logic 𝓤) (at_mem : Memory → SP
       by-walk 𝓛 true 𝓣 code.function
       (λ κ q b o γ h i. walk 𝓛 at_mem run κ q b o γ h i 𝓣.C 𝓣.Λ (fm_of 𝓤 H 𝓛.laws 𝓣) known-none known-lines known-turned)
 
-pub trigger-full-tick-in-spec : {M : Type 1} → stated.statement M
+pub trigger_full_tick_in_spec : {M : Type 1} → stated.statement M
 unfolding code.routine tables_of
-trigger-full-tick-in-spec 𝓤 𝓛 𝓜 𝓡 =
+trigger_full_tick_in_spec 𝓤 𝓛 𝓜 𝓡 =
     entered 𝓤 𝓛.H (triple_of 𝓛 f.signature (f.spec 𝓛 𝓜.mem 𝓡.run))
     (tables 𝓤 𝓛.H 𝓜 𝓡 code.env).C (tables 𝓤 𝓛.H 𝓜 𝓡 code.env).Λ #trigger-full-tick-in code.function (code.unfolded 𝓤 𝓛.H 𝓜 𝓡)
     (trigger-full-tick-in-meets 𝓛 𝓜.mem 𝓡.run (tables_of 𝓤 𝓛.H 𝓜 (tables 𝓤 𝓛.H 𝓜 𝓡 code.env))

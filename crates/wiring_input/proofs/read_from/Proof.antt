@@ -11,8 +11,8 @@ invariant-loop input cells block₀ line₀ store₀ s₀ r₀ block line store 
 abbrev decreases-loop : tie.decreases-loop
 decreases-loop input cells block₀ line₀ store₀ s₀ r₀ block line store s r = r.left
 
-pub read-from-spec : {M : Type 1} → statement M
-read-from-spec =
+pub read_from_spec : {M : Type 1} → statement M
+read_from_spec =
     tie.close
     (tie.spec
     invariant-loop

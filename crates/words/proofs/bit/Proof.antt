@@ -12,5 +12,5 @@ returns : tie.Need-returns
 unfolding bit_at
 returns c = ap (λ (x : ℕ). eqb x 1) (and_mask (c.args.w / 2 ^ c.args.i) 1)
 
-pub bit-spec : {M : Type 1} → statement M
-bit-spec = tie.close (tie.spec (λ c. search rules) returns)
+pub bit_spec : {M : Type 1} → statement M
+bit_spec = tie.close (tie.spec (λ c. search rules) returns)

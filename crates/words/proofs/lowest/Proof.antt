@@ -13,5 +13,5 @@ returns c =
     let low = trailing-lowest 64 w some fits in
     (low, lowest-lt 64 w _ fits low)
 
-pub lowest-spec : {M : Type 1} → statement M
-lowest-spec = tie.close (tie.spec returns)
+pub lowest_spec : {M : Type 1} → statement M
+lowest_spec = tie.close (tie.spec returns)

@@ -15,5 +15,5 @@ returns c =
     ap (bit_or c.args.w) (shifted 64 c.args.i c.args.b (search rules))
     ∙ or_shifted_r top c.args.i c.args.w (search rules) ∙ add_comm (top * 2 ^ c.args.i) c.args.w
 
-pub pushed-spec : {M : Type 1} → statement M
-pushed-spec = tie.close (tie.spec (λ c. search rules) (λ c. search rules) returns)
+pub pushed_spec : {M : Type 1} → statement M
+pushed_spec = tie.close (tie.spec (λ c. search rules) (λ c. search rules) returns)

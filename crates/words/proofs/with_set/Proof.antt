@@ -12,5 +12,5 @@ returns c =
     ap (bit_or c.args.w) (shifted 64 c.args.i true (search rules))
     ∙ set-bit c.args.w 64 c.args.i (search rules) (search rules)
 
-pub with-set-spec : {M : Type 1} → statement M
-with-set-spec = tie.close (tie.spec (λ c. search rules) returns)
+pub with_set_spec : {M : Type 1} → statement M
+with_set_spec = tie.close (tie.spec (λ c. search rules) returns)

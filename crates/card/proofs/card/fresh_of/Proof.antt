@@ -21,5 +21,5 @@ returns c =
     c.started.ensures
     ∙ ap₂ (λ (n : ℕ) (cells : List Cell). Fresh.started n 0 cells Fresh.fresh_connectors 0) c.before.cells-for.ensures.0 (filled size Fresh.fresh_cell)
 
-pub fresh-of-spec : {M : Type 1} → statement M
-fresh-of-spec = tie.close (tie.spec (λ c κs. search rules) (λ c κs. search rules) returns)
+pub fresh_of_spec : {M : Type 1} → statement M
+fresh_of_spec = tie.close (tie.spec (λ c κs. search rules) (λ c κs. search rules) returns)

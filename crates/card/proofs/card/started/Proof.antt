@@ -6,5 +6,5 @@ use Rattle.card.proofs.card.started.Tie as tie
 returns : tie.Need-returns
 returns c = rw c.no-tallies.ensures
 
-pub started-spec : {M : Type 1} → statement M
-started-spec = tie.close (tie.spec (λ c κs. search rules) returns)
+pub started_spec : {M : Type 1} → statement M
+started_spec = tie.close (tie.spec (λ c κs. search rules) returns)

@@ -51,8 +51,8 @@ returns-11 : tie.Need-returns-11
 unfolding changed
 returns-11 c = rw c.before.before.change9.given.1 c.set-source.ensures
 
-pub apply-spec : {M : Type 1} → statement M
-apply-spec =
+pub apply_spec : {M : Type 1} → statement M
+apply_spec =
     tie.close
     (tie.spec
     enum_told

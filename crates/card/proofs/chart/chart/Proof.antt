@@ -11,5 +11,5 @@ returns : tie.Need-returns
 unfolding bit_at listed permitted_base chart entry_in Charted
 returns c = refl
 
-pub chart-spec : {M : Type 1} → statement M
-chart-spec = tie.close (tie.spec returns)
+pub chart_spec : {M : Type 1} → statement M
+chart_spec = tie.close (tie.spec returns)

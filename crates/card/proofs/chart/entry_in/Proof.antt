@@ -9,5 +9,5 @@ returns : tie.Need-returns
 unfolding entry_in
 returns c = rw (c.before.before.bit.ensures, c.before.bit2.ensures, c.bit3.ensures)
 
-pub entry-in-spec : {M : Type 1} → statement M
-entry-in-spec = tie.close (tie.spec (λ c. search rules) (λ c κs. search rules) (λ c κs. search rules) (λ c κs. search rules) returns)
+pub entry_in_spec : {M : Type 1} → statement M
+entry_in_spec = tie.close (tie.spec (λ c. search rules) (λ c κs. search rules) (λ c κs. search rules) (λ c κs. search rules) returns)

@@ -17,6 +17,6 @@ returns c =
     let all = ap₂ ◌||◌ small more ∙ bases-for a.size (base_of a.a) (search rules) in
     λ k. record { base = (first k).base; inverted = (first k).inverted; edge = (first k).edge; permitted = all k }
 
-pub entry-of-spec : {M : Type 1} → statement M
-entry-of-spec =
+pub entry_of_spec : {M : Type 1} → statement M
+entry_of_spec =
     tie.close (tie.spec (λ c. search rules) (λ c. search rules) (λ c κs. search rules) (λ c κs. search rules) returns)

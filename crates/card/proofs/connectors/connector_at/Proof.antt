@@ -8,5 +8,5 @@ returns : tie.Need-returns
 unfolding source_at
 returns c = rw c.kind-at.ensures
 
-pub connector-at-spec : {M : Type 1} → statement M
-connector-at-spec = tie.close (tie.spec (λ c κs. search rules) (λ c. search rules) returns)
+pub connector_at_spec : {M : Type 1} → statement M
+connector_at_spec = tie.close (tie.spec (λ c κs. search rules) (λ c. search rules) returns)

@@ -35,8 +35,8 @@ returns c =
     let end : l.k ≡ connector_count = omega arith in
     listed-done (connector_at a.c) connector_count (replicate connector_count no_connector) l.all (rw end at l.invariant.1) (le_refl connector_count)
 
-pub each-of-spec : {M : Type 1} → statement M
-each-of-spec =
+pub each_of_spec : {M : Type 1} → statement M
+each_of_spec =
     tie.close
     (tie.spec
     invariant-loop

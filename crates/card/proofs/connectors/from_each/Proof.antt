@@ -72,8 +72,8 @@ returns c =
     let third : l.drain ≡ word_of (is_kind open_drain_type a.t1) connector_count = rw end at l.invariant.3 in
     λ j. record { sources = first j; push_pull = second j; open_drain = third j }
 
-pub from-each-spec : {M : Type 1} → statement M
-from-each-spec =
+pub from_each_spec : {M : Type 1} → statement M
+from_each_spec =
     tie.close
     (tie.spec
     invariant-loop

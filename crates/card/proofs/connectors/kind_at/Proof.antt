@@ -16,7 +16,7 @@ returns-3 : tie.Need-returns-3
 unfolding kind_at
 returns-3 c = rw (← c.before.before.before.before.bit.ensures, c.before.before.before.if1.false, ← c.before.bit2.ensures, c.if2.false)
 
-pub kind-at-spec : {M : Type 1} → statement M
-kind-at-spec =
+pub kind_at_spec : {M : Type 1} → statement M
+kind_at_spec =
     tie.close
     (tie.spec (λ c. search rules) (λ c κs. search rules) returns (λ c. search rules) (λ c κs. search rules) returns-2 returns-3)

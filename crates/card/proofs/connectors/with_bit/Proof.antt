@@ -36,5 +36,5 @@ returns-2 c =
     ∙ ap (λ (x : ℕ). bit_xor x (1 * 2 ^ a.k)) (set-bit a.w connector_count a.k (search rules) (search rules))
     ∙ flipped a.w connector_count a.k (search rules) (search rules) ∙ ap (with_bit a.w a.k) (sym c.if1.false)
 
-pub with-bit-spec : {M : Type 1} → statement M
-with-bit-spec = tie.close (tie.spec (λ c. search rules) (λ c. search rules) returns returns-2)
+pub with_bit_spec : {M : Type 1} → statement M
+with_bit_spec = tie.close (tie.spec (λ c. search rules) (λ c. search rules) returns returns-2)

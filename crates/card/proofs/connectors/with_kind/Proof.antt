@@ -8,5 +8,5 @@ returns : tie.Need-returns
 unfolding with_kind
 returns c = rw (c.with-bit2.ensures, c.before.with-bit.ensures)
 
-pub with-kind-spec : {M : Type 1} → statement M
-with-kind-spec = tie.close (tie.spec (λ c κs. search rules) (λ c κs. search rules) returns)
+pub with_kind_spec : {M : Type 1} → statement M
+with_kind_spec = tie.close (tie.spec (λ c κs. search rules) (λ c κs. search rules) returns)

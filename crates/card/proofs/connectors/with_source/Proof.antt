@@ -8,5 +8,5 @@ returns : tie.Need-returns
 unfolding with_source
 returns c = refl
 
-pub with-source-spec : {M : Type 1} → statement M
-with-source-spec = tie.close (tie.spec (λ c. search rules) returns)
+pub with_source_spec : {M : Type 1} → statement M
+with_source_spec = tie.close (tie.spec (λ c. search rules) returns)

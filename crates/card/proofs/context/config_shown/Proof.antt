@@ -22,5 +22,5 @@ returns-2 c =
     let other : is_counted (row_of k).kept ≡ false = cc in
     rw other
 
-pub config-shown-spec : {M : Type 1} → statement M
-config-shown-spec = tie.close (tie.spec (λ c κs. search rules) (λ c κs. search rules) returns returns-2)
+pub config_shown_spec : {M : Type 1} → statement M
+config_shown_spec = tie.close (tie.spec (λ c κs. search rules) (λ c κs. search rules) returns returns-2)

@@ -8,6 +8,6 @@ returns c =
     let connector = c.before.before in
     rw (c.at-cell.ensures, connector.current-connector.ensures, connector.before.current-cell.ensures)
 
-pub context-of-spec : {M : Type 1} → statement M
-context-of-spec =
+pub context_of_spec : {M : Type 1} → statement M
+context_of_spec =
     tie.close (tie.spec (λ c κs. search rules) (λ c κs. search rules) (λ c κs. search rules) returns)

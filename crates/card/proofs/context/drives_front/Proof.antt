@@ -6,5 +6,5 @@ use Rattle.card.proofs.context.drives_front.Tie as tie
 returns : tie.Need-returns
 returns c = rw c.front-driven.ensures
 
-pub drives-front-spec : {M : Type 1} → statement M
-drives-front-spec = tie.close (tie.spec (λ c κs. search rules) returns)
+pub drives_front_spec : {M : Type 1} → statement M
+drives_front_spec = tie.close (tie.spec (λ c κs. search rules) returns)

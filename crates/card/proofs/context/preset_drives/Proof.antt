@@ -6,5 +6,5 @@ use Rattle.card.proofs.context.preset_drives.Tie as tie
 returns : tie.Need-returns
 returns c = rw c.before.sets-front.ensures
 
-pub preset-drives-spec : {M : Type 1} → statement M
-preset-drives-spec = tie.close (tie.spec (λ c κs. search rules) returns)
+pub preset_drives_spec : {M : Type 1} → statement M
+preset_drives_spec = tie.close (tie.spec (λ c κs. search rules) returns)

@@ -6,5 +6,5 @@ use Rattle.card.proofs.context.read_config.Tie as tie
 returns : tie.Need-returns
 returns c = rw (c.before.if1.true, c.config-shown.ensures)
 
-pub read-config-spec : {M : Type 1} → statement M
-read-config-spec = tie.close (tie.spec (λ c κs. search rules) (λ c. search rules) returns (λ c. search rules))
+pub read_config_spec : {M : Type 1} → statement M
+read_config_spec = tie.close (tie.spec (λ c κs. search rules) (λ c. search rules) returns (λ c. search rules))

@@ -9,5 +9,5 @@ returns c = rw (lt-ltb c.before.before.before.args.i 4 c.if1.true)
 returns-2 : tie.Need-returns-2
 returns-2 c = rw (le-ltb c.before.before.before.args.i 4 c.if1.false)
 
-pub read-slot-spec : {M : Type 1} → statement M
-read-slot-spec = tie.close (tie.spec (λ c. search rules) (λ c. search rules) returns returns-2)
+pub read_slot_spec : {M : Type 1} → statement M
+read_slot_spec = tie.close (tie.spec (λ c. search rules) (λ c. search rules) returns returns-2)

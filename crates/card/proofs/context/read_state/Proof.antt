@@ -6,5 +6,5 @@ use Rattle.card.proofs.context.read_state.Tie as tie
 returns : tie.Need-returns
 returns c = cc
 
-pub read-state-spec : {M : Type 1} → statement M
-read-state-spec = tie.close (tie.spec (λ c κs. search rules) (λ c κs. search rules) (λ c κs. search rules) returns)
+pub read_state_spec : {M : Type 1} → statement M
+read_state_spec = tie.close (tie.spec (λ c κs. search rules) (λ c κs. search rules) (λ c κs. search rules) returns)

@@ -27,6 +27,6 @@ returns-5 : tie.Need-returns-5
 unfolding state_as
 returns-5 c = rw c.enum-told4.given.1
 
-pub state-as-spec : {M : Type 1} → statement M
-state-as-spec =
+pub state_as_spec : {M : Type 1} → statement M
+state_as_spec =
     tie.close (tie.spec enum_told (λ c. search rules) (λ c. search rules) (λ c. search rules) returns returns-2 returns-3 returns-4 returns-5)

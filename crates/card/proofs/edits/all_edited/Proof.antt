@@ -14,5 +14,5 @@ sub-result c = rw (one_shifted c.args.n (search rules)) (pow_pos c.args.n)
 returns : tie.Need-returns
 returns c = ap (λ (m : ℕ). m - 1) (one_shifted c.args.n (search rules))
 
-pub all-edited-spec : {M : Type 1} → statement M
-all-edited-spec = tie.close (tie.spec (λ c. search rules) (λ c. search rules) sub-result returns)
+pub all_edited_spec : {M : Type 1} → statement M
+all_edited_spec = tie.close (tie.spec (λ c. search rules) (λ c. search rules) sub-result returns)

@@ -38,8 +38,8 @@ returns c =
     let end : l.i ≡ c.before.before.args.n = omega arith in
     rw end at l.invariant.1
 
-pub cleared-spec : {M : Type 1} → statement M
-cleared-spec =
+pub cleared_spec : {M : Type 1} → statement M
+cleared_spec =
     tie.close
     (tie.spec
     invariant-loop

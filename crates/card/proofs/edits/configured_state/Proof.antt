@@ -23,6 +23,6 @@ returns-4 : tie.Need-returns-4
 unfolding configured_state
 returns-4 c = rw c.enum-told4.given.1
 
-pub configured-state-spec : {M : Type 1} → statement M
-configured-state-spec =
+pub configured_state_spec : {M : Type 1} → statement M
+configured_state_spec =
     tie.close (tie.spec enum_told (λ c. search rules) (λ c. search rules) (λ c. search rules) returns returns-2 returns-3 returns-4)

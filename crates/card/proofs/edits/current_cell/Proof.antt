@@ -22,6 +22,6 @@ returns-2 : tie.Need-returns-2
 unfolding current_cell
 returns-2 c = rw (sym c.before.is-cell.ensures ∙ c.if1.false)
 
-pub current-cell-spec : {M : Type 1} → statement M
-current-cell-spec =
+pub current_cell_spec : {M : Type 1} → statement M
+current_cell_spec =
     tie.close (tie.spec (λ c. search rules) (λ c κs. search rules) sub_at (λ c. search rules) (λ c. search rules) element-copy-out-result returns returns-2)

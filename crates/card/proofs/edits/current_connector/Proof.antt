@@ -22,8 +22,8 @@ returns-2 : tie.Need-returns-2
 unfolding current_connector
 returns-2 c = rw (sym c.before.is-connector.ensures ∙ c.if1.false)
 
-pub current-connector-spec : {M : Type 1} → statement M
-current-connector-spec =
+pub current_connector_spec : {M : Type 1} → statement M
+current_connector_spec =
     tie.close
     (tie.spec
     (λ c. search rules)

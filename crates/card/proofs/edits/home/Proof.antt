@@ -21,5 +21,5 @@ returns : tie.Need-returns
 unfolding home
 returns c = rw (c.all-edited.ensures, c.before.cleared.ensures, c.before.before.cells-for.ensures.0)
 
-pub home-spec : {M : Type 1} → statement M
-home-spec = tie.close (tie.spec cells-for-requires cast-cleared cleared-requires all-edited-requires returns)
+pub home_spec : {M : Type 1} → statement M
+home_spec = tie.close (tie.spec cells-for-requires cast-cleared cleared-requires all-edited-requires returns)

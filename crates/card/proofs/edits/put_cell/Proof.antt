@@ -27,8 +27,8 @@ returns-2 : tie.Need-returns-2
 unfolding put_cell
 returns-2 c = rw (sym c.before.is-cell.ensures ∙ c.if1.false)
 
-pub put-cell-spec : {M : Type 1} → statement M
-put-cell-spec =
+pub put_cell_spec : {M : Type 1} → statement M
+put_cell_spec =
     tie.close
     (tie.spec
     (λ c. search rules)

@@ -17,8 +17,8 @@ returns c =
       state.before.before.current-cell.ensures,
     )
 
-pub set-config-spec : {M : Type 1} → statement M
-set-config-spec =
+pub set_config_spec : {M : Type 1} → statement M
+set_config_spec =
     tie.close
     (tie.spec
     (λ c κs. search rules)

@@ -22,8 +22,8 @@ returns-2 : tie.Need-returns-2
 unfolding put_connectors set_connector_type
 returns-2 c = rw (sym c.before.is-connector.ensures ∙ c.if1.false)
 
-pub set-connector-type-spec : {M : Type 1} → statement M
-set-connector-type-spec =
+pub set_connector_type_spec : {M : Type 1} → statement M
+set_connector_type_spec =
     tie.close
     (tie.spec
     (λ c. search rules)

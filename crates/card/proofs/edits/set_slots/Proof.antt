@@ -8,7 +8,7 @@ returns : tie.Need-returns
 unfolding wired set_slots
 returns c = cc
 
-pub set-slots-spec : {M : Type 1} → statement M
-set-slots-spec =
+pub set_slots_spec : {M : Type 1} → statement M
+set_slots_spec =
     tie.close
     (tie.spec (λ c κs. search rules) (λ c κs. search rules) (λ c κs. search rules) (λ c κs. search rules) returns)

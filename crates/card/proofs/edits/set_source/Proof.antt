@@ -22,8 +22,8 @@ returns-2 : tie.Need-returns-2
 unfolding put_connectors set_source
 returns-2 c = rw (sym c.before.is-connector.ensures ∙ c.if1.false)
 
-pub set-source-spec : {M : Type 1} → statement M
-set-source-spec =
+pub set_source_spec : {M : Type 1} → statement M
+set_source_spec =
     tie.close
     (tie.spec
     (λ c. search rules)

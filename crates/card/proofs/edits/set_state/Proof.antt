@@ -17,8 +17,8 @@ returns c =
       state.before.before.current-cell.ensures,
     )
 
-pub set-state-spec : {M : Type 1} → statement M
-set-state-spec =
+pub set_state_spec : {M : Type 1} → statement M
+set_state_spec =
     tie.close
     (tie.spec
     (λ c κs. search rules)

@@ -12,5 +12,5 @@ returns-2 : tie.Need-returns-2
 unfolding set_trigger
 returns-2 c = rw (ne_eqb _ _ c.if1.false)
 
-pub set-trigger-spec : {M : Type 1} → statement M
-set-trigger-spec = tie.close (tie.spec (λ c κs. search rules) returns returns-2)
+pub set_trigger_spec : {M : Type 1} → statement M
+set_trigger_spec = tie.close (tie.spec (λ c κs. search rules) returns returns-2)

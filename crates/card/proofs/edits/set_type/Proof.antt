@@ -8,5 +8,5 @@ returns : tie.Need-returns
 unfolding set_type
 returns c = rw (c.put-cell.ensures, c.before.type-inv.ensures)
 
-pub set-type-spec : {M : Type 1} → statement M
-set-type-spec = tie.close (tie.spec (λ c κs. search rules) (λ c κs. search rules) returns)
+pub set_type_spec : {M : Type 1} → statement M
+set_type_spec = tie.close (tie.spec (λ c κs. search rules) (λ c κs. search rules) returns)

@@ -23,8 +23,8 @@ returns-4 : tie.Need-returns-4
 unfolding stated_as
 returns-4 c = rw (c.before.enum-told4.given.1, c.recounted.ensures)
 
-pub stated-as-spec : {M : Type 1} → statement M
-stated-as-spec =
+pub stated_as_spec : {M : Type 1} → statement M
+stated_as_spec =
     tie.close
     (tie.spec
     enum_told

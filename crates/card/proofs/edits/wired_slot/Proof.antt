@@ -16,5 +16,5 @@ returns-2 c = rw (c.before.if1.true, c.if2.false)
 returns-3 : tie.Need-returns-3
 returns-3 c = rw c.if1.false
 
-pub wired-slot-spec : {M : Type 1} → statement M
-wired-slot-spec = tie.close (tie.spec add-result returns returns-2 returns-3)
+pub wired_slot_spec : {M : Type 1} → statement M
+wired_slot_spec = tie.close (tie.spec add-result returns returns-2 returns-3)

@@ -12,8 +12,8 @@ returns c =
     rw (c.wired-slot4.ensures, d.wired-slot3.ensures, d.before.wired-slot2.ensures, d.before.before.wired-slot.ensures)
     (replaced a.t1 _ _ _ _ size)
 
-pub wired-slots-spec : {M : Type 1} → statement M
-wired-slots-spec =
+pub wired_slots_spec : {M : Type 1} → statement M
+wired_slots_spec =
     tie.close
     (tie.spec
     (λ c. search rules)

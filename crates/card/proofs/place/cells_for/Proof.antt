@@ -12,5 +12,5 @@ returns-2 : tie.Need-returns-2
 unfolding cells_for
 returns-2 c = (rw (ne_eqb _ _ c.if1.false), lit≤ tt)
 
-pub cells-for-spec : {M : Type 1} → statement M
-cells-for-spec = tie.close (tie.spec returns returns-2)
+pub cells_for_spec : {M : Type 1} → statement M
+cells_for_spec = tie.close (tie.spec returns returns-2)

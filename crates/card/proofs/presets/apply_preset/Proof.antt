@@ -49,8 +49,8 @@ returns c =
     (λ k. with_settings a.card a.card.trigger (cells k) (connectors k) (edited k))
     ∙ ap (λ (m : ℕ). preset m a.card a.v) sized.0
 
-pub apply-preset-spec : {M : Type 1} → statement M
-apply-preset-spec =
+pub apply_preset_spec : {M : Type 1} → statement M
+apply_preset_spec =
     tie.close
     (tie.spec
     (λ c κs. search rules)

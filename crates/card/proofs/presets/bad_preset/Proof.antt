@@ -26,5 +26,5 @@ returns-3 c =
     let a = i.before.before.args in
     ap not (sym (small-offered (cells_for a.size) a.v (sym i.before.is-large.ensures ∙ i.if1.false) ∙ past-offered a.v (search rules)))
 
-pub bad-preset-spec : {M : Type 1} → statement M
-bad-preset-spec = tie.close (tie.spec (λ c κs. search rules) returns (λ c. search rules) (λ c κs. search rules) returns-2 returns-3)
+pub bad_preset_spec : {M : Type 1} → statement M
+bad_preset_spec = tie.close (tie.spec (λ c κs. search rules) returns (λ c. search rules) (λ c κs. search rules) returns-2 returns-3)

@@ -17,8 +17,8 @@ returns c =
 returns-2 : tie.Need-returns-2
 returns-2 c i h = zero_row i ∙ sym (past-cell c.before.before.args.v i (search rules))
 
-pub cell-row-spec : {M : Type 1} → statement M
-cell-row-spec =
+pub cell_row_spec : {M : Type 1} → statement M
+cell_row_spec =
     tie.close
     (tie.spec
     (λ c κs. search rules)

@@ -11,5 +11,5 @@ returns : tie.Need-returns
 unfolding bit_at listed row_byte wired_cell covers cell_under CellRows preset_table setting_of preset_cell
 returns c = refl
 
-pub cell-rows-spec : {M : Type 1} → statement M
-cell-rows-spec = tie.close (tie.spec returns)
+pub cell_rows_spec : {M : Type 1} → statement M
+cell_rows_spec = tie.close (tie.spec returns)

@@ -20,8 +20,8 @@ returns-2 : tie.Need-returns-2
 unfolding cell_under
 returns-2 c = rw (← c.before.covers.ensures, c.if1.false)
 
-pub cell-under-spec : {M : Type 1} → statement M
-cell-under-spec =
+pub cell_under_spec : {M : Type 1} → statement M
+cell_under_spec =
     tie.close
     (tie.spec
     (λ c κs. search rules)

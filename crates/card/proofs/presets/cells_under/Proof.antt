@@ -37,8 +37,8 @@ returns c =
     let end : l.i ≡ c.before.before.args.n = omega arith in
     rw end at l.invariant.1
 
-pub cells-under-spec : {M : Type 1} → statement M
-cells-under-spec =
+pub cells_under_spec : {M : Type 1} → statement M
+cells_under_spec =
     tie.close
     (tie.spec
     invariant-loop

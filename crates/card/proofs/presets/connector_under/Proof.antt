@@ -22,8 +22,8 @@ returns-2 : tie.Need-returns-2
 unfolding source_under
 returns-2 c = rw (← c.before.bit.ensures, c.if1.false)
 
-pub connector-under-spec : {M : Type 1} → statement M
-connector-under-spec =
+pub connector_under_spec : {M : Type 1} → statement M
+connector_under_spec =
     tie.close
     (tie.spec
     (λ c. search rules)

@@ -39,8 +39,8 @@ returns c =
     let end : l.k ≡ connector_count = omega arith in
     listed-done (under a.row a.t2) connector_count a.t2 l.next (rw end at l.invariant.1) (search rules)
 
-pub connectors-under-spec : {M : Type 1} → statement M
-connectors-under-spec =
+pub connectors_under_spec : {M : Type 1} → statement M
+connectors_under_spec =
     tie.close
     (tie.spec
     invariant-loop

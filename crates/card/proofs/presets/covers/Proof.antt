@@ -8,8 +8,8 @@ returns : tie.Need-returns
 unfolding covers
 returns c = rw (c.before.byte.ensures, c.byte2.ensures)
 
-pub covers-spec : {M : Type 1} → statement M
-covers-spec =
+pub covers_spec : {M : Type 1} → statement M
+covers_spec =
     tie.close
     (tie.spec
     (λ c κs. search rules)

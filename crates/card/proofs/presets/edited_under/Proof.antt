@@ -34,8 +34,8 @@ returns c =
     let end : l.i ≡ c.before.before.args.n = omega arith in
     rw (l.invariant.1, end)
 
-pub edited-under-spec : {M : Type 1} → statement M
-edited-under-spec =
+pub edited_under_spec : {M : Type 1} → statement M
+edited_under_spec =
     tie.close
     (tie.spec
     invariant-loop

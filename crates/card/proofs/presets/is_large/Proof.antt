@@ -7,5 +7,5 @@ use Rattle.card.proofs.presets.is_large.Tie as tie
 returns : tie.Need-returns
 returns c = sym (large-told c.args.size c.args.v)
 
-pub is-large-spec : {M : Type 1} → statement M
-is-large-spec = tie.close (tie.spec returns)
+pub is_large_spec : {M : Type 1} → statement M
+is_large_spec = tie.close (tie.spec returns)

@@ -11,5 +11,5 @@ returns : tie.Need-returns
 unfolding bit_at listed row_byte source_under LargeRow preset_source
 returns c = refl
 
-pub large-row-spec : {M : Type 1} → statement M
-large-row-spec = tie.close (tie.spec returns)
+pub large_row_spec : {M : Type 1} → statement M
+large_row_spec = tie.close (tie.spec returns)

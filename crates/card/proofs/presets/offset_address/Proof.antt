@@ -6,5 +6,5 @@ use Rattle.card.proofs.presets.offset_address.Tie as tie
 returns : tie.Need-returns
 returns c = rw c.before.if1.true c.wrapping-add-u8.ensures
 
-pub offset-address-spec : {M : Type 1} → statement M
-offset-address-spec = tie.close (tie.spec (λ c κs. search rules) returns (λ c. search rules))
+pub offset_address_spec : {M : Type 1} → statement M
+offset_address_spec = tie.close (tie.spec (λ c κs. search rules) returns (λ c. search rules))

@@ -12,5 +12,5 @@ returns c =
     let row = c.before.source_row in
     c.bit.ensures ∙ sym (has-source row.result 0) ∙ ap (λ (o : Option ℕ). has o) (row.ensures 0 (search rules))
 
-pub sets-front-spec : {M : Type 1} → statement M
-sets-front-spec = tie.close (tie.spec (λ c κs. search rules) (λ c κs. search rules) returns)
+pub sets_front_spec : {M : Type 1} → statement M
+sets_front_spec = tie.close (tie.spec (λ c κs. search rules) (λ c κs. search rules) returns)

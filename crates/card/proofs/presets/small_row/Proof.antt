@@ -18,6 +18,6 @@ returns-2 : tie.Need-returns-2
 unfolding source_under
 returns-2 c k h = rw (bit-zero (32 + k)) (sym (past-source c.before.before.args.v k (search rules)))
 
-pub small-row-spec : {M : Type 1} → statement M
-small-row-spec =
+pub small_row_spec : {M : Type 1} → statement M
+small_row_spec =
     tie.close (tie.spec (λ c κs. search rules) (λ c. search rules) (λ c. search rules) returns returns-2)

@@ -21,5 +21,5 @@ returns-2 c k h =
     let a = i.before.before.args in
     c.small_row_lem.ensures k h ∙ sym (small-source (cells_for a.size) a.v k (sym i.before.is-large.ensures ∙ i.if1.false))
 
-pub source-row-spec : {M : Type 1} → statement M
-source-row-spec = tie.close (tie.spec (λ c κs. search rules) (λ c κs. search rules) returns (λ c κs. search rules) returns-2)
+pub source_row_spec : {M : Type 1} → statement M
+source_row_spec = tie.close (tie.spec (λ c κs. search rules) (λ c κs. search rules) returns (λ c κs. search rules) returns-2)

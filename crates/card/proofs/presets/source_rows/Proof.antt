@@ -11,5 +11,5 @@ returns : tie.Need-returns
 unfolding bit_at listed row_byte source_under SourceRows preset_table setting_of preset_source
 returns c = refl
 
-pub source-rows-spec : {M : Type 1} → statement M
-source-rows-spec = tie.close (tie.spec returns)
+pub source_rows_spec : {M : Type 1} → statement M
+source_rows_spec = tie.close (tie.spec returns)

@@ -18,8 +18,8 @@ returns c =
       c.byte6.ensures,
     )
 
-pub wired-cell-spec : {M : Type 1} → statement M
-wired-cell-spec =
+pub wired_cell_spec : {M : Type 1} → statement M
+wired_cell_spec =
     tie.close
     (tie.spec
     (λ c κs. search rules)

@@ -14,5 +14,5 @@ returns-2 c =
     let above = le-ltb c.before.before.args.total.0 standstill (omega (arith, c.if1.false)) in
     (rw above, (rw above, omega arith))
 
-pub counting-spec : {M : Type 1} → statement M
-counting-spec = tie.close (tie.spec (λ c. search rules) returns returns-2)
+pub counting_spec : {M : Type 1} → statement M
+counting_spec = tie.close (tie.spec (λ c. search rules) returns returns-2)

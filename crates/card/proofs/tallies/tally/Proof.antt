@@ -65,8 +65,8 @@ returns c n h small =
     let so = subst (λ (w : ℕ). CountedTo word a.t.cells l.i w l.next.cells) none l.invariant.0 in
     all-tallied a.named a.t (room at) word l.i n l.next counts.ensures.1.0 (fits at) so (l.invariant.1 ∙ counts.ensures.0) h small
 
-pub tally-spec : {M : Type 1} → statement M
-tally-spec =
+pub tally_spec : {M : Type 1} → statement M
+tally_spec =
     tie.close
     (tie.spec
     invariant-loop

@@ -7,5 +7,5 @@ use Rattle.card.proofs.valid.bad_address.Tie as tie
 returns : tie.Need-returns
 returns c = c.refused.ensures
 
-pub bad-address-spec : {M : Type 1} → statement M
-bad-address-spec = tie.close (tie.spec (λ c κs. search rules) (λ c κs. search rules) returns)
+pub bad_address_spec : {M : Type 1} → statement M
+bad_address_spec = tie.close (tie.spec (λ c κs. search rules) (λ c κs. search rules) returns)

@@ -11,6 +11,6 @@ returns c =
     let x = y.before.before in
     λ i. slots (x.refused.ensures i) (y.refused2.ensures i) (z.refused3.ensures i) (c.refused4.ensures i)
 
-pub bad-addresses-spec : {M : Type 1} → statement M
-bad-addresses-spec = tie.close
+pub bad_addresses_spec : {M : Type 1} → statement M
+bad_addresses_spec = tie.close
     (tie.spec (λ c κs. search rules) (λ c κs. search rules) (λ c κs. search rules) (λ c κs. search rules) (λ c κs. search rules) returns)

@@ -8,5 +8,5 @@ returns : tie.Need-returns
 unfolding bad_cell_type
 returns c = refl
 
-pub bad-cell-type-spec : {M : Type 1} → statement M
-bad-cell-type-spec = tie.close (tie.spec returns)
+pub bad_cell_type_spec : {M : Type 1} → statement M
+bad_cell_type_spec = tie.close (tie.spec returns)

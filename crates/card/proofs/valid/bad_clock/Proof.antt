@@ -8,5 +8,5 @@ returns : tie.Need-returns
 unfolding bad_clock
 returns c = refl
 
-pub bad-clock-spec : {M : Type 1} → statement M
-bad-clock-spec = tie.close (tie.spec returns)
+pub bad_clock_spec : {M : Type 1} → statement M
+bad_clock_spec = tie.close (tie.spec returns)

@@ -8,5 +8,5 @@ returns : tie.Need-returns
 unfolding bad_config
 returns c = rw c.before.before.row_of.ensures
 
-pub bad-config-spec : {M : Type 1} → statement M
-bad-config-spec = tie.close (tie.spec (λ c κs. search rules) (λ c. search rules) returns)
+pub bad_config_spec : {M : Type 1} → statement M
+bad_config_spec = tie.close (tie.spec (λ c κs. search rules) (λ c. search rules) returns)

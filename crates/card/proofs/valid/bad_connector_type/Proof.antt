@@ -8,5 +8,5 @@ returns : tie.Need-returns
 unfolding bad_connector_type
 returns c = refl
 
-pub bad-connector-type-spec : {M : Type 1} → statement M
-bad-connector-type-spec = tie.close (tie.spec (λ c. search rules) returns)
+pub bad_connector_type_spec : {M : Type 1} → statement M
+bad_connector_type_spec = tie.close (tie.spec (λ c. search rules) returns)

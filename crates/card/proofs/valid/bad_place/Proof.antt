@@ -8,5 +8,5 @@ returns : tie.Need-returns
 unfolding bad_place
 returns c = rw (c.before.is-cell.ensures, c.is-connector.ensures)
 
-pub bad-place-spec : {M : Type 1} → statement M
-bad-place-spec = tie.close (tie.spec (λ c κs. search rules) (λ c κs. search rules) returns)
+pub bad_place_spec : {M : Type 1} → statement M
+bad_place_spec = tie.close (tie.spec (λ c κs. search rules) (λ c κs. search rules) returns)

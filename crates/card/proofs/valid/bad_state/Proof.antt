@@ -8,5 +8,5 @@ returns : tie.Need-returns
 unfolding bad_state
 returns c = rw (c.bad-state-as.ensures, c.before.row_of.ensures)
 
-pub bad-state-spec : {M : Type 1} → statement M
-bad-state-spec = tie.close (tie.spec (λ c κs. search rules) (λ c κs. search rules) returns)
+pub bad_state_spec : {M : Type 1} → statement M
+bad_state_spec = tie.close (tie.spec (λ c κs. search rules) (λ c κs. search rules) returns)

@@ -23,6 +23,6 @@ returns-4 : tie.Need-returns-4
 unfolding bad_state_as
 returns-4 c = rw c.enum-told4.given.1
 
-pub bad-state-as-spec : {M : Type 1} → statement M
-bad-state-as-spec =
+pub bad_state_as_spec : {M : Type 1} → statement M
+bad_state_as_spec =
     tie.close (tie.spec enum_told (λ c. search rules) (λ c. search rules) (λ c. search rules) (λ c. search rules) returns returns-2 returns-3 returns-4)

@@ -8,5 +8,5 @@ returns : tie.Need-returns
 unfolding front_driven
 returns c = refl
 
-pub front-driven-spec : {M : Type 1} → statement M
-front-driven-spec = tie.close (tie.spec (λ c. search rules) (λ c. search rules) returns)
+pub front_driven_spec : {M : Type 1} → statement M
+front_driven_spec = tie.close (tie.spec (λ c. search rules) (λ c. search rules) returns)

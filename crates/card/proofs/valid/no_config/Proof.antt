@@ -8,5 +8,5 @@ returns : tie.Need-returns
 unfolding no_config
 returns c = rw (c.before.is-counted.ensures, c.before.before.row_of.ensures)
 
-pub no-config-spec : {M : Type 1} → statement M
-no-config-spec = tie.close (tie.spec (λ c κs. search rules) (λ c κs. search rules) returns)
+pub no_config_spec : {M : Type 1} → statement M
+no_config_spec = tie.close (tie.spec (λ c κs. search rules) (λ c κs. search rules) returns)

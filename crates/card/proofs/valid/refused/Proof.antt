@@ -17,5 +17,5 @@ returns-2 c =
     ap (λ (e : Entry). not e.permitted) e.entry_of.ensures
     ∙ sym (entry-refused (cells_for e.before.before.args.size) e.before.before.args.a (omega arith))
 
-pub refused-spec : {M : Type 1} → statement M
-refused-spec = tie.close (tie.spec returns (λ c. search rules) (λ c κs. search rules) returns-2)
+pub refused_spec : {M : Type 1} → statement M
+refused_spec = tie.close (tie.spec returns (λ c. search rules) (λ c κs. search rules) returns-2)

@@ -8,5 +8,5 @@ returns : tie.Need-returns
 unfolding unused_slot
 returns c = rw c.before.before.before.before.before.before.before.before.before.row_of.ensures
 
-pub unused-slot-spec : {M : Type 1} → statement M
-unused-slot-spec = tie.close (tie.spec (λ c κs. search rules) returns)
+pub unused_slot_spec : {M : Type 1} → statement M
+unused_slot_spec = tie.close (tie.spec (λ c κs. search rules) returns)

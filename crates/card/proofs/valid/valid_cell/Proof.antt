@@ -8,7 +8,7 @@ returns : tie.Need-returns
 unfolding valid_cell
 returns c = rw (c.before.before.before.bad-cell-type.ensures, c.valid-slots.ensures, c.before.before.before.before.before.before.row_of.ensures)
 
-pub valid-cell-spec : {M : Type 1} → statement M
-valid-cell-spec =
+pub valid_cell_spec : {M : Type 1} → statement M
+valid_cell_spec =
     tie.close
     (tie.spec (λ c κs. search rules) (λ c. search rules) (λ c κs. search rules) (λ c κs. search rules) returns)

@@ -32,8 +32,8 @@ returns c =
     let end : l.i ≡ c.before.before.args.n = omega arith in
     rw end at l.invariant.1.1
 
-pub valid-cells-spec : {M : Type 1} → statement M
-valid-cells-spec =
+pub valid_cells_spec : {M : Type 1} → statement M
+valid_cells_spec =
     tie.close
     (tie.spec
     invariant-loop

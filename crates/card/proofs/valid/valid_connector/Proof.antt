@@ -14,5 +14,5 @@ returns c =
     let a = e.before.args in
     rw (e.entry_of.ensures, k.bad-connector-type.ensures, entry-allowed (cells_for a.size) a.c.source (search rules))
 
-pub valid-connector-spec : {M : Type 1} → statement M
-valid-connector-spec = tie.close (tie.spec (λ c κs. search rules) (λ c. search rules) (λ c κs. search rules) returns)
+pub valid_connector_spec : {M : Type 1} → statement M
+valid_connector_spec = tie.close (tie.spec (λ c κs. search rules) (λ c. search rules) (λ c κs. search rules) returns)

@@ -31,8 +31,8 @@ returns c =
     let end : l.k ≡ connector_count = omega arith in
     l.invariant.1 ∙ ap (every (valid_connector (cells_for c.before.before.args.size))) (take_all l.k c.before.before.args.t2 (search rules))
 
-pub valid-connectors-spec : {M : Type 1} → statement M
-valid-connectors-spec =
+pub valid_connectors_spec : {M : Type 1} → statement M
+valid_connectors_spec =
     tie.close
     (tie.spec
     invariant-loop

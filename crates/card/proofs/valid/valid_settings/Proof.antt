@@ -30,8 +30,8 @@ returns c =
       and-true,
     )
 
-pub valid-settings-spec : {M : Type 1} → statement M
-valid-settings-spec =
+pub valid_settings_spec : {M : Type 1} → statement M
+valid_settings_spec =
     tie.close
     (tie.spec
     (λ c. search rules)

@@ -17,5 +17,5 @@ returns-2 : tie.Need-returns-2
 unfolding valid_slot
 returns-2 c = rw c.if1.false
 
-pub valid-slot-spec : {M : Type 1} → statement M
-valid-slot-spec = tie.close (tie.spec (λ c κs. search rules) returns returns-2)
+pub valid_slot_spec : {M : Type 1} → statement M
+valid_slot_spec = tie.close (tie.spec (λ c κs. search rules) returns returns-2)

@@ -11,8 +11,8 @@ returns c =
     let four : length a.t3 ≡ 4 = search rules in
     rw (c.before.before.before.valid-slot.ensures, c.before.before.valid-slot2.ensures, c.before.valid-slot3.ensures, c.valid-slot4.ensures, four)
 
-pub valid-slots-spec : {M : Type 1} → statement M
-valid-slots-spec =
+pub valid_slots_spec : {M : Type 1} → statement M
+valid_slots_spec =
     tie.close
     (tie.spec
     (λ c. search rules)

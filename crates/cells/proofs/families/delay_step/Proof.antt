@@ -28,5 +28,5 @@ returns-2 c =
     (asked.timer-wakes.ensures ∙ reset-on (timer_stirred a.cell.count.0 a.cell.pulse a.r) (read_from a.d.now a.z)) in
     step-slept _ _ _ (state_of a.cell) _ _ is _ c.slept.ensures c.before.if1.false
 
-pub delay-step-spec : {M : Type 1} → statement M
-delay-step-spec = tie.close (tie.spec (λ c κs. search rules) (λ c κs. search rules) (λ c κs. search rules) returns returns-2)
+pub delay_step_spec : {M : Type 1} → statement M
+delay_step_spec = tie.close (tie.spec (λ c κs. search rules) (λ c κs. search rules) (λ c κs. search rules) returns returns-2)

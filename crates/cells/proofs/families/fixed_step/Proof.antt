@@ -11,5 +11,5 @@ returns c s = step-worked _ _ _ s _ _ refl _ _ c.if1.true (λ out. refl) refl
 returns-2 : tie.Need-returns-2
 returns-2 c s = step-slept _ _ _ s _ _ refl _ c.slept.ensures c.before.if1.false
 
-pub fixed-step-spec : {M : Type 1} → statement M
-fixed-step-spec = tie.close (tie.spec (λ c κs. search rules) returns returns-2)
+pub fixed_step_spec : {M : Type 1} → statement M
+fixed_step_spec = tie.close (tie.spec (λ c κs. search rules) returns returns-2)

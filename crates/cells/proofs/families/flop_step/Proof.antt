@@ -30,6 +30,6 @@ returns-2 c count pulse =
     ∙ gated-on (read_from a.q.now a.y) (read_from a.d.now a.x) (read_from a.d.now a.z) (read_from a.d.now a.f)) in
     step-slept _ _ _ (state count a.bit pulse) _ _ is _ c.slept.ensures c.before.if1.false
 
-pub flop-step-spec : {M : Type 1} → statement M
-flop-step-spec =
+pub flop_step_spec : {M : Type 1} → statement M
+flop_step_spec =
     tie.close (tie.spec (λ c κs. search rules) (λ c κs. search rules) (λ c κs. search rules) returns returns-2)

@@ -30,5 +30,5 @@ returns-2 c pulse =
     ∙ gated-on (counter_stirred a.kind a.bit a.r) (read_from a.d.now a.x) (read_from a.d.now a.z) (read_from a.d.now a.f)) in
     step-slept _ _ _ (state a.count a.bit pulse) _ _ is _ c.slept.ensures c.before.if1.false
 
-pub gated-step-spec : {M : Type 1} → statement M
-gated-step-spec = tie.close (tie.spec (λ c κs. search rules) (λ c κs. search rules) (λ c κs. search rules) returns returns-2)
+pub gated_step_spec : {M : Type 1} → statement M
+gated_step_spec = tie.close (tie.spec (λ c κs. search rules) (λ c κs. search rules) (λ c κs. search rules) returns returns-2)

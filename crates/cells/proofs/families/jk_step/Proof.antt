@@ -30,6 +30,6 @@ returns-2 c count pulse =
     (asked.jk-wakes.ensures ∙ pair-on (read_from a.q.now a.z) (read_from a.d.now a.x) (read_from a.d.now a.y)) in
     step-slept _ _ _ (state count a.bit pulse) _ _ is _ c.slept.ensures c.before.if1.false
 
-pub jk-step-spec : {M : Type 1} → statement M
-jk-step-spec =
+pub jk_step_spec : {M : Type 1} → statement M
+jk_step_spec =
     tie.close (tie.spec (λ c κs. search rules) (λ c κs. search rules) (λ c κs. search rules) returns returns-2)

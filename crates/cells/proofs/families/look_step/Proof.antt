@@ -15,5 +15,5 @@ returns c s =
 returns-2 : tie.Need-returns-2
 returns-2 c s = step-slept _ _ _ s _ _ refl _ c.slept.ensures c.before.if1.false
 
-pub look-step-spec : {M : Type 1} → statement M
-look-step-spec = tie.close (tie.spec (λ c κs. search rules) (λ c κs. search rules) returns returns-2)
+pub look_step_spec : {M : Type 1} → statement M
+look_step_spec = tie.close (tie.spec (λ c κs. search rules) (λ c κs. search rules) returns returns-2)

@@ -27,6 +27,6 @@ returns-2 c s =
     (asked.moved3.ensures ∙ three-on (read_from a.d.now a.x) (read_from a.d.now a.y) (read_from a.d.now a.z)) in
     step-slept _ _ _ s _ _ is _ c.slept.ensures c.before.if1.false
 
-pub lookup3-step-spec : {M : Type 1} → statement M
-lookup3-step-spec =
+pub lookup3_step_spec : {M : Type 1} → statement M
+lookup3_step_spec =
     tie.close (tie.spec (λ c κs. search rules) (λ c κs. search rules) (λ c κs. search rules) (λ c κs. search rules) returns returns-2)

@@ -24,6 +24,6 @@ returns-2 c s =
     let is = ap (λ (b : Bool). a.edited || b) asked.moved4.ensures in
     step-slept _ _ _ s _ _ is _ c.slept.ensures c.before.if1.false
 
-pub lookup4-step-spec : {M : Type 1} → statement M
-lookup4-step-spec =
+pub lookup4_step_spec : {M : Type 1} → statement M
+lookup4_step_spec =
     tie.close (tie.spec (λ c κs. search rules) (λ c κs. search rules) (λ c κs. search rules) (λ c κs. search rules) returns returns-2)

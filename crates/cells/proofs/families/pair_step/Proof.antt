@@ -27,6 +27,6 @@ returns-2 c s =
     (asked.moved2.ensures ∙ two-on (read_from a.d.now a.x) (read_from a.d.now a.y)) in
     step-slept _ _ _ s _ _ is _ c.slept.ensures c.before.if1.false
 
-pub pair-step-spec : {M : Type 1} → statement M
-pair-step-spec =
+pub pair_step_spec : {M : Type 1} → statement M
+pair_step_spec =
     tie.close (tie.spec (λ c κs. search rules) (λ c κs. search rules) (λ c κs. search rules) (λ c κs. search rules) returns returns-2)

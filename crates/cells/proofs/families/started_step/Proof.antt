@@ -28,5 +28,5 @@ returns-2 c pulse =
     (asked.started-wakes.ensures ∙ reset-on (counter_stirred a.kind a.bit a.r) (read_from a.d.now a.z)) in
     step-slept _ _ _ (state a.count a.bit pulse) _ _ is _ c.slept.ensures c.before.if1.false
 
-pub started-step-spec : {M : Type 1} → statement M
-started-step-spec = tie.close (tie.spec (λ c κs. search rules) (λ c κs. search rules) (λ c κs. search rules) returns returns-2)
+pub started_step_spec : {M : Type 1} → statement M
+started_step_spec = tie.close (tie.spec (λ c κs. search rules) (λ c κs. search rules) (λ c κs. search rules) returns returns-2)

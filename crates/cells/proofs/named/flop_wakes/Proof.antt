@@ -10,5 +10,5 @@ returns c = or-taken _ _ _ c.before.read.ensures c.if1.true
 returns-2 : tie.Need-returns-2
 returns-2 c = or-passed _ _ _ _ c.before.before.read.ensures c.before.if1.false c.moved3.ensures
 
-pub flop-wakes-spec : {M : Type 1} → statement M
-flop-wakes-spec = tie.close (tie.spec (λ c κs. search rules) (λ c κs. search rules) returns returns-2)
+pub flop_wakes_spec : {M : Type 1} → statement M
+flop_wakes_spec = tie.close (tie.spec (λ c κs. search rules) (λ c κs. search rules) returns returns-2)

@@ -10,5 +10,5 @@ returns c = or-taken _ _ _ c.before.moved2.ensures c.if1.true
 returns-2 : tie.Need-returns-2
 returns-2 c = or-passed _ _ _ _ c.before.before.moved2.ensures c.before.if1.false c.read.ensures
 
-pub moved3-spec : {M : Type 1} → statement M
-moved3-spec = tie.close (tie.spec (λ c κs. search rules) (λ c κs. search rules) returns returns-2)
+pub moved3_spec : {M : Type 1} → statement M
+moved3_spec = tie.close (tie.spec (λ c κs. search rules) (λ c κs. search rules) returns returns-2)

@@ -10,5 +10,5 @@ returns c = or-taken _ _ _ c.before.counter-stirred.ensures c.if1.true
 returns-2 : tie.Need-returns-2
 returns-2 c = or-passed _ _ _ _ c.before.before.counter-stirred.ensures c.before.if1.false c.read.ensures
 
-pub started-wakes-spec : {M : Type 1} → statement M
-started-wakes-spec = tie.close (tie.spec (λ c κs. search rules) (λ c κs. search rules) returns returns-2)
+pub started_wakes_spec : {M : Type 1} → statement M
+started_wakes_spec = tie.close (tie.spec (λ c κs. search rules) (λ c κs. search rules) returns returns-2)

@@ -6,6 +6,6 @@ use Rattle.cells.proofs.reading.four.Tie as tie
 returns : tie.Need-returns
 returns c = cc
 
-pub four-spec : {M : Type 1} → statement M
-four-spec =
+pub four_spec : {M : Type 1} → statement M
+four_spec =
     tie.close (tie.spec (λ c κs. search rules) (λ c κs. search rules) (λ c κs. search rules) (λ c κs. search rules) returns)

@@ -6,5 +6,5 @@ use Rattle.cells.proofs.reading.three.Tie as tie
 returns : tie.Need-returns
 returns c = cc
 
-pub three-spec : {M : Type 1} → statement M
-three-spec = tie.close (tie.spec (λ c κs. search rules) (λ c κs. search rules) (λ c κs. search rules) returns)
+pub three_spec : {M : Type 1} → statement M
+three_spec = tie.close (tie.spec (λ c κs. search rules) (λ c κs. search rules) (λ c κs. search rules) returns)

@@ -6,5 +6,5 @@ use Rattle.cells.proofs.reading.two.Tie as tie
 returns : tie.Need-returns
 returns c = cc
 
-pub two-spec : {M : Type 1} → statement M
-two-spec = tie.close (tie.spec (λ c κs. search rules) (λ c κs. search rules) returns)
+pub two_spec : {M : Type 1} → statement M
+two_spec = tie.close (tie.spec (λ c κs. search rules) (λ c κs. search rules) returns)

@@ -106,8 +106,8 @@ returns-23 c = at _ 22 c.match.keys23
 returns-24 : tie.Need-returns-24
 returns-24 c = sym (ap (λ (r : Row). r.class) (past-types _ c.match.rest))
 
-pub class-of-spec : {M : Type 1} → statement M
-class-of-spec =
+pub class_of_spec : {M : Type 1} → statement M
+class_of_spec =
     tie.close
     (tie.spec returns returns-2 returns-3 returns-4 returns-5 returns-6 returns-7 returns-8 returns-9 returns-10
     returns-11 returns-12 returns-13 returns-14 returns-15 returns-16 returns-17 returns-18 returns-19 returns-20

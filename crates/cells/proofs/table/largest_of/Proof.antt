@@ -17,5 +17,5 @@ returns c = listed_at (λ k. (row_of k).largest) type_count c.before.args.kind 0
 returns-2 : tie.Need-returns-2
 returns-2 c = sym (ap (λ (r : Row). r.largest) (past-table c.before.args.kind (search rules)))
 
-pub largest-of-spec : {M : Type 1} → statement M
-largest-of-spec = tie.close (tie.spec (λ c. search rules) (λ c. search rules) returns returns-2)
+pub largest_of_spec : {M : Type 1} → statement M
+largest_of_spec = tie.close (tie.spec (λ c. search rules) (λ c. search rules) returns returns-2)

@@ -9,6 +9,6 @@ returns : tie.Need-returns
 unfolding slots_of
 returns c = λ i. slots (c.before.before.before.bit.ensures i) (c.before.before.bit2.ensures i) (c.before.bit3.ensures i) (c.bit4.ensures i)
 
-pub unpacked-spec : {M : Type 1} → statement M
-unpacked-spec =
+pub unpacked_spec : {M : Type 1} → statement M
+unpacked_spec =
     tie.close (tie.spec (λ c κs. search rules) (λ c κs. search rules) (λ c κs. search rules) (λ c κs. search rules) returns)

@@ -22,5 +22,5 @@ returns c =
 returns-2 : tie.Need-returns-2
 returns-2 c = (sym (ap (λ (r : Row). place_of r.used) (past-table c.before.args.kind (search rules))), omega arith)
 
-pub used-of-spec : {M : Type 1} → statement M
-used-of-spec = tie.close (tie.spec (λ c. search rules) (λ c κs. search rules) returns returns-2)
+pub used_of_spec : {M : Type 1} → statement M
+used_of_spec = tie.close (tie.spec (λ c. search rules) (λ c κs. search rules) returns returns-2)

@@ -19,7 +19,7 @@ returns-3 c = rw c.before.enum-told3.given.1
 returns-4 : tie.Need-returns-4
 returns-4 c = rw c.before.enum-told4.given.1
 
-pub counter-clock-spec : {M : Type 1} → statement M
-counter-clock-spec =
+pub counter_clock_spec : {M : Type 1} → statement M
+counter_clock_spec =
     tie.close
     (tie.spec enum_told (λ c. search rules) (λ c. search rules) (λ c. search rules) returns returns-2 returns-3 returns-4)

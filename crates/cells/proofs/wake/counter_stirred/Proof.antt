@@ -11,5 +11,5 @@ returns c =
     let r = c.before.before.before.args.r in
     ap₂ (λ (h k : Bool). (h && (r.x || r.f)) || k) c.before.before.has-start.ensures c.counter-clock.ensures
 
-pub counter-stirred-spec : {M : Type 1} → statement M
-counter-stirred-spec = tie.close (tie.spec (λ c κs. search rules) (λ c κs. search rules) returns)
+pub counter_stirred_spec : {M : Type 1} → statement M
+counter_stirred_spec = tie.close (tie.spec (λ c κs. search rules) (λ c κs. search rules) returns)

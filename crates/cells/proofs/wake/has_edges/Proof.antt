@@ -23,5 +23,5 @@ returns c =
 returns-2 : tie.Need-returns-2
 returns-2 c = sym (ap (λ (r : Row). any_slot r.edge) (past-table c.before.args.kind (search rules)))
 
-pub has-edges-spec : {M : Type 1} → statement M
-has-edges-spec = tie.close (tie.spec (λ c. search rules) (λ c κs. search rules) returns returns-2)
+pub has_edges_spec : {M : Type 1} → statement M
+has_edges_spec = tie.close (tie.spec (λ c. search rules) (λ c κs. search rules) returns returns-2)

@@ -23,8 +23,8 @@ returns c =
     ∙ ap₂ (λ (k : Class) (r : Slots). stirred_as k (state a.count a.bit a.pulse) r) p.class_of.ensures
     (c.before.within.ensures ∙ ap (λ (u : Slots). masked u a.r) set)
 
-pub stirred-spec : {M : Type 1} → statement M
-stirred-spec =
+pub stirred_spec : {M : Type 1} → statement M
+stirred_spec =
     tie.close
     (tie.spec
     (λ c κs. search rules)

@@ -36,8 +36,8 @@ returns-7 : tie.Need-returns-7
 unfolding stirred_as
 returns-7 c = rw (c.before.before.class2.given.1, c.counter-stirred.ensures)
 
-pub stirred-as-spec : {M : Type 1} → statement M
-stirred-as-spec =
+pub stirred_as_spec : {M : Type 1} → statement M
+stirred_as_spec =
     tie.close
     (tie.spec
     enum_told

@@ -10,5 +10,5 @@ returns c =
     let r = c.before.before.args.r in
     ap (λ (k : Bool). (r.x || r.f) || k) c.timer-clock.ensures
 
-pub timer-stirred-spec : {M : Type 1} → statement M
-timer-stirred-spec = tie.close (tie.spec (λ c κs. search rules) returns)
+pub timer_stirred_spec : {M : Type 1} → statement M
+timer_stirred_spec = tie.close (tie.spec (λ c κs. search rules) returns)

@@ -19,8 +19,8 @@ returns-3 c = rw (c.before.enum-told3.given.1, c.started-by.ensures)
 returns-4 : tie.Need-returns-4
 returns-4 c = rw (c.before.before.enum-told4.given.1, c.started-by2.ensures)
 
-pub active-after-spec : {M : Type 1} → statement M
-active-after-spec =
+pub active_after_spec : {M : Type 1} → statement M
+active_after_spec =
     tie.close
     (tie.spec
     enum_told

@@ -27,8 +27,8 @@ returns-4 c =
     let t = c.before.before in
     rw (sym t.before.read.ensures ∙ t.if1.false, sym c.before.read2.ensures ∙ c.if2.false)
 
-pub clear-d-flop-spec : {M : Type 1} → statement M
-clear-d-flop-spec =
+pub clear_d_flop_spec : {M : Type 1} → statement M
+clear_d_flop_spec =
     tie.close
     (tie.spec
     (λ c κs. search rules)

@@ -12,5 +12,5 @@ returns-2 c = rw (c.before.before.if1.false, c.before.if2.true, c.raised.ensures
 returns-3 : tie.Need-returns-3
 returns-3 c = rw (c.before.if1.false, c.if2.false)
 
-pub counted-up-spec : {M : Type 1} → statement M
-counted-up-spec = tie.close (tie.spec (λ c κs. search rules) returns returns-2 returns-3)
+pub counted_up_spec : {M : Type 1} → statement M
+counted_up_spec = tie.close (tie.spec (λ c κs. search rules) returns returns-2 returns-3)

@@ -8,5 +8,5 @@ returns : tie.Need-returns
 unfolding work_as
 returns c pulse out = cc
 
-pub counter-spec : {M : Type 1} → statement M
-counter-spec = tie.close (tie.spec (λ c κs. search rules) (λ c κs. search rules) (λ c κs. search rules) returns)
+pub counter_spec : {M : Type 1} → statement M
+counter_spec = tie.close (tie.spec (λ c κs. search rules) (λ c κs. search rules) (λ c κs. search rules) returns)

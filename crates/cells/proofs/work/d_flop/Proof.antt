@@ -26,8 +26,8 @@ returns-4 c =
     let u = t.before.before in
     rw (sym u.before.read.ensures ∙ u.if1.false, sym t.before.read2.ensures ∙ t.if2.false, sym c.before.read3.ensures ∙ c.if3.false)
 
-pub d-flop-spec : {M : Type 1} → statement M
-d-flop-spec =
+pub d_flop_spec : {M : Type 1} → statement M
+d_flop_spec =
     tie.close
     (tie.spec
     (λ c κs. search rules)

@@ -16,5 +16,5 @@ returns-3 c =
     let kind = c.before.before.args.kind in
     rw (ne_eqb kind 1 c.before.match.rest.0.1, ne_eqb kind 12 c.before.match.rest.1) c.clear-d-flop.ensures
 
-pub flop-spec : {M : Type 1} → statement M
-flop-spec = tie.close (tie.spec (λ c κs. search rules) (λ c κs. search rules) (λ c κs. search rules) returns returns-2 returns-3)
+pub flop_spec : {M : Type 1} → statement M
+flop_spec = tie.close (tie.spec (λ c κs. search rules) (λ c κs. search rules) (λ c κs. search rules) returns returns-2 returns-3)

@@ -25,8 +25,8 @@ returns-5 c = rw c.before.before.enum-told5.given.1
 returns-6 : tie.Need-returns-6
 returns-6 c = rw c.before.before.enum-told6.given.1
 
-pub gate-out-spec : {M : Type 1} → statement M
-gate-out-spec =
+pub gate_out_spec : {M : Type 1} → statement M
+gate_out_spec =
     tie.close
     (tie.spec
     enum_told

@@ -32,8 +32,8 @@ returns-5 : tie.Need-returns-5
 returns-5 c =
     rw (sym c.before.read.ensures ∙ c.if1.false)
 
-pub jk-spec : {M : Type 1} → statement M
-jk-spec =
+pub jk_spec : {M : Type 1} → statement M
+jk_spec =
     tie.close
     (tie.spec
     (λ c κs. search rules)

@@ -7,5 +7,5 @@ use Rattle.cells.proofs.work.lookup.Tie as tie
 returns : tie.Need-returns
 returns c = cc
 
-pub lookup-spec : {M : Type 1} → statement M
-lookup-spec = tie.close (tie.spec (λ c κs. search rules) (λ c κs. search rules) returns)
+pub lookup_spec : {M : Type 1} → statement M
+lookup_spec = tie.close (tie.spec (λ c κs. search rules) (λ c κs. search rules) returns)

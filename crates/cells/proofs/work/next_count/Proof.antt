@@ -26,5 +26,5 @@ returns-4 c =
 returns-5 : tie.Need-returns-5
 returns-5 c = rw (c.before.before.if1.false, c.before.if2.false, c.if3.false)
 
-pub next-count-spec : {M : Type 1} → statement M
-next-count-spec = tie.close (tie.spec (λ c. search rules) returns returns-2 returns-3 returns-4 returns-5)
+pub next_count_spec : {M : Type 1} → statement M
+next_count_spec = tie.close (tie.spec (λ c. search rules) returns returns-2 returns-3 returns-4 returns-5)

@@ -20,5 +20,5 @@ returns-4 c =
 returns-5 : tie.Need-returns-5
 returns-5 c = rw (c.before.before.if1.false, c.before.if2.false, c.if3.false)
 
-pub next-pulse-spec : {M : Type 1} → statement M
-next-pulse-spec = tie.close (tie.spec (λ c. search rules) returns-2 returns-3 returns-4 returns-5)
+pub next_pulse_spec : {M : Type 1} → statement M
+next_pulse_spec = tie.close (tie.spec (λ c. search rules) returns-2 returns-3 returns-4 returns-5)

@@ -10,5 +10,5 @@ returns c bit pulse out =
     let took = c.before in
     rw (c.count-after.ensures, took.taken.ensures, took.before.shot-busy.ensures)
 
-pub one-shot-spec : {M : Type 1} → statement M
-one-shot-spec = tie.close (tie.spec (λ c κs. search rules) (λ c κs. search rules) (λ c κs. search rules) returns)
+pub one_shot_spec : {M : Type 1} → statement M
+one_shot_spec = tie.close (tie.spec (λ c κs. search rules) (λ c κs. search rules) (λ c κs. search rules) returns)

@@ -13,5 +13,5 @@ returns-2 : tie.Need-returns-2
 unfolding Work.raised
 returns-2 c = rw (le-ltb _ _ c.if1.false)
 
-pub raised-spec : {M : Type 1} → statement M
-raised-spec = tie.close (tie.spec (λ c. search rules) returns returns-2)
+pub raised_spec : {M : Type 1} → statement M
+raised_spec = tie.close (tie.spec (λ c. search rules) returns returns-2)

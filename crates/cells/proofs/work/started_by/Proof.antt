@@ -8,5 +8,5 @@ returns c = rw c.if1.true
 returns-2 : tie.Need-returns-2
 returns-2 c = rw c.before.if1.false
 
-pub started-by-spec : {M : Type 1} → statement M
-started-by-spec = tie.close (tie.spec returns returns-2)
+pub started_by_spec : {M : Type 1} → statement M
+started_by_spec = tie.close (tie.spec returns returns-2)

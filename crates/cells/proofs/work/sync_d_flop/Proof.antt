@@ -27,8 +27,8 @@ returns-3 c =
 returns-4 : tie.Need-returns-4
 returns-4 c = rw (sym c.before.read.ensures ∙ c.if1.false)
 
-pub sync-d-flop-spec : {M : Type 1} → statement M
-sync-d-flop-spec =
+pub sync_d_flop_spec : {M : Type 1} → statement M
+sync_d_flop_spec =
     tie.close
     (tie.spec
     (λ c κs. search rules)

@@ -8,5 +8,5 @@ returns : tie.Need-returns
 unfolding taken
 returns c = refl
 
-pub taken-spec : {M : Type 1} → statement M
-taken-spec = tie.close (tie.spec returns)
+pub taken_spec : {M : Type 1} → statement M
+taken_spec = tie.close (tie.spec returns)

@@ -9,8 +9,8 @@ invariant-loop out₀ ticks s i start end w₀ t₀ out w t = (start ≤ t) × (
 abbrev decreases-loop : tie.decreases-loop
 decreases-loop out₀ ticks s i start end w₀ t₀ out w t = end - t
 
-pub put-boxes-spec : {M : Type 1} → statement M
-put-boxes-spec =
+pub put_boxes_spec : {M : Type 1} → statement M
+put_boxes_spec =
     tie.close
     (tie.spec
     invariant-loop

@@ -9,8 +9,8 @@ invariant-loop ticks₀ t found cells i₀ ticks i = i ≤ 32
 abbrev decreases-loop : tie.decreases-loop
 decreases-loop ticks₀ t found cells i₀ ticks i = 32 - i
 
-pub keep-cells-spec : {M : Type 1} → statement M
-keep-cells-spec =
+pub keep_cells_spec : {M : Type 1} → statement M
+keep_cells_spec =
     tie.close
     (tie.spec
     invariant-loop

@@ -13,8 +13,8 @@ decreases-loop out₀ ticks s rows w₀ y₀ r₀ out w y r = most_rows - r
 loop-again : tie.Need-loop-preserved invariant-loop decreases-loop
 loop-again c = ⊎_elim (λ w. (omega arith, omega arith)) (λ w. (omega arith, omega arith)) c.if1.branch
 
-pub put-all-boxes-spec : {M : Type 1} → statement M
-put-all-boxes-spec =
+pub put_all_boxes_spec : {M : Type 1} → statement M
+put_all_boxes_spec =
     tie.close
     (tie.spec
     invariant-loop

@@ -9,8 +9,8 @@ invariant-loop out₀ colour n wide step offset low end w₀ k₀ t12 out w k = 
 abbrev decreases-loop : tie.decreases-loop
 decreases-loop out₀ colour n wide step offset low end w₀ k₀ t12 out w k = end - k
 
-pub put-grid-spec : {M : Type 1} → statement M
-put-grid-spec =
+pub put_grid_spec : {M : Type 1} → statement M
+put_grid_spec =
     tie.close
     (tie.spec
     invariant-loop

@@ -9,8 +9,8 @@ invariant-loop out₀ ticks s start end w₀ t₀ out w t = (start ≤ t) × (t 
 abbrev decreases-loop : tie.decreases-loop
 decreases-loop out₀ ticks s start end w₀ t₀ out w t = end - t
 
-pub put-numbers-spec : {M : Type 1} → statement M
-put-numbers-spec =
+pub put_numbers_spec : {M : Type 1} → statement M
+put_numbers_spec =
     tie.close
     (tie.spec
     invariant-loop

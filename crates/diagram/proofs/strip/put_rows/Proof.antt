@@ -13,8 +13,8 @@ decreases-loop out₀ card ticks s rows w₀ y₀ r₀ out w y r = most_rows - r
 loop-again : tie.Need-loop-preserved invariant-loop decreases-loop
 loop-again c = ⊎_elim (λ w. (omega arith, omega arith)) (λ w. (omega arith, omega arith)) c.if1.branch
 
-pub put-rows-spec : {M : Type 1} → statement M
-put-rows-spec =
+pub put_rows_spec : {M : Type 1} → statement M
+put_rows_spec =
     tie.close
     (tie.spec
     invariant-loop

@@ -9,8 +9,8 @@ invariant-loop out₀ ticks s i start end last₀ w₀ t₀ t13 t14 out last w t
 abbrev decreases-loop : tie.decreases-loop
 decreases-loop out₀ ticks s i start end last₀ w₀ t₀ t13 t14 out last w t = end - t
 
-pub put-wave-spec : {M : Type 1} → statement M
-put-wave-spec =
+pub put_wave_spec : {M : Type 1} → statement M
+put_wave_spec =
     tie.close
     (tie.spec
     invariant-loop

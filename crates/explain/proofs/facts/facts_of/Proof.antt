@@ -7,7 +7,7 @@ use Rattle.explain.proofs.facts.facts_of.Tie as tie
 returns : tie.Need-returns
 returns c = (cc, (refl, refl))
 
-pub facts-of-spec : {M : Type 1} → statement M
-facts-of-spec =
+pub facts_of_spec : {M : Type 1} → statement M
+facts_of_spec =
     tie.close
     (tie.spec (λ c κs. search rules) (λ c κs. search rules) (λ c κs. search rules) (λ c κs. search rules) (λ c κs. search rules) returns)

@@ -14,8 +14,8 @@ decreases-loop text n i₀ i = i
 loop-again : tie.Need-loop-preserved invariant-loop decreases-loop
 loop-again c = omega arith
 
-pub blanks-start-spec : {M : Type 1} → statement M
-blanks-start-spec =
+pub blanks_start_spec : {M : Type 1} → statement M
+blanks_start_spec =
     tie.close
     (tie.spec
     invariant-loop

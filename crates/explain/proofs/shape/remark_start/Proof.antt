@@ -15,8 +15,8 @@ decreases-loop text before₀ i₀ before i = length text - i
 loop-again : tie.Need-loop-preserved invariant-loop decreases-loop
 loop-again c = omega arith
 
-pub remark-start-spec : {M : Type 1} → statement M
-remark-start-spec =
+pub remark_start_spec : {M : Type 1} → statement M
+remark_start_spec =
     tie.close
     (tie.spec
     invariant-loop

@@ -10,8 +10,8 @@ invariant-loop card place₀ place = place ≤ 50
 abbrev decreases-loop : tie.decreases-loop
 decreases-loop card place₀ place = 50 - place
 
-pub put-connectors-spec : {M : Type 1} → statement M
-put-connectors-spec =
+pub put_connectors_spec : {M : Type 1} → statement M
+put_connectors_spec =
     tie.close
     (tie.spec
     invariant-loop

@@ -11,8 +11,8 @@ invariant-loop line t₀ k₀ n₀ i₀ t k n i = 2 ≤ i
 abbrev decreases-loop : tie.decreases-loop
 decreases-loop line t₀ k₀ n₀ i₀ t k n i = length line - i
 
-pub given-spec : {M : Type 1} → statement M
-given-spec =
+pub given_spec : {M : Type 1} → statement M
+given_spec =
     tie.close
     (tie.spec
     invariant-loop

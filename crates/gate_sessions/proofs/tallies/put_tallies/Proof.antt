@@ -10,8 +10,8 @@ invariant-loop cells t i₀ t6 t7 i = i ≤ 32
 abbrev decreases-loop : tie.decreases-loop
 decreases-loop cells t i₀ t6 t7 i = 32 - i
 
-pub put-tallies-spec : {M : Type 1} → statement M
-put-tallies-spec =
+pub put_tallies_spec : {M : Type 1} → statement M
+put_tallies_spec =
     tie.close
     (tie.spec
     invariant-loop

@@ -11,7 +11,7 @@ invariant-loop kind₀ kind = kind ≤ type_count
 abbrev decreases-loop : tie.decreases-loop
 decreases-loop kind₀ kind = type_count - kind
 
-pub put-chart-spec : {M : Type 1} → statement M
-put-chart-spec =
+pub put_chart_spec : {M : Type 1} → statement M
+put_chart_spec =
     tie.close
     (tie.spec invariant-loop decreases-loop (λ c. search rules) (λ c κs. search rules) (λ c. search rules) (λ c. search rules) (λ c. search rules) (λ c. search rules))

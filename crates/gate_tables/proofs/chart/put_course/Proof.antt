@@ -10,8 +10,8 @@ invariant-loop kind steps s₀ i₀ s i = i ≤ 6
 abbrev decreases-loop : tie.decreases-loop
 decreases-loop kind steps s₀ i₀ s i = 6 - i
 
-pub put-course-spec : {M : Type 1} → statement M
-put-course-spec =
+pub put_course_spec : {M : Type 1} → statement M
+put_course_spec =
     tie.close
     (tie.spec
     invariant-loop

@@ -10,8 +10,8 @@ invariant-loop kind deciding n₀ n = n ≤ 16
 abbrev decreases-loop : tie.decreases-loop
 decreases-loop kind deciding n₀ n = 16 - n
 
-pub put-looks-spec : {M : Type 1} → statement M
-put-looks-spec =
+pub put_looks_spec : {M : Type 1} → statement M
+put_looks_spec =
     tie.close
     (tie.spec
     invariant-loop

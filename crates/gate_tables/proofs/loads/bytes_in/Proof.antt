@@ -11,8 +11,8 @@ invariant-loop row bytes₀ n k₀ bytes k = (k ≤ n) × (n ≤ 550) × (n * 2 
 abbrev decreases-loop : tie.decreases-loop
 decreases-loop row bytes₀ n k₀ bytes k = n - k
 
-pub bytes-in-spec : {M : Type 1} → statement M
-bytes-in-spec =
+pub bytes_in_spec : {M : Type 1} → statement M
+bytes_in_spec =
     tie.close
     (tie.spec
     invariant-loop

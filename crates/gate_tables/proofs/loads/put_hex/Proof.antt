@@ -12,8 +12,8 @@ invariant-loop bytes i₀ i-end i = (i ≤ length bytes) × (i-end ≡ length by
 abbrev decreases-loop : tie.decreases-loop
 decreases-loop bytes i₀ i-end i = length bytes - i
 
-pub put-hex-spec : {M : Type 1} → statement M
-put-hex-spec =
+pub put_hex_spec : {M : Type 1} → statement M
+put_hex_spec =
     tie.close
     (tie.spec
     invariant-loop

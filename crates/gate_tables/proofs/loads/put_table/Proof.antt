@@ -12,8 +12,8 @@ invariant-loop block₀ row₀ r₀ block row r = (r.end ≤ r.n) × (r.n ≤ le
 abbrev decreases-loop : tie.decreases-loop
 decreases-loop block₀ row₀ r₀ block row r = r.left
 
-pub put-table-spec : {M : Type 1} → statement M
-put-table-spec =
+pub put_table_spec : {M : Type 1} → statement M
+put_table_spec =
     tie.close
     (tie.spec
     invariant-loop

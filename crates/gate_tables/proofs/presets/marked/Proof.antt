@@ -10,8 +10,8 @@ invariant-loop card₀ p₀ card p = p ≤ 41
 abbrev decreases-loop : tie.decreases-loop
 decreases-loop card₀ p₀ card p = 41 - p
 
-pub marked-spec : {M : Type 1} → statement M
-marked-spec =
+pub marked_spec : {M : Type 1} → statement M
+marked_spec =
     tie.close
     (tie.spec
     invariant-loop

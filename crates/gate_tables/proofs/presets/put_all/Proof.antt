@@ -10,7 +10,7 @@ invariant-loop card v₀ v = v ≤ 66
 abbrev decreases-loop : tie.decreases-loop
 decreases-loop card v₀ v = 66 - v
 
-pub put-all-spec : {M : Type 1} → statement M
-put-all-spec =
+pub put_all_spec : {M : Type 1} → statement M
+put_all_spec =
     tie.close
     (tie.spec invariant-loop decreases-loop (λ c. search rules) (λ c κs. search rules) (λ c. search rules) (λ c. search rules) (λ c. search rules) (λ c. search rules))

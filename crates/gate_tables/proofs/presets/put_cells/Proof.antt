@@ -10,8 +10,8 @@ invariant-loop card cells any₀ i₀ any i = i ≤ 16
 abbrev decreases-loop : tie.decreases-loop
 decreases-loop card cells any₀ i₀ any i = 16 - i
 
-pub put-cells-spec : {M : Type 1} → statement M
-put-cells-spec =
+pub put_cells_spec : {M : Type 1} → statement M
+put_cells_spec =
     tie.close
     (tie.spec
     invariant-loop

@@ -10,8 +10,8 @@ invariant-loop olds news any₀ k₀ any k = k ≤ 16
 abbrev decreases-loop : tie.decreases-loop
 decreases-loop olds news any₀ k₀ any k = 16 - k
 
-pub put-connectors-spec : {M : Type 1} → statement M
-put-connectors-spec =
+pub put_connectors_spec : {M : Type 1} → statement M
+put_connectors_spec =
     tie.close
     (tie.spec
     invariant-loop

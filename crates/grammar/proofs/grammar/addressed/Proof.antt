@@ -23,6 +23,6 @@ returns-4 : tie.Need-returns-4
 unfolding addressed
 returns-4 c = rw (c.before.before.if1.false, c.enum-told3.given.1)
 
-pub addressed-spec : {M : Type 1} → statement M
-addressed-spec =
+pub addressed_spec : {M : Type 1} → statement M
+addressed_spec =
     tie.close (tie.spec returns enum_told (λ c. search rules) (λ c. search rules) returns-2 returns-3 returns-4)

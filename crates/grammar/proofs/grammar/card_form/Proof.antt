@@ -56,8 +56,8 @@ returns-4 c = rw (fourth c.before, c.if4.true)
 returns-5 : tie.Need-returns-5
 returns-5 c = rw (fourth c.before, c.if4.false)
 
-pub card-form-spec : {M : Type 1} → statement M
-card-form-spec =
+pub card_form_spec : {M : Type 1} → statement M
+card_form_spec =
     tie.close
     (tie.spec
     (λ c. search rules)

@@ -17,8 +17,8 @@ returns-3 : tie.Need-returns-3
 unfolding cca_form
 returns-3 c = rw (← c.before.before.char-at2.ensures, ne_eqb _ _ c.before.if1.false, c.if2.false)
 
-pub cca-form-spec : {M : Type 1} → statement M
-cca-form-spec =
+pub cca_form_spec : {M : Type 1} → statement M
+cca_form_spec =
     tie.close
     (tie.spec
     (λ c κs. search rules)

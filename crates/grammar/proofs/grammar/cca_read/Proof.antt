@@ -27,8 +27,8 @@ returns-5 : tie.Need-returns-5
 unfolding cca_read
 returns-5 c = rw c.enum-told5.given.1
 
-pub cca-read-spec : {M : Type 1} → statement M
-cca-read-spec =
+pub cca_read_spec : {M : Type 1} → statement M
+cca_read_spec =
     tie.close
     (tie.spec
     enum_told

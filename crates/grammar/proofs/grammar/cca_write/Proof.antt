@@ -12,5 +12,5 @@ returns-2 : tie.Need-returns-2
 unfolding cca_write
 returns-2 c = rw c.if1.false
 
-pub cca-write-spec : {M : Type 1} → statement M
-cca-write-spec = tie.close (tie.spec (λ c κs. search rules) returns returns-2)
+pub cca_write_spec : {M : Type 1} → statement M
+cca_write_spec = tie.close (tie.spec (λ c κs. search rules) returns returns-2)

@@ -14,8 +14,8 @@ returns-2 : tie.Need-returns-2
 unfolding ccb_form
 returns-2 c = rw (c.all-pairs.ensures, ← c.before.before.before.char-at.ensures, ← c.before.before.char-at2.ensures, c.before.if1.false)
 
-pub ccb-form-spec : {M : Type 1} → statement M
-ccb-form-spec =
+pub ccb_form_spec : {M : Type 1} → statement M
+ccb_form_spec =
     tie.close
     (tie.spec
     (λ c κs. search rules)

@@ -8,5 +8,5 @@ returns : tie.Need-returns
 unfolding is_whole
 returns c = rw c.is_Is_word.ensures
 
-pub is-whole-spec : {M : Type 1} → statement M
-is-whole-spec = tie.close (tie.spec (λ c κs. search rules) returns)
+pub is_whole_spec : {M : Type 1} → statement M
+is_whole_spec = tie.close (tie.spec (λ c κs. search rules) returns)

@@ -6,5 +6,5 @@ use Rattle.grammar.proofs.grammar.moved.Tie as tie
 returns : tie.Need-returns
 returns c = rw c.if1.true
 
-pub moved-spec : {M : Type 1} → statement M
-moved-spec = tie.close (tie.spec returns (λ c. search rules))
+pub moved_spec : {M : Type 1} → statement M
+moved_spec = tie.close (tie.spec returns (λ c. search rules))

@@ -44,8 +44,8 @@ returns-4 c =
     )
     c.Plain-Form.ensures
 
-pub parse-line-spec : {M : Type 1} → statement M
-parse-line-spec =
+pub parse_line_spec : {M : Type 1} → statement M
+parse_line_spec =
     tie.close
     (tie.spec
     returns

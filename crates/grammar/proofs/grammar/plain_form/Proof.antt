@@ -49,8 +49,8 @@ returns-4 c = rw (fourth c.before, c.if4.true)
 returns-5 : tie.Need-returns-5
 returns-5 c = rw (fourth c.before, c.if4.false)
 
-pub plain-form-spec : {M : Type 1} → statement M
-plain-form-spec =
+pub plain_form_spec : {M : Type 1} → statement M
+plain_form_spec =
     tie.close
     (tie.spec
     (λ c. search rules)

@@ -12,8 +12,8 @@ returns-2 : tie.Need-returns-2
 unfolding read_form
 returns-2 c = rw (← c.before.char-at.ensures, c.if1.false)
 
-pub read-form-spec : {M : Type 1} → statement M
-read-form-spec =
+pub read_form_spec : {M : Type 1} → statement M
+read_form_spec =
     tie.close
     (tie.spec
     (λ c κs. search rules)

@@ -27,8 +27,8 @@ returns-5 : tie.Need-returns-5
 unfolding read_of
 returns-5 c = rw c.enum-told5.given.1
 
-pub read-of-spec : {M : Type 1} → statement M
-read-of-spec =
+pub read_of_spec : {M : Type 1} → statement M
+read_of_spec =
     tie.close
     (tie.spec
     enum_told

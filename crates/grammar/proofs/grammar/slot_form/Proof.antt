@@ -27,8 +27,8 @@ returns-5 : tie.Need-returns-5
 unfolding slot_form
 returns-5 c = rw c.enum-told5.given.1
 
-pub slot-form-spec : {M : Type 1} → statement M
-slot-form-spec =
+pub slot_form_spec : {M : Type 1} → statement M
+slot_form_spec =
     tie.close
     (tie.spec
     enum_told

@@ -26,5 +26,5 @@ returns-5 c =
     let p = c.before.before in
     rw (ne_eqb _ _ p.before.if1.false, ne_eqb _ _ p.if2.false, ne_eqb _ _ c.before.if3.false, ne_eqb _ _ c.if4.false)
 
-pub slot-of-spec : {M : Type 1} → statement M
-slot-of-spec = tie.close (tie.spec returns returns-2 returns-3 returns-4 returns-5)
+pub slot_of_spec : {M : Type 1} → statement M
+slot_of_spec = tie.close (tie.spec returns returns-2 returns-3 returns-4 returns-5)

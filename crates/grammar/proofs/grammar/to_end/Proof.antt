@@ -17,5 +17,5 @@ returns-3 : tie.Need-returns-3
 unfolding to_end
 returns-3 c = rw (lt-leb _ _ c.if1.false)
 
-pub to-end-spec : {M : Type 1} → statement M
-to-end-spec = tie.close (tie.spec (λ c κs. search rules) returns returns-2 returns-3)
+pub to_end_spec : {M : Type 1} → statement M
+to_end_spec = tie.close (tie.spec (λ c κs. search rules) returns returns-2 returns-3)

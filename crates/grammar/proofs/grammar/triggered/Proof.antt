@@ -6,5 +6,5 @@ use Rattle.grammar.proofs.grammar.triggered.Tie as tie
 returns : tie.Need-returns
 returns c = rw c.if1.true
 
-pub triggered-spec : {M : Type 1} → statement M
-triggered-spec = tie.close (tie.spec returns (λ c. search rules))
+pub triggered_spec : {M : Type 1} → statement M
+triggered_spec = tie.close (tie.spec returns (λ c. search rules))

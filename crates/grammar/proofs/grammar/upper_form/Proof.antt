@@ -13,5 +13,5 @@ returns-2 : tie.Need-returns-2
 unfolding read_of cells_for
 returns-2 c = rw (ne_eqb _ cell_room c.if1.false)
 
-pub upper-form-spec : {M : Type 1} → statement M
-upper-form-spec = tie.close (tie.spec returns returns-2)
+pub upper_form_spec : {M : Type 1} → statement M
+upper_form_spec = tie.close (tie.spec returns returns-2)

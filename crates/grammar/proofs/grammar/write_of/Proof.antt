@@ -27,8 +27,8 @@ returns-5 : tie.Need-returns-5
 unfolding write_of
 returns-5 c = rw c.enum-told5.given.1
 
-pub write-of-spec : {M : Type 1} → statement M
-write-of-spec =
+pub write_of_spec : {M : Type 1} → statement M
+write_of_spec =
     tie.close
     (tie.spec
     enum_told

@@ -18,8 +18,8 @@ returns-2 : tie.Need-returns-2
 unfolding pairs_of
 returns-2 c = rw (← four c.before.before.before.before, ← c.before.any.ensures, c.if1.false)
 
-pub all-pairs-spec : {M : Type 1} → statement M
-all-pairs-spec =
+pub all_pairs_spec : {M : Type 1} → statement M
+all_pairs_spec =
     tie.close
     (tie.spec
     (λ c κs. search rules)

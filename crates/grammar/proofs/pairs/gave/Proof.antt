@@ -27,8 +27,8 @@ returns-5 : tie.Need-returns-5
 unfolding gave
 returns-5 c = rw c.enum-told5.given.1
 
-pub gave-spec : {M : Type 1} → statement M
-gave-spec =
+pub gave_spec : {M : Type 1} → statement M
+gave_spec =
     tie.close
     (tie.spec
     enum_told

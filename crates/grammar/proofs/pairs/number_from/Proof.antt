@@ -7,5 +7,5 @@ use Rattle.grammar.proofs.pairs.number_from.Tie as tie
 returns-2 : tie.Need-returns-2
 returns-2 c = number_past _ _ c.if1.false
 
-pub number-from-spec : {M : Type 1} → statement M
-number-from-spec = tie.close (tie.spec (λ c κs. search rules) (λ c. search rules) returns-2)
+pub number_from_spec : {M : Type 1} → statement M
+number_from_spec = tie.close (tie.spec (λ c κs. search rules) (λ c. search rules) returns-2)

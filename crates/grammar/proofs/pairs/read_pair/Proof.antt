@@ -27,8 +27,8 @@ returns-2 : tie.Need-returns-2
 unfolding pair_read
 returns-2 c = (rw c.if1.false, search rules)
 
-pub read-pair-spec : {M : Type 1} → statement M
-read-pair-spec =
+pub read_pair_spec : {M : Type 1} → statement M
+read_pair_spec =
     tie.close
     (tie.spec
     (λ c. search rules)

@@ -88,8 +88,8 @@ returns-18 c =
     let k = when (ltb a.store (record_length (cells_for a.x.size) config_width)) 1 in
     rw (c.before.enum-told10.given.1, either_same (eqb k 0) Nothing) c.save.ensures
 
-pub decide-spec : {M : Type 1} → statement M
-decide-spec =
+pub decide_spec : {M : Type 1} → statement M
+decide_spec =
     tie.close
     (tie.spec
     (λ c. search rules)

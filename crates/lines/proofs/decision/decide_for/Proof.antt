@@ -19,8 +19,8 @@ returns-3 : tie.Need-returns-3
 unfolding decision_for
 returns-3 c = rw c.before.before.p.given.1 c.decide.ensures
 
-pub decide-for-spec : {M : Type 1} → statement M
-decide-for-spec =
+pub decide_for_spec : {M : Type 1} → statement M
+decide_for_spec =
     tie.close
     (tie.spec
     enum_told

@@ -6,6 +6,6 @@ use Rattle.lines.proofs.decision.judged.Tie as tie
 returns : tie.Need-returns
 returns c = cc
 
-pub judged-spec : {M : Type 1} → statement M
-judged-spec =
+pub judged_spec : {M : Type 1} → statement M
+judged_spec =
     tie.close (tie.spec (λ c κs. search rules) (λ c κs. search rules) (λ c κs. search rules) (λ c κs. search rules) returns)

@@ -9,5 +9,5 @@ returns c = rw (eq-eqb _ 0 c.if1.true)
 returns-2 : tie.Need-returns-2
 returns-2 c = rw (ne_eqb _ 0 c.if1.false)
 
-pub or-else-spec : {M : Type 1} → statement M
-or-else-spec = tie.close (tie.spec returns returns-2)
+pub or_else_spec : {M : Type 1} → statement M
+or_else_spec = tie.close (tie.spec returns returns-2)

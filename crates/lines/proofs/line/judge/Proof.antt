@@ -23,6 +23,6 @@ returns-2 c =
     (c.decide-for.ensures
     ∙ ap₂ (λ (y : Context) (q : Parsed). decision_for (cells_for y.size) y a.store q) x.context-of.ensures p.parse-line.ensures)
 
-pub judge-spec : {M : Type 1} → statement M
-judge-spec =
+pub judge_spec : {M : Type 1} → statement M
+judge_spec =
     tie.close (tie.spec (λ c κs. search rules) returns (λ c κs. search rules) (λ c κs. search rules) (λ c κs. search rules) returns-2)

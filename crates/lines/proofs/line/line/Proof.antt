@@ -24,8 +24,8 @@ returns c =
       put.1.1,
     )
 
-pub line-spec : {M : Type 1} → statement M
-line-spec =
+pub line_spec : {M : Type 1} → statement M
+line_spec =
     tie.close
     (tie.spec
     (λ c κs. search rules)

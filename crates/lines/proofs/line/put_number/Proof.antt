@@ -10,5 +10,5 @@ returns c =
     let s = c.before.before.before.before.before.before.before in
     (whole.0, (whole.1.0, omega (arith, whole.1.1, s.requires)))
 
-pub put-number-spec : {M : Type 1} → statement M
-put-number-spec = tie.close (tie.spec (λ c. search rules) (λ c κs. search rules) (λ c. search rules) returns)
+pub put_number_spec : {M : Type 1} → statement M
+put_number_spec = tie.close (tie.spec (λ c. search rules) (λ c κs. search rules) (λ c. search rules) returns)

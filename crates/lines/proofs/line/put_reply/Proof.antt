@@ -23,8 +23,8 @@ returns-3 : tie.Need-returns-3
 unfolding reply_of
 returns-3 c = rw (ne_eqb _ _ c.before.before.before.before.before.if1.false) c.before.before.put-number2.ensures
 
-pub put-reply-spec : {M : Type 1} → statement M
-put-reply-spec =
+pub put_reply_spec : {M : Type 1} → statement M
+put_reply_spec =
     tie.close
     (tie.spec
     (λ c. search rules)

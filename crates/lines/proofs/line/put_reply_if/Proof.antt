@@ -16,5 +16,5 @@ returns-2 c =
     let z = c.before.before.before.before in
     rw (le-ltb (length z.before.before.args.reply.now) shortest_reply z.if1.false) c.before.before.put-reply.ensures
 
-pub put-reply-if-spec : {M : Type 1} → statement M
-put-reply-if-spec = tie.close (tie.spec returns (λ c κs. search rules) (λ c. search rules) returns-2)
+pub put_reply_if_spec : {M : Type 1} → statement M
+put_reply_if_spec = tie.close (tie.spec returns (λ c κs. search rules) (λ c. search rules) returns-2)

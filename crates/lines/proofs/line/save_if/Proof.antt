@@ -9,5 +9,5 @@ returns c = rw c.before.before.before.before.if1.true c.before.before.save.ensur
 returns-2 : tie.Need-returns-2
 returns-2 c = rw c.if1.false
 
-pub save-if-spec : {M : Type 1} → statement M
-save-if-spec = tie.close (tie.spec (λ c κs. search rules) (λ c. search rules) returns returns-2)
+pub save_if_spec : {M : Type 1} → statement M
+save_if_spec = tie.close (tie.spec (λ c κs. search rules) (λ c. search rules) returns returns-2)

@@ -8,5 +8,5 @@ use Rattle.lines.proofs.reads.alone.Tie as tie
 returns : tie.Need-returns
 returns c = rw c.slot-index.ensures (alone-index c.before.args.s)
 
-pub alone-spec : {M : Type 1} → statement M
-alone-spec = tie.close (tie.spec (λ c κs. search rules) returns)
+pub alone_spec : {M : Type 1} → statement M
+alone_spec = tie.close (tie.spec (λ c κs. search rules) returns)

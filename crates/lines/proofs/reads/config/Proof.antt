@@ -12,7 +12,7 @@ returns : tie.Need-returns
 unfolding decision refusal change_for response_to
 returns c = cc (either_same (eqb c.before.before.when.result 0) Nothing)
 
-pub config-spec : {M : Type 1} → statement M
-config-spec =
+pub config_spec : {M : Type 1} → statement M
+config_spec =
     tie.close
     (tie.spec (λ c κs. search rules) (λ c κs. search rules) (λ c κs. search rules) (λ c κs. search rules) returns)

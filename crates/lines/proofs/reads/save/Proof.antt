@@ -6,5 +6,5 @@ use Rattle.lines.proofs.reads.save.Tie as tie
 returns : tie.Need-returns
 returns c = cc
 
-pub save-spec : {M : Type 1} → statement M
-save-spec = tie.close (tie.spec (λ c κs. search rules) (λ c κs. search rules) returns)
+pub save_spec : {M : Type 1} → statement M
+save_spec = tie.close (tie.spec (λ c κs. search rules) (λ c κs. search rules) returns)

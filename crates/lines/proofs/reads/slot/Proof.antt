@@ -12,8 +12,8 @@ returns : tie.Need-returns
 unfolding decision refusal change_for response_to
 returns c = cc (either_same (eqb c.before.before.before.or_else.result 0) Nothing)
 
-pub slot-spec : {M : Type 1} → statement M
-slot-spec =
+pub slot_spec : {M : Type 1} → statement M
+slot_spec =
     tie.close
     (tie.spec
     (λ c κs. search rules)

@@ -27,8 +27,8 @@ returns-5 : tie.Need-returns-5
 unfolding slot_index
 returns-5 c = rw c.enum-told5.given.1
 
-pub slot-index-spec : {M : Type 1} → statement M
-slot-index-spec =
+pub slot_index_spec : {M : Type 1} → statement M
+slot_index_spec =
     tie.close
     (tie.spec
     enum_told

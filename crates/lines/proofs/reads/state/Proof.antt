@@ -12,8 +12,8 @@ returns : tie.Need-returns
 unfolding decision refusal change_for response_to
 returns c = cc (either_same (eqb c.before.before.or_else.result 0) Nothing)
 
-pub state-spec : {M : Type 1} → statement M
-state-spec =
+pub state_spec : {M : Type 1} → statement M
+state_spec =
     tie.close
     (tie.spec
     (λ c κs. search rules)

@@ -11,5 +11,5 @@ returns c =
     let p = c.before.before.args.p in
     c.any-given.ensures ∙ ap (λ (s : Slots). any_given p.given s.x s.y s.z s.f) c.before.bad-addresses.ensures
 
-pub any-bad-address-spec : {M : Type 1} → statement M
-any-bad-address-spec = tie.close (tie.spec (λ c κs. search rules) (λ c κs. search rules) returns)
+pub any_bad_address_spec : {M : Type 1} → statement M
+any_bad_address_spec = tie.close (tie.spec (λ c κs. search rules) (λ c κs. search rules) returns)

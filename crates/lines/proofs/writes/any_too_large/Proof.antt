@@ -6,8 +6,8 @@ use Rattle.lines.proofs.writes.any_too_large.Tie as tie
 returns : tie.Need-returns
 returns c = cc
 
-pub any-too-large-spec : {M : Type 1} → statement M
-any-too-large-spec =
+pub any_too_large_spec : {M : Type 1} → statement M
+any_too_large_spec =
     tie.close
     (tie.spec
     (λ c κs. search rules)

@@ -9,8 +9,8 @@ returns : tie.Need-returns
 unfolding decision refusal change_for response_to
 returns c = cc
 
-pub slots-number-spec : {M : Type 1} → statement M
-slots-number-spec =
+pub slots_number_spec : {M : Type 1} → statement M
+slots_number_spec =
     tie.close
     (tie.spec
     (λ c κs. search rules)

@@ -27,8 +27,8 @@ returns-2 c =
     rw c.before.before.before.before.if1.false
     (cc (same-decided _ (Source _) (Source v) silent (λ z. ap Source (mod-eq_of_lt (address-fits _ v (judged-none v _ 10 z).1)))))
 
-pub to-config-spec : {M : Type 1} → statement M
-to-config-spec =
+pub to_config_spec : {M : Type 1} → statement M
+to_config_spec =
     tie.close
     (tie.spec
     (λ c κs. search rules)

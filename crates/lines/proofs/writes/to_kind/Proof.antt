@@ -30,8 +30,8 @@ returns-2 c =
     ap ConnectorKind (mod-eq_of_lt (connector-fits v (judged-none v (bad_connector_type v) 6 (none_of first _ z).0).1)) in
     rw c.before.before.before.before.before.before.before.if1.false (cc (same-decided k (ConnectorKind (v % 256)) (ConnectorKind v) silent fits))
 
-pub to-kind-spec : {M : Type 1} → statement M
-to-kind-spec =
+pub to_kind_spec : {M : Type 1} → statement M
+to_kind_spec =
     tie.close
     (tie.spec
     (λ c κs. search rules)

@@ -15,6 +15,6 @@ returns c =
     cc (same-decided _ (Pointer _) (Pointer v) silent
     (λ z. ap Pointer (mod-eq_of_lt (place-fits _ v (cells-most c.before.before.before.before.args.size) (judged-none v _ 4 z).1))))
 
-pub to-place-spec : {M : Type 1} → statement M
-to-place-spec =
+pub to_place_spec : {M : Type 1} → statement M
+to_place_spec =
     tie.close (tie.spec (λ c κs. search rules) (λ c κs. search rules) (λ c κs. search rules) (λ c κs. search rules) returns)

@@ -9,8 +9,8 @@ returns : tie.Need-returns
 unfolding decision refusal change_for response_to
 returns c = cc
 
-pub to-preset-spec : {M : Type 1} → statement M
-to-preset-spec =
+pub to_preset_spec : {M : Type 1} → statement M
+to_preset_spec =
     tie.close
     (tie.spec
     (λ c κs. search rules)

@@ -25,8 +25,8 @@ returns c =
     ap Slots (wires-fit (cells_for x.size) p (last_none unused (any_bad_address (cells_for x.size) p) 10 (none_of first _ z).1)) in
     cc (same-decided k (Slots (cut_wires p)) (Slots (wires_of p)) silent fits)
 
-pub to-slots-spec : {M : Type 1} → statement M
-to-slots-spec =
+pub to_slots_spec : {M : Type 1} → statement M
+to_slots_spec =
     tie.close
     (tie.spec
     (λ c κs. search rules)

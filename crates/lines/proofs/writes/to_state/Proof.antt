@@ -23,8 +23,8 @@ returns c =
     ap State (mod-eq_of_lt (number_fits v (judged-none v (not a.x.at_cell) 5 (none_of first _ z).0).0)) in
     cc (same-decided k (State (v % 4294967296)) (State v) silent fits)
 
-pub to-state-spec : {M : Type 1} → statement M
-to-state-spec =
+pub to_state_spec : {M : Type 1} → statement M
+to_state_spec =
     tie.close
     (tie.spec
     (λ c κs. search rules)

@@ -13,6 +13,6 @@ returns c =
     let v = c.before.before.before.before.args.v in
     cc (same-decided _ (Trigger _) (Trigger v) silent (λ z. ap Trigger (mod-eq_of_lt (clock-fits v (judged-none v _ 6 z).1))))
 
-pub to-trigger-spec : {M : Type 1} → statement M
-to-trigger-spec =
+pub to_trigger_spec : {M : Type 1} → statement M
+to_trigger_spec =
     tie.close (tie.spec (λ c κs. search rules) (λ c κs. search rules) (λ c κs. search rules) (λ c κs. search rules) returns)

@@ -9,5 +9,5 @@ returns c = rw c.before.if1.true c.low8.ensures
 returns-2 : tie.Need-returns-2
 returns-2 c = rw c.if1.false
 
-pub wire-spec : {M : Type 1} → statement M
-wire-spec = tie.close (tie.spec (λ c κs. search rules) returns returns-2)
+pub wire_spec : {M : Type 1} → statement M
+wire_spec = tie.close (tie.spec (λ c κs. search rules) returns returns-2)

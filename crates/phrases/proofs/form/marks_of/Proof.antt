@@ -15,8 +15,8 @@ decreases-loop text m₀ i₀ m i = length text - i
 loop-again : tie.Need-loop-preserved invariant-loop decreases-loop
 loop-again c = omega arith
 
-pub marks-of-spec : {M : Type 1} → statement M
-marks-of-spec =
+pub marks_of_spec : {M : Type 1} → statement M
+marks_of_spec =
     tie.close
     (tie.spec
     invariant-loop

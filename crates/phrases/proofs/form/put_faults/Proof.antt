@@ -14,7 +14,7 @@ decreases-loop out₀ at set n₀ fault₀ out n fault = 20 - fault
 loop-again : tie.Need-loop-preserved invariant-loop decreases-loop
 loop-again c = omega arith
 
-pub put-faults-spec : {M : Type 1} → statement M
-put-faults-spec =
+pub put_faults_spec : {M : Type 1} → statement M
+put_faults_spec =
     tie.close
     (tie.spec invariant-loop decreases-loop (λ c. search rules) (λ c κs. search rules) (λ c. search rules) (λ c. search rules) loop-again (λ c. search rules))

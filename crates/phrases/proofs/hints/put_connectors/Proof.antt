@@ -14,8 +14,8 @@ decreases-loop out₀ at first rows then card n₀ k₀ out n k = 16 - k
 loop-again : tie.Need-loop-preserved invariant-loop decreases-loop
 loop-again c = omega arith
 
-pub put-connectors-spec : {M : Type 1} → statement M
-put-connectors-spec =
+pub put_connectors_spec : {M : Type 1} → statement M
+put_connectors_spec =
     tie.close
     (tie.spec
     invariant-loop

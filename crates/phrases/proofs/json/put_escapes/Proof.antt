@@ -15,8 +15,8 @@ decreases-loop out₀ at text n₀ i₀ out n i = length text - i
 loop-again : tie.Need-loop-preserved invariant-loop decreases-loop
 loop-again c = omega arith
 
-pub put-escapes-spec : {M : Type 1} → statement M
-put-escapes-spec =
+pub put_escapes_spec : {M : Type 1} → statement M
+put_escapes_spec =
     tie.close
     (tie.spec
     invariant-loop

@@ -12,8 +12,8 @@ invariant-loop table k start₀ i₀ start i = (start ≤ length table) × (i �
 abbrev decreases-loop : tie.decreases-loop
 decreases-loop table k start₀ i₀ start i = k - i
 
-pub entry-start-spec : {M : Type 1} → statement M
-entry-start-spec =
+pub entry_start_spec : {M : Type 1} → statement M
+entry_start_spec =
     tie.close
     (tie.spec
     invariant-loop

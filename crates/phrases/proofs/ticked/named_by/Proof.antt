@@ -14,8 +14,8 @@ decreases-loop count found set₀ i₀ set i = count - i
 loop-again : tie.Need-loop-preserved invariant-loop decreases-loop
 loop-again c = omega arith
 
-pub named-by-spec : {M : Type 1} → statement M
-named-by-spec =
+pub named_by_spec : {M : Type 1} → statement M
+named_by_spec =
     tie.close
     (tie.spec
     invariant-loop

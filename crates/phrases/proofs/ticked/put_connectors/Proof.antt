@@ -15,8 +15,8 @@ decreases-loop out₀ at attached drove drives before now connectors n₀ k₀ o
 loop-again : tie.Need-loop-preserved invariant-loop decreases-loop
 loop-again c = omega arith
 
-pub put-connectors-spec : {M : Type 1} → statement M
-put-connectors-spec =
+pub put_connectors_spec : {M : Type 1} → statement M
+put_connectors_spec =
     tie.close
     (tie.spec
     invariant-loop

@@ -14,8 +14,8 @@ decreases-loop set before now count cells still₀ i₀ still i = count - i
 loop-again : tie.Need-loop-preserved invariant-loop decreases-loop
 loop-again c = omega arith
 
-pub still-of-spec : {M : Type 1} → statement M
-still-of-spec =
+pub still_of_spec : {M : Type 1} → statement M
+still_of_spec =
     tie.close
     (tie.spec
     invariant-loop

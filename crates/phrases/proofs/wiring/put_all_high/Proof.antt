@@ -14,7 +14,7 @@ decreases-loop out₀ at levels from to n₀ k₀ out n k = to - k
 loop-again : tie.Need-loop-preserved invariant-loop decreases-loop
 loop-again c = omega arith
 
-pub put-all-high-spec : {M : Type 1} → statement M
-put-all-high-spec =
+pub put_all_high_spec : {M : Type 1} → statement M
+put_all_high_spec =
     tie.close
     (tie.spec invariant-loop decreases-loop (λ c. search rules) (λ c κs. search rules) (λ c. search rules) (λ c. search rules) loop-again (λ c. search rules))

@@ -15,8 +15,8 @@ decreases-loop out₀ at rows before after n₀ i₀ out n i = cell_room - i
 loop-again : tie.Need-loop-preserved invariant-loop decreases-loop
 loop-again c = omega arith
 
-pub put-cells-spec : {M : Type 1} → statement M
-put-cells-spec =
+pub put_cells_spec : {M : Type 1} → statement M
+put_cells_spec =
     tie.close
     (tie.spec
     invariant-loop

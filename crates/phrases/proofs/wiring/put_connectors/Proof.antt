@@ -23,8 +23,8 @@ array-copy-out-put-changed-connector-2 c = search rules
 loop-again : tie.Need-loop-preserved invariant-loop decreases-loop
 loop-again c = omega arith
 
-pub put-connectors-spec : {M : Type 1} → statement M
-put-connectors-spec =
+pub put_connectors_spec : {M : Type 1} → statement M
+put_connectors_spec =
     tie.close
     (tie.spec
     invariant-loop

@@ -15,7 +15,7 @@ decreases-loop out₀ at rows set n₀ i₀ out n i = cell_room - i
 loop-again : tie.Need-loop-preserved invariant-loop decreases-loop
 loop-again c = omega arith
 
-pub put-members-spec : {M : Type 1} → statement M
-put-members-spec =
+pub put_members_spec : {M : Type 1} → statement M
+put_members_spec =
     tie.close
     (tie.spec invariant-loop decreases-loop (λ c. search rules) (λ c κs. search rules) (λ c. search rules) (λ c. search rules) loop-again (λ c. search rules))

@@ -9,8 +9,8 @@ invariant-loop out₀ card ticks p low head n rows w₀ start₀ y₀ out w star
 abbrev decreases-loop : tie.decreases-loop
 decreases-loop out₀ card ticks p low head n rows w₀ start₀ y₀ out w start y = n - start
 
-pub put-strips-spec : {M : Type 1} → statement M
-put-strips-spec =
+pub put_strips_spec : {M : Type 1} → statement M
+put_strips_spec =
     tie.close
     (tie.spec
     invariant-loop

@@ -9,8 +9,8 @@ invariant-loop cells set₀ i₀ set i = i ≤ 32
 abbrev decreases-loop : tie.decreases-loop
 decreases-loop cells set₀ i₀ set i = 32 - i
 
-pub by-cells-spec : {M : Type 1} → statement M
-by-cells-spec =
+pub by_cells_spec : {M : Type 1} → statement M
+by_cells_spec =
     tie.close
     (tie.spec
     invariant-loop

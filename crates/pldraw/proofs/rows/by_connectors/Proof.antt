@@ -9,8 +9,8 @@ invariant-loop connectors set₀ k₀ set k = k ≤ 16
 abbrev decreases-loop : tie.decreases-loop
 decreases-loop connectors set₀ k₀ set k = 16 - k
 
-pub by-connectors-spec : {M : Type 1} → statement M
-by-connectors-spec =
+pub by_connectors_spec : {M : Type 1} → statement M
+by_connectors_spec =
     tie.close
     (tie.spec
     invariant-loop

@@ -10,6 +10,6 @@ invariant-loop line ok₀ j₀ ok j = j ≤ 14
 abbrev decreases-loop : tie.decreases-loop
 decreases-loop line ok₀ j₀ ok j = 14 - j
 
-pub others-ok-spec : {M : Type 1} → statement M
-others-ok-spec =
+pub others_ok_spec : {M : Type 1} → statement M
+others_ok_spec =
     tie.close (tie.spec invariant-loop decreases-loop (λ c. search rules) (λ c. search rules) (λ c. search rules) (λ c κs. search rules) (λ c. search rules) (λ c. search rules) (λ c. search rules) (λ c. search rules))

@@ -12,8 +12,8 @@ invariant-loop line from bytes₀ dash ok₀ i₀ bytes ok i = (i ≤ 320) × (l
 abbrev decreases-loop : tie.decreases-loop
 decreases-loop line from bytes₀ dash ok₀ i₀ bytes ok i = 320 - i
 
-pub record-at-spec : {M : Type 1} → statement M
-record-at-spec =
+pub record_at_spec : {M : Type 1} → statement M
+record_at_spec =
     tie.close
     (tie.spec
     invariant-loop

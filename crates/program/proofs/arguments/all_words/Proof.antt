@@ -11,8 +11,8 @@ invariant-loop help takes w₀ place₀ t5 t6 place_end w place = w.from < most_
 abbrev decreases-loop : tie.decreases-loop
 decreases-loop help takes w₀ place₀ t5 t6 place_end w place = place_end - place
 
-pub all-words-spec : {M : Type 1} → statement M
-all-words-spec =
+pub all_words_spec : {M : Type 1} → statement M
+all_words_spec =
     tie.close
     (tie.spec
     invariant-loop

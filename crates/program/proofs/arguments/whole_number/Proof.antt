@@ -11,5 +11,5 @@ returns c =
     let n = c.before.before.number_at.ensures in
     (rw (← n), rw n (number_small _ 0))
 
-pub whole-number-spec : {M : Type 1} → statement M
-whole-number-spec = tie.close (tie.spec (λ c κs. search rules) returns)
+pub whole_number_spec : {M : Type 1} → statement M
+whole_number_spec = tie.close (tie.spec (λ c κs. search rules) returns)

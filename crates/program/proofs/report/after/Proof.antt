@@ -27,8 +27,8 @@ returns-3 c =
     rw (ne_eqb _ _ other.before.before.if1.false, ne_eqb _ _ other.if2.false)
     (λ i. record { lines = lines i; refused = refused i; number = r.number; k = r.k; line = r.line; rest = r.rest })
 
-pub after-spec : {M : Type 1} → statement M
-after-spec =
+pub after_spec : {M : Type 1} → statement M
+after_spec =
     tie.close
     (tie.spec
     (λ c κs. search rules)

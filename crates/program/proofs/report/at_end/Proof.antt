@@ -9,5 +9,5 @@ returns c =
     let r = c.before.before.before.args.report in
     λ i. record { lines = r.lines; refused = r.refused; number = r.number; k = r.k; line = r.line; rest = t i }
 
-pub at-end-spec : {M : Type 1} → statement M
-at-end-spec = tie.close (tie.spec (λ c κs. search rules) returns)
+pub at_end_spec : {M : Type 1} → statement M
+at_end_spec = tie.close (tie.spec (λ c κs. search rules) returns)

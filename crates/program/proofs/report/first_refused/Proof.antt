@@ -12,6 +12,6 @@ returns c =
     let refused = c.one-more2.ensures in
     λ i. record { lines = lines i; refused = refused i; number = lines i; k = k; line = text i; rest = r.rest }
 
-pub first-refused-spec : {M : Type 1} → statement M
-first-refused-spec =
+pub first_refused_spec : {M : Type 1} → statement M
+first_refused_spec =
     tie.close (tie.spec (λ c κs. search rules) (λ c κs. search rules) (λ c κs. search rules) returns)

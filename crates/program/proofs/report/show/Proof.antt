@@ -12,8 +12,8 @@ invariant-loop bytes₀ i₀ bytes i = (i ≤ length bytes₀) × (length bytes 
 abbrev decreases-loop : tie.decreases-loop
 decreases-loop bytes₀ i₀ bytes i = length bytes₀ - i
 
-pub show-spec : {M : Type 1} → statement M
-show-spec =
+pub show_spec : {M : Type 1} → statement M
+show_spec =
     tie.close
     (tie.spec
     invariant-loop

@@ -21,8 +21,8 @@ returns c =
     let bytes = w.copy.ensures.0 ∙ ap (λ (k : ℕ). sets (replicate kept 0) 0 (take k line)) (n ∙ e) in
     λ i. record { bytes = bytes i; len = e i }
 
-pub text-of-spec : {M : Type 1} → statement M
-text-of-spec =
+pub text_of_spec : {M : Type 1} → statement M
+text_of_spec =
     tie.close
     (tie.spec
     (λ c κs. search rules)

@@ -72,8 +72,8 @@ returns-2 c =
       put.1.1,
     )
 
-pub line-in-spec : {M : Type 1} → statement M
-line-in-spec =
+pub line_in_spec : {M : Type 1} → statement M
+line_in_spec =
     tie.close
     (tie.spec
     (λ c κs. search rules)

@@ -19,5 +19,5 @@ returns-3 c =
     let i = c.before.before.before in
     rw (i.if1.false, ap (λ (v : Bool). eqb i.before.args.k 0 && v) (sym c.before.over.ensures) ∙ c.if2.false)
 
-pub refusal-in-spec : {M : Type 1} → statement M
-refusal-in-spec = tie.close (tie.spec returns (λ c κs. search rules) returns-2 returns-3)
+pub refusal_in_spec : {M : Type 1} → statement M
+refusal_in_spec = tie.close (tie.spec returns (λ c κs. search rules) returns-2 returns-3)

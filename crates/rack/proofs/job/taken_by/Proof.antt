@@ -14,5 +14,5 @@ returns c =
       draws = a.p.draws;
     }
 
-pub taken-by-spec : {M : Type 1} → statement M
-taken-by-spec = tie.close (tie.spec (λ c κs. search rules) returns)
+pub taken_by_spec : {M : Type 1} → statement M
+taken_by_spec = tie.close (tie.spec (λ c κs. search rules) returns)

@@ -8,5 +8,5 @@ returns : tie.Need-returns
 unfolding acting
 returns c = λ i. numbered c.before.before.before.before.before.args.p (c.refused-if.ensures i) 0
 
-pub acting-spec : {M : Type 1} → statement M
-acting-spec = tie.close (tie.spec (λ c. search rules) (λ c κs. search rules) returns)
+pub acting_spec : {M : Type 1} → statement M
+acting_spec = tie.close (tie.spec (λ c. search rules) (λ c κs. search rules) returns)

@@ -14,5 +14,5 @@ returns-2 c =
     let past = c.if1.false in
     sym (get_or-eq_default a.t1 no_front (omega (arith, long, past)))
 
-pub front-at-spec : {M : Type 1} → statement M
-front-at-spec = tie.close (tie.spec (λ c. search rules) (λ c. search rules) (λ c. search rules) returns-2)
+pub front_at_spec : {M : Type 1} → statement M
+front_at_spec = tie.close (tie.spec (λ c. search rules) (λ c. search rules) (λ c. search rules) returns-2)

@@ -12,6 +12,6 @@ returns c =
     λ i. let front = f.front_at.ensures i in
     record { code = a.input.code; sample = a.input.sample * 256 + front.sample; attached = a.input.attached * 256 + front.attached }
 
-pub input-for-spec : {M : Type 1} → statement M
-input-for-spec = tie.close (tie.spec (λ c κs. search rules) (λ c. search rules) (λ c. search rules) (λ c. search rules) (λ c. search rules)
+pub input_for_spec : {M : Type 1} → statement M
+input_for_spec = tie.close (tie.spec (λ c κs. search rules) (λ c. search rules) (λ c. search rules) (λ c. search rules) (λ c. search rules)
     (λ c. search rules) (λ c. search rules) (λ c. search rules) (λ c. search rules) returns)

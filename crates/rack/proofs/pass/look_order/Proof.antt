@@ -9,5 +9,5 @@ use Rattle.rack.proofs.pass.look_order.Tie as tie
 returns : tie.Need-returns
 returns c = c.order.ensures ∙ ap (order looks false) c.before.no-input.ensures
 
-pub look-order-spec : {M : Type 1} → statement M
-look-order-spec = tie.close (tie.spec (λ c κs. search rules) (λ c κs. search rules) returns)
+pub look_order_spec : {M : Type 1} → statement M
+look_order_spec = tie.close (tie.spec (λ c κs. search rules) (λ c κs. search rules) returns)

@@ -9,5 +9,5 @@ use Rattle.rack.proofs.pass.look_pass.Tie as tie
 returns : tie.Need-returns
 returns c = c.looking.ensures ∙ ap (λ (o : Pass). looking o c.before.before.args.n) c.before.look-order.ensures
 
-pub look-pass-spec : {M : Type 1} → statement M
-look-pass-spec = tie.close (tie.spec (λ c κs. search rules) (λ c κs. search rules) returns)
+pub look_pass_spec : {M : Type 1} → statement M
+look_pass_spec = tie.close (tie.spec (λ c κs. search rules) (λ c κs. search rules) returns)

@@ -10,5 +10,5 @@ returns c =
     let p = c.before.args.p in
     λ i. numbered p (c.refused-if.ensures i) p.at
 
-pub looking-spec : {M : Type 1} → statement M
-looking-spec = tie.close (tie.spec (λ c κs. search rules) returns)
+pub looking_spec : {M : Type 1} → statement M
+looking_spec = tie.close (tie.spec (λ c κs. search rules) returns)

@@ -14,5 +14,5 @@ returns-2 c =
     let past = c.if1.false in
     sym (set_past a.answers a.at a.v (omega (arith, long, past)))
 
-pub put-answer-spec : {M : Type 1} → statement M
-put-answer-spec = tie.close (tie.spec (λ c. search rules) (λ c. search rules) (λ c. search rules) returns-2)
+pub put_answer_spec : {M : Type 1} → statement M
+put_answer_spec = tie.close (tie.spec (λ c. search rules) (λ c. search rules) (λ c. search rules) returns-2)

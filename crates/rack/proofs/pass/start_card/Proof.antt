@@ -22,5 +22,5 @@ returns c =
     })
     c.fresh.ensures
 
-pub start-card-spec : {M : Type 1} → statement M
-start-card-spec = tie.close (tie.spec (λ c κs. search rules) returns)
+pub start_card_spec : {M : Type 1} → statement M
+start_card_spec = tie.close (tie.spec (λ c κs. search rules) returns)

@@ -9,5 +9,5 @@ use Rattle.rack.proofs.pass.start_order.Tie as tie
 returns : tie.Need-returns
 returns c = c.order.ensures ∙ ap (order starts false) c.before.no-input.ensures
 
-pub start-order-spec : {M : Type 1} → statement M
-start-order-spec = tie.close (tie.spec (λ c κs. search rules) (λ c κs. search rules) returns)
+pub start_order_spec : {M : Type 1} → statement M
+start_order_spec = tie.close (tie.spec (λ c κs. search rules) (λ c κs. search rules) returns)

@@ -35,5 +35,5 @@ returns c =
       };
     }
 
-pub ticked-spec : {M : Type 1} → statement M
-ticked-spec = tie.close (tie.spec (λ c κs. search rules) (λ c κs. search rules) (λ c κs. search rules) (λ c κs. search rules) returns)
+pub ticked_spec : {M : Type 1} → statement M
+ticked_spec = tie.close (tie.spec (λ c κs. search rules) (λ c κs. search rules) (λ c κs. search rules) (λ c κs. search rules) returns)

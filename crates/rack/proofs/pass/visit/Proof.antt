@@ -20,5 +20,5 @@ returns-3 : tie.Need-returns-3
 unfolding visit_by
 returns-3 c = rw (c.before.before.before.if1.false, c.if2.false)
 
-pub visit-spec : {M : Type 1} → statement M
-visit-spec = tie.close (tie.spec (λ c κs. search rules) returns (λ c κs. search rules) returns-2 returns-3)
+pub visit_spec : {M : Type 1} → statement M
+visit_spec = tie.close (tie.spec (λ c κs. search rules) returns (λ c κs. search rules) returns-2 returns-3)

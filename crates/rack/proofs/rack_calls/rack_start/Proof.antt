@@ -110,9 +110,9 @@ module _ {M : Type 1} {𝓤 : Ura M} (𝓛 : Logic 𝓤) (at_mem : Memory → SP
       walk_Meets 𝓛 f.ended stayed (Goes-slice 𝓛 1 0 tt (plain (λ _. R')), tt) (f.clauses 𝓛 at_mem run)
       (WpFn 𝓤 H 𝓣.C 𝓣.Λ f.Code.function) (WpFn-mono 𝓤 H 𝓛.laws 𝓣 f.Code.function) rack-start-walks
 
-pub rack-start-spec : {M : Type 1} → f.Statement.statement M
+pub rack_start_spec : {M : Type 1} → f.Statement.statement M
 unfolding f.Code.routine tables_of
-rack-start-spec 𝓤 𝓛 𝓜 𝓡 =
+rack_start_spec 𝓤 𝓛 𝓜 𝓡 =
     entered 𝓤 𝓛.H (triple_of 𝓛 f.signature (f.spec 𝓛 𝓜.mem 𝓡.run))
     (tables 𝓤 𝓛.H 𝓜 𝓡 f.Code.env).C (tables 𝓤 𝓛.H 𝓜 𝓡 f.Code.env).Λ f.Key.name f.Code.function (f.Code.unfolded 𝓤 𝓛.H 𝓜 𝓡)
     (rack-start-meets 𝓛 𝓜.mem 𝓡.run (tables_of 𝓤 𝓛.H 𝓜 (tables 𝓤 𝓛.H 𝓜 𝓡 f.Code.env))

@@ -125,9 +125,9 @@ module _ {M : Type 1} {𝓤 : Ura M} (𝓛 : Logic 𝓤) (at_mem : Memory → SP
       ) (f.clauses 𝓛 at_mem run)
       (WpFn 𝓤 H 𝓣.C 𝓣.Λ f.Code.function) (WpFn-mono 𝓤 H 𝓛.laws 𝓣 f.Code.function) rack-tick-walks
 
-pub rack-tick-spec : {M : Type 1} → f.Statement.statement M
+pub rack_tick_spec : {M : Type 1} → f.Statement.statement M
 unfolding f.Code.routine tables_of
-rack-tick-spec 𝓤 𝓛 𝓜 𝓡 =
+rack_tick_spec 𝓤 𝓛 𝓜 𝓡 =
     entered 𝓤 𝓛.H (triple_of 𝓛 f.signature (f.spec 𝓛 𝓜.mem 𝓡.run))
     (tables 𝓤 𝓛.H 𝓜 𝓡 f.Code.env).C (tables 𝓤 𝓛.H 𝓜 𝓡 f.Code.env).Λ f.Key.name f.Code.function (f.Code.unfolded 𝓤 𝓛.H 𝓜 𝓡)
     (rack-tick-meets 𝓛 𝓜.mem 𝓡.run (tables_of 𝓤 𝓛.H 𝓜 (tables 𝓤 𝓛.H 𝓜 𝓡 f.Code.env))

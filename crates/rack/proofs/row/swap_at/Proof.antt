@@ -154,9 +154,9 @@ swap-at-meets {𝓤 = 𝓤} 𝓛 at_mem run 𝓣 =
     ) (f.clauses 𝓛 at_mem run)
     (WpFn 𝓤 𝓛.H 𝓣.C 𝓣.Λ f.Code.function) (WpFn-mono 𝓤 𝓛.H 𝓛.laws 𝓣 f.Code.function) (swap-at-walks 𝓛 at_mem run 𝓣.C 𝓣.Λ)
 
-pub swap-at-spec : {M : Type 1} → f.Statement.statement M
+pub swap_at_spec : {M : Type 1} → f.Statement.statement M
 unfolding f.Code.routine tables_of
-swap-at-spec 𝓤 𝓛 𝓜 𝓡 =
+swap_at_spec 𝓤 𝓛 𝓜 𝓡 =
     entered 𝓤 𝓛.H (triple_of 𝓛 f.signature (f.spec 𝓛 𝓜.mem 𝓡.run))
     (tables 𝓤 𝓛.H 𝓜 𝓡 f.Code.env).C (tables 𝓤 𝓛.H 𝓜 𝓡 f.Code.env).Λ f.Key.name f.Code.function (f.Code.unfolded 𝓤 𝓛.H 𝓜 𝓡)
     (swap-at-meets 𝓛 𝓜.mem 𝓡.run (tables_of 𝓤 𝓛.H 𝓜 (tables 𝓤 𝓛.H 𝓜 𝓡 f.Code.env)))

@@ -64,5 +64,5 @@ returns c =
     (lt_of_le_of_lt (and_le_l a.sample (bit_and backplane (bit_xor a.low 65535))) (search rules))))
     ∙ built-same (bit_at (shown a.own a.sample a.low)) (shared_at a.own a.sample a.low) connector_count (bits a.own a.sample a.low)
 
-pub levels-on-spec : {M : Type 1} → statement M
-levels-on-spec = tie.close (tie.spec returns)
+pub levels_on_spec : {M : Type 1} → statement M
+levels_on_spec = tie.close (tie.spec returns)

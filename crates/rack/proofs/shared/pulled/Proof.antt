@@ -16,5 +16,5 @@ returns-2 : tie.Need-returns-2
 unfolding pulls lines_of
 returns-2 c = rw (eq-eqb _ _ c.before.if1.false) (ap (λ (l : Lines). l.pulled) c.lines_of.ensures)
 
-pub pulled-spec : {M : Type 1} → statement M
-pulled-spec = tie.close (tie.spec returns (λ c κs. search rules) returns-2)
+pub pulled_spec : {M : Type 1} → statement M
+pulled_spec = tie.close (tie.spec returns (λ c κs. search rules) returns-2)

@@ -43,7 +43,7 @@ returns-3 c =
     (c.quick-tick-on.ensures ∙ (λ j. ticked_on (cells_for a.card.size) false a.card
     (record { driven = (own j).driven; pulled = (own j).pulled; levels = levels j })))
 
-pub tick-spec : {M : Type 1} → statement M
-tick-spec = tie.close
+pub tick_spec : {M : Type 1} → statement M
+tick_spec = tie.close
     (tie.spec (λ c κs. search rules) returns (λ c κs. search rules) (λ c κs. search rules) (λ c κs. search rules) (λ c κs. search rules) returns-2
     (λ c κs. search rules) returns-3)

@@ -14,5 +14,5 @@ returns-2 : tie.Need-returns-2
 unfolding draw
 returns-2 c = rw (sym c.before.pushes.ensures, le-ltb c.before.pushes.result share c.if1.false)
 
-pub draw-spec : {M : Type 1} → statement M
-draw-spec = tie.close (tie.spec (λ c κs. search rules) returns returns-2)
+pub draw_spec : {M : Type 1} → statement M
+draw_spec = tie.close (tie.spec (λ c κs. search rules) returns returns-2)

@@ -21,5 +21,5 @@ returns-2 c =
     rw (sym q.before.same-fronts.ensures ∙ q.if1.false)
     (ap (ltb supply) (c.sum.ensures ∙ ap sum_of (p.put-draw.ensures ∙ ap (set a.draws a.at) v.draw.ensures)))
 
-pub over-spec : {M : Type 1} → statement M
-over-spec = tie.close (tie.spec (λ c κs. search rules) returns (λ c κs. search rules) (λ c κs. search rules) (λ c κs. search rules) returns-2)
+pub over_spec : {M : Type 1} → statement M
+over_spec = tie.close (tie.spec (λ c κs. search rules) returns (λ c κs. search rules) (λ c κs. search rules) (λ c κs. search rules) returns-2)

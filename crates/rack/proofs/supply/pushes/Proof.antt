@@ -14,5 +14,5 @@ returns : tie.Need-returns
 unfolding pushes
 returns c = front-ones c.before.args.c
 
-pub pushes-spec : {M : Type 1} → statement M
-pushes-spec = tie.close (tie.spec cast-result returns)
+pub pushes_spec : {M : Type 1} → statement M
+pushes_spec = tie.close (tie.spec cast-result returns)

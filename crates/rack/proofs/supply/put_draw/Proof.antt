@@ -14,5 +14,5 @@ returns-2 c =
     let past = c.if1.false in
     sym (set_past a.draws a.at a.v (omega (arith, long, past)))
 
-pub put-draw-spec : {M : Type 1} → statement M
-put-draw-spec = tie.close (tie.spec (λ c. search rules) (λ c. search rules) returns-2)
+pub put_draw_spec : {M : Type 1} → statement M
+put_draw_spec = tie.close (tie.spec (λ c. search rules) (λ c. search rules) returns-2)

@@ -43,8 +43,8 @@ returns c =
     let end : l.k ≡ front_count = omega arith in
     l.invariant.1 ∙ ap (λ (m : ℕ). same_kinds m args.a args.b) end
 
-pub same-fronts-spec : {M : Type 1} → statement M
-same-fronts-spec =
+pub same_fronts_spec : {M : Type 1} → statement M
+same_fronts_spec =
     tie.close
     (tie.spec
     invariant-loop

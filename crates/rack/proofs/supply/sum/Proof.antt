@@ -14,5 +14,5 @@ returns c =
     let long : length a.t1 ≡ 4 = search rules in
     c.sum-of-four.ensures ∙ ap sum_of (four a.t1 long)
 
-pub sum-spec : {M : Type 1} → statement M
-sum-spec = tie.close (tie.spec (λ c. search rules) (λ c. search rules) (λ c. search rules) (λ c. search rules) (λ c κs. search rules) returns)
+pub sum_spec : {M : Type 1} → statement M
+sum_spec = tie.close (tie.spec (λ c. search rules) (λ c. search rules) (λ c. search rules) (λ c. search rules) (λ c κs. search rules) returns)

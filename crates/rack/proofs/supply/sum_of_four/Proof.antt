@@ -9,5 +9,5 @@ returns : tie.Need-returns
 unfolding sum_of
 returns c = omega arith
 
-pub sum-of-four-spec : {M : Type 1} → statement M
-sum-of-four-spec = tie.close (tie.spec (λ c. search rules) (λ c. search rules) (λ c. search rules) returns)
+pub sum_of_four_spec : {M : Type 1} → statement M
+sum_of_four_spec = tie.close (tie.spec (λ c. search rules) (λ c. search rules) (λ c. search rules) returns)

@@ -15,8 +15,8 @@ returns-6 c = rw (c.before.enum-told5.given.1, c.timer-clock2.ensures)
 returns-7 : tie.Need-returns-7
 returns-7 c = rw (c.before.before.class2.given.1, c.counter-clock.ensures)
 
-pub clock-as-spec : {M : Type 1} → statement M
-clock-as-spec =
+pub clock_as_spec : {M : Type 1} → statement M
+clock_as_spec =
     tie.close
     (tie.spec
     (λ c. search rules)

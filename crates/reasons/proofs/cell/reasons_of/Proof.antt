@@ -26,8 +26,8 @@ returns c =
     let triggers = t.has-triggers.ensures ∙ ap (λ (v : Row). has_triggers v.class) row in
     λ i. reasons_from a.edited (moved i) (now i) (clock i) (triggers i)
 
-pub reasons-of-spec : {M : Type 1} → statement M
-reasons-of-spec =
+pub reasons_of_spec : {M : Type 1} → statement M
+reasons_of_spec =
     tie.close
     (tie.spec
     (λ c κs. search rules)

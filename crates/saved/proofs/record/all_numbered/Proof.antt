@@ -69,8 +69,8 @@ returns c =
     let end : l.i ≡ a.count = omega arith in
     l.invariant.1 ∙ ap (every_below (test a.bytes.now a.start a.step a.tag a.size a.first)) end
 
-pub all-numbered-spec : {M : Type 1} → statement M
-all-numbered-spec =
+pub all_numbered_spec : {M : Type 1} → statement M
+all_numbered_spec =
     tie.close
     (tie.spec
     invariant-loop

@@ -62,8 +62,8 @@ returns : tie.Need-returns
 unfolding cell_in
 returns c = rw c.config-in.ensures
 
-pub cell-in-spec : {M : Type 1} → statement M
-cell-in-spec =
+pub cell_in_spec : {M : Type 1} → statement M
+cell_in_spec =
     tie.close
     (tie.spec
     (λ c. search rules)

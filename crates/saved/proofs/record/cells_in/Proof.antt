@@ -45,8 +45,8 @@ returns c =
     let end : l.i ≡ a.n = omega arith in
     l.invariant.1 ∙ ap (λ (k : ℕ). load_cells k a.width a.bytes.now ++ drop k a.cells) end
 
-pub cells-in-spec : {M : Type 1} → statement M
-cells-in-spec =
+pub cells_in_spec : {M : Type 1} → statement M
+cells_in_spec =
     tie.close
     (tie.spec
     invariant-loop

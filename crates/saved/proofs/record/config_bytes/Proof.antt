@@ -14,5 +14,5 @@ returns c =
     let v = c.args.config in
     λ k. v / 16777216 % 256 ∷ v / 65536 % 256 ∷ v / 256 % 256 ∷ sym (div-one v) k % 256 ∷ []
 
-pub config-bytes-spec : {M : Type 1} → statement M
-config-bytes-spec = tie.close (tie.spec (λ c. search rules) (λ c. search rules) (λ c. search rules) (λ c. search rules) returns)
+pub config_bytes_spec : {M : Type 1} → statement M
+config_bytes_spec = tie.close (tie.spec (λ c. search rules) (λ c. search rules) (λ c. search rules) (λ c. search rules) returns)

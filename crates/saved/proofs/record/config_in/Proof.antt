@@ -49,8 +49,8 @@ returns c =
     let end : l.i ≡ a.width = omega arith in
     l.invariant.1 ∙ ap (λ (k : ℕ). big_value 0 (take k (drop a.at a.bytes.now))) end
 
-pub config-in-spec : {M : Type 1} → statement M
-config-in-spec =
+pub config_in_spec : {M : Type 1} → statement M
+config_in_spec =
     tie.close
     (tie.spec
     invariant-loop

@@ -9,5 +9,5 @@ returns : tie.Need-returns
 unfolding connector_field
 returns c = refl
 
-pub connector-bytes-spec : {M : Type 1} → statement M
-connector-bytes-spec = tie.close (tie.spec (λ c. search rules) returns)
+pub connector_bytes_spec : {M : Type 1} → statement M
+connector_bytes_spec = tie.close (tie.spec (λ c. search rules) returns)

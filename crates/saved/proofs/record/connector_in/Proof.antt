@@ -8,8 +8,8 @@ returns : tie.Need-returns
 unfolding connector_in
 returns c = rw c.before.before.connectors-at.ensures.0
 
-pub connector-in-spec : {M : Type 1} → statement M
-connector-in-spec =
+pub connector_in_spec : {M : Type 1} → statement M
+connector_in_spec =
     tie.close
     (tie.spec
     (λ c κs. search rules)

@@ -15,5 +15,5 @@ add-result-2 c = omega (arith, cells-small c.args.n c.args.width (search rules) 
 returns : tie.Need-returns
 returns c = (refl, omega (arith, cells-small c.args.n c.args.width (search rules) (search rules)))
 
-pub connectors-at-spec : {M : Type 1} → statement M
-connectors-at-spec = tie.close (tie.spec (λ c. search rules) mul-result add-result-2 returns)
+pub connectors_at_spec : {M : Type 1} → statement M
+connectors_at_spec = tie.close (tie.spec (λ c. search rules) mul-result add-result-2 returns)

@@ -37,8 +37,8 @@ returns c =
     let end : l.k ≡ connector_count = omega arith in
     listed-done (connector_in a.n a.width a.bytes.now) connector_count a.connectors l.next (rw end at l.invariant.1) (search rules)
 
-pub connectors-in-spec : {M : Type 1} → statement M
-connectors-in-spec =
+pub connectors_in_spec : {M : Type 1} → statement M
+connectors_in_spec =
     tie.close
     (tie.spec
     invariant-loop

@@ -20,8 +20,8 @@ returns c =
     sets-three a.out.now (trigger_field a.trigger) cells connectors 0 4 _ first.copy.ensures.0 refl put.put-cells.ensures.0
     (omega (arith, put.put-cells.ensures.1, at.connectors-at.ensures.0)) c.before.before.put-connectors.ensures
 
-pub encode-to-spec : {M : Type 1} → statement M
-encode-to-spec =
+pub encode_to_spec : {M : Type 1} → statement M
+encode_to_spec =
     tie.close
     (tie.spec
     (λ c. search rules)

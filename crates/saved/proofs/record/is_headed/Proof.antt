@@ -29,8 +29,8 @@ returns-2 c =
       eq-eqb _ (record_length a.n a.width) (test.if1.false ∙ ap (λ (x : ℕ). x + 96) place),
     )
 
-pub is-headed-spec : {M : Type 1} → statement M
-is-headed-spec =
+pub is_headed_spec : {M : Type 1} → statement M
+is_headed_spec =
     tie.close
     (tie.spec
     (λ c κs. search rules)

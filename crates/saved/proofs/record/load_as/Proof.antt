@@ -90,8 +90,8 @@ returns-3 c =
     (row.from_each.ensures ∙ ap from_each connectors.connectors-in.ensures) edits.all-edited.ensures in
     (c.before.before.started.ensures ∙ same ∙ sym whole, sym n)
 
-pub load-as-spec : {M : Type 1} → statement M
-load-as-spec =
+pub load_as_spec : {M : Type 1} → statement M
+load_as_spec =
     tie.close
     (tie.spec
     (λ c κs. search rules)

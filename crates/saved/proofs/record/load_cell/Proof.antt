@@ -8,5 +8,5 @@ returns : tie.Need-returns
 unfolding normal_cell
 returns c = cc
 
-pub load-cell-spec : {M : Type 1} → statement M
-load-cell-spec = tie.close (tie.spec (λ c κs. search rules) (λ c κs. search rules) returns)
+pub load_cell_spec : {M : Type 1} → statement M
+load_cell_spec = tie.close (tie.spec (λ c κs. search rules) (λ c κs. search rules) returns)

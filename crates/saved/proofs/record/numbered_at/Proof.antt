@@ -15,8 +15,8 @@ returns c =
     let low : a.size % 256 ≡ a.size = omega arith in
     rw (high, low)
 
-pub numbered-at-spec : {M : Type 1} → statement M
-numbered-at-spec =
+pub numbered_at_spec : {M : Type 1} → statement M
+numbered_at_spec =
     tie.close
     (tie.spec
     (λ c. search rules)

@@ -44,8 +44,8 @@ returns c =
     let parts = ap (λ (l : List ℕ). head ++ (l ++ slots)) low ∙ cell_parts a.width a.i a.cell four start.requires.1.0 in
     (stored ∙ ap (sets a.out.now a.at) parts, cell-length a.width a.i a.cell four)
 
-pub put-cell-spec : {M : Type 1} → statement M
-put-cell-spec =
+pub put_cell_spec : {M : Type 1} → statement M
+put_cell_spec =
     tie.close
     (tie.spec
     (λ c. search rules)

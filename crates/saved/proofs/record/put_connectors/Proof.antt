@@ -38,8 +38,8 @@ returns c =
     let all : take l.k connectors ≡ connectors = take_all l.k connectors (search rules) in
     rw all at l.invariant.1
 
-pub put-connectors-spec : {M : Type 1} → statement M
-put-connectors-spec =
+pub put_connectors_spec : {M : Type 1} → statement M
+put_connectors_spec =
     tie.close
     (tie.spec
     invariant-loop

@@ -10,5 +10,5 @@ returns : tie.Need-returns
 returns c =
     ap (λ (x : ℕ). x + 96) c.connectors-at.ensures.0 ∙ ap (λ (m : ℕ). record_length m config_width) c.before.cells-for.ensures.0
 
-pub record-length-spec : {M : Type 1} → statement M
-record-length-spec = tie.close (tie.spec (λ c κs. search rules) (λ c κs. search rules) (λ c. search rules) (λ c. search rules) returns)
+pub record_length_spec : {M : Type 1} → statement M
+record_length_spec = tie.close (tie.spec (λ c κs. search rules) (λ c κs. search rules) (λ c. search rules) (λ c. search rules) returns)

@@ -32,7 +32,7 @@ returns-2 c =
     let room = roomy _ _ _ i.before.record-length.ensures i.if1.false in
     (rw (c.before.before.encode-to.ensures, c.before.before.before.each_of.ensures, z.cells-for.ensures.0, room), rw room)
 
-pub save-spec : {M : Type 1} → statement M
-save-spec =
+pub save_spec : {M : Type 1} → statement M
+save_spec =
     tie.close
     (tie.spec (λ c κs. search rules) (λ c κs. search rules) returns (λ c κs. search rules) (λ c κs. search rules) (λ c. search rules) returns-2)

@@ -28,5 +28,5 @@ returns c = (sym (told _ _ ∙ ap (λ (b : Bool). cond b narrow_width config_wid
 returns-2 : tie.Need-returns-2
 returns-2 c = (sym (told _ _ ∙ ap (λ (b : Bool). cond b narrow_width config_width) c.if1.false), omega arith)
 
-pub width-of-spec : {M : Type 1} → statement M
-width-of-spec = tie.close (tie.spec returns returns-2)
+pub width_of_spec : {M : Type 1} → statement M
+width_of_spec = tie.close (tie.spec returns returns-2)

@@ -20,8 +20,8 @@ returns-2 c =
     let a = o.args in
     given-small a.card a.text.now a.store.now e.enter2.result _ _ t.if1.false _ _ (search rules) e.enter2.ensures
 
-pub entered-spec : {M : Type 1} → statement M
-entered-spec =
+pub entered_spec : {M : Type 1} → statement M
+entered_spec =
     tie.close
     (tie.spec
     (λ c κs. search rules)

@@ -12,8 +12,8 @@ returns-2 c =
     let e = c.past.ensures in
     (e.0, rw c.before.before.if1.false (record { card = e.1.0; event = e.1.1; store = refl }))
 
-pub given-spec : {M : Type 1} → statement M
-given-spec =
+pub given_spec : {M : Type 1} → statement M
+given_spec =
     tie.close
     (tie.spec
     (λ c. search rules)

@@ -20,5 +20,5 @@ returns c =
       (rw g.0.0 e.1.1.1.1, fed_by whole g.0.0 g.0.1 e.0 g.1),
     )
 
-pub next-spec : {M : Type 1} → statement M
-next-spec = tie.close (tie.spec (λ c κs. search rules) (λ c κs. search rules) returns)
+pub next_spec : {M : Type 1} → statement M
+next_spec = tie.close (tie.spec (λ c κs. search rules) (λ c κs. search rules) returns)

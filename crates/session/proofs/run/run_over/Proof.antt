@@ -16,7 +16,7 @@ returns c =
     let last = t.take-lines.new.1.1.1 in
     ran_over cell_count f.fresh.result t.take-lines.result a.input.now a.output.now last.1.0 last.0 f.fresh.ensures e.0 e.1
 
-pub run-over-spec : {M : Type 1} → statement M
-run-over-spec =
+pub run_over_spec : {M : Type 1} → statement M
+run_over_spec =
     tie.close
     (tie.spec (λ c κs. search rules) (λ c. search rules) (λ c κs. search rules) (λ c. search rules) returns)

@@ -80,8 +80,8 @@ returns-2 c =
     let over : c.before.before.loop.r.going ≡ true → c.before.before.loop.r.left ≡ 0 = λ h. omega (arith, c.if1.false) in
     (ran u, ended-run u over)
 
-pub run-with-spec : {M : Type 1} → statement M
-run-with-spec =
+pub run_with_spec : {M : Type 1} → statement M
+run_with_spec =
     tie.close
     (tie.spec
     invariant-loop

@@ -29,7 +29,7 @@ returns c =
       (omega (arith, k.1.0, whole), (k.1.1 ∙ whole, omega (arith, e.1.few, e.1.order, e.1.within))),
     )
 
-pub take-block-spec : {M : Type 1} → statement M
-take-block-spec =
+pub take_block_spec : {M : Type 1} → statement M
+take_block_spec =
     tie.close
     (tie.spec (λ c κs. search rules) (λ c. search rules) (λ c. search rules) (λ c. search rules) (λ c κs. search rules) returns)

@@ -130,8 +130,8 @@ returns c =
       },
     )
 
-pub take-lines-spec : {M : Type 1} → statement M
-take-lines-spec =
+pub take_lines_spec : {M : Type 1} → statement M
+take_lines_spec =
     tie.close
     (tie.spec
     invariant-loop

@@ -83,8 +83,8 @@ returns-2 c =
       quiet = λ h. brief-tick n a.card s.seen-memory.result l.lines-in.result s.seen-memory.ensures edited room (slept h);
     }))
 
-pub in-brief-spec : {M : Type 1} → statement M
-in-brief-spec =
+pub in_brief_spec : {M : Type 1} → statement M
+in_brief_spec =
     tie.close
     (tie.spec
     (λ c κs. search rules)

@@ -7,5 +7,5 @@ use Rattle.ticks.proofs.brief.slept.Tie as tie
 returns : tie.Need-returns
 returns c = rw c.one_more.ensures
 
-pub slept-spec : {M : Type 1} → statement M
-slept-spec = tie.close (tie.spec (λ c κs. search rules) returns)
+pub slept_spec : {M : Type 1} → statement M
+slept_spec = tie.close (tie.spec (λ c κs. search rules) returns)

@@ -8,5 +8,5 @@ returns : tie.Need-returns
 unfolding lines_of
 returns c = rw (c.levels-from.ensures, c.before.pulled-by.ensures, c.before.before.driven-by.ensures)
 
-pub drive-spec : {M : Type 1} → statement M
-drive-spec = tie.close (tie.spec (λ c κs. search rules) (λ c κs. search rules) (λ c κs. search rules) returns)
+pub drive_spec : {M : Type 1} → statement M
+drive_spec = tie.close (tie.spec (λ c κs. search rules) (λ c κs. search rules) (λ c κs. search rules) returns)

@@ -146,8 +146,8 @@ returns c =
     l.invariant.1 ∙ ap (λ (w : ℕ). word_of (taken_bit connector_count f w) connector_count) c.loop-test.false ∙ taken-all connector_count f
     ∙ built-same f (driven_at (bit_at a.now) (bit_at a.before) d) connector_count (λ k h. drives a.now a.before d k)
 
-pub driven-by-spec : {M : Type 1} → statement M
-driven-by-spec =
+pub driven_by_spec : {M : Type 1} → statement M
+driven_by_spec =
     tie.close
     (tie.spec
     invariant-loop

@@ -7,5 +7,5 @@ use Rattle.ticks.proofs.connectors.effective.Tie as tie
 returns : tie.Need-returns
 returns c = effective-merged c.args.sample c.args.attached (search rules)
 
-pub effective-spec : {M : Type 1} → statement M
-effective-spec = tie.close (tie.spec returns)
+pub effective_spec : {M : Type 1} → statement M
+effective_spec = tie.close (tie.spec returns)

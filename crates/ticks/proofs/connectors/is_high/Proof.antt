@@ -14,5 +14,5 @@ returns-2 : tie.Need-returns-2
 unfolding ReadsAs
 returns-2 c f g r low = c.read.ensures ∙ r _ (search rules)
 
-pub is-high-spec : {M : Type 1} → statement M
-is-high-spec = tie.close (tie.spec returns (λ c κs. search rules) returns-2)
+pub is_high_spec : {M : Type 1} → statement M
+is_high_spec = tie.close (tie.spec returns (λ c κs. search rules) returns-2)

@@ -50,5 +50,5 @@ returns c =
     ∙ built-same (bit_at shown) (level_in a.push a.drain a.driven a.sample) connector_count
     (bits a.push a.drain a.driven a.sample)
 
-pub levels-from-spec : {M : Type 1} → statement M
-levels-from-spec = tie.close (tie.spec returns)
+pub levels_from_spec : {M : Type 1} → statement M
+levels_from_spec = tie.close (tie.spec returns)

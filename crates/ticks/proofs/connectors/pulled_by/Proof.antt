@@ -37,5 +37,5 @@ returns c =
     sym (built-of-bits (bit_and backplane w) connector_count (lt_of_le_of_lt (and_le_l backplane w) (lit< tt)))
     ∙ built-same (bit_at (bit_and backplane w)) (pulled_at d a.driven) connector_count (bits d a.driven)
 
-pub pulled-by-spec : {M : Type 1} → statement M
-pulled-by-spec = tie.close (tie.spec returns)
+pub pulled_by_spec : {M : Type 1} → statement M
+pulled_by_spec = tie.close (tie.spec returns)

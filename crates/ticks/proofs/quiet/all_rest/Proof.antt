@@ -42,8 +42,8 @@ returns-2 c =
     let end : l.i ≡ c.before.before.args.n = omega arith in
     (sym (rw end at l.invariant.1), search rules)
 
-pub all-rest-spec : {M : Type 1} → statement M
-all-rest-spec =
+pub all_rest_spec : {M : Type 1} → statement M
+all_rest_spec =
     tie.close
     (tie.spec
     invariant-loop

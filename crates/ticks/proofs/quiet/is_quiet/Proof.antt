@@ -56,7 +56,7 @@ returns-3 c =
           ∙ quiet-turned a.n o l a.cells (rest ∙ h) (omega (arith, c.All-rest.ensures.1)) (search rules),
     )
 
-pub is-quiet-spec : {M : Type 1} → statement M
-is-quiet-spec =
+pub is_quiet_spec : {M : Type 1} → statement M
+is_quiet_spec =
     tie.close
     (tie.spec returns (λ c κs. search rules) returns-2 (λ c κs. search rules) (λ c κs. search rules) returns-3)

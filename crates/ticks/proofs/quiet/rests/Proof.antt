@@ -32,8 +32,8 @@ returns-2 c =
     let now = slots-as (bit_at a.view) (bit_at a.view) _ a.cell.slots _ _ _ _ made.quarters.ensures held in
     ap not (c.stirred.ensures ∙ ap (stirred a.cell.kind (state_of a.cell)) (c.before.four.ensures ∙ now))
 
-pub rests-spec : {M : Type 1} → statement M
-rests-spec =
+pub rests_spec : {M : Type 1} → statement M
+rests_spec =
     tie.close
     (tie.spec
     (λ c κs. search rules)

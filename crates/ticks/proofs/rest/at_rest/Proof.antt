@@ -68,5 +68,5 @@ returns-3 c =
     let a = z.before.before.before.before.args in
     subst (λ (k : ℕ). Decides c.rests-on.result (AtRest k a.card a.input)) z.cells-for.ensures.0 c.rests-on.ensures
 
-pub at-rest-spec : {M : Type 1} → statement M
-at-rest-spec = tie.close (tie.spec returns (λ c κs. search rules) (λ c κs. search rules) returns-2 rests-on-requires returns-3)
+pub at_rest_spec : {M : Type 1} → statement M
+at_rest_spec = tie.close (tie.spec returns (λ c κs. search rules) (λ c κs. search rules) returns-2 rests-on-requires returns-3)

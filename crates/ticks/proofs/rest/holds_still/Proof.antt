@@ -17,5 +17,5 @@ returns c =
     ap₂ ◌&&◌ (ap (λ (x : ℕ). eqb m.outputs x) l.low.ensures)
     (c.unchanged.ensures ∙ ap (λ (v : Wires). steady v) w.wires-of.ensures)
 
-pub holds-still-spec : {M : Type 1} → statement M
-holds-still-spec = tie.close (tie.spec (λ c. search rules) (λ c κs. search rules) (λ c κs. search rules) (λ c κs. search rules) returns)
+pub holds_still_spec : {M : Type 1} → statement M
+holds_still_spec = tie.close (tie.spec (λ c. search rules) (λ c κs. search rules) (λ c κs. search rules) (λ c κs. search rules) returns)

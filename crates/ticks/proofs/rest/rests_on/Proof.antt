@@ -72,5 +72,5 @@ returns-2 c =
       λ rest. c.All-rest.ensures.0 ∙ sym seen ∙ (rests-still a.n a.card a.input pre.1.0 rest).cells,
     )
 
-pub rests-on-spec : {M : Type 1} → statement M
-rests-on-spec = tie.close (tie.spec (λ c κs. search rules) returns (λ c κs. search rules) (λ c κs. search rules) returns-2)
+pub rests_on_spec : {M : Type 1} → statement M
+rests_on_spec = tie.close (tie.spec (λ c κs. search rules) returns (λ c κs. search rules) (λ c κs. search rules) returns-2)

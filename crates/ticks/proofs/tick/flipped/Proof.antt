@@ -13,5 +13,5 @@ returns c =
     ap (bit_xor c.args.w) (shifted 32 c.args.i true (search rules))
     ∙ flip-bit c.args.w 32 c.args.i (search rules) (search rules)
 
-pub flipped-spec : {M : Type 1} → statement M
-flipped-spec = tie.close (tie.spec (λ c. search rules) returns)
+pub flipped_spec : {M : Type 1} → statement M
+flipped_spec = tie.close (tie.spec (λ c. search rules) returns)

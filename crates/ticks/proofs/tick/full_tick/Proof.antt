@@ -44,8 +44,8 @@ returns-2 c =
     (l.lines-in.ensures n z.cells-for.ensures.1 fits)
     ∙ ap (λ (m : ℕ). ticked m true a.card a.input) z.cells-for.ensures.0)
 
-pub full-tick-spec : {M : Type 1} → statement M
-full-tick-spec =
+pub full_tick_spec : {M : Type 1} → statement M
+full_tick_spec =
     tie.close
     (tie.spec (λ c κs. search rules) (λ c κs. search rules) returns (λ c κs. search rules) (λ c κs. search rules)
     (λ c κs. search rules) turn-each-requires returns-2)

@@ -25,5 +25,5 @@ returns c =
     c.turn-each.ensures ∙ whole-tick-on n true a.card s.seen-memory.result a.l s.seen-memory.ensures
     ∙ ap (λ (k : ℕ). ticked_on k true a.card a.l) z.cells-for.ensures.0
 
-pub full-tick-on-spec : {M : Type 1} → statement M
-full-tick-on-spec = tie.close (tie.spec (λ c κs. search rules) (λ c κs. search rules) turn-each-requires returns)
+pub full_tick_on_spec : {M : Type 1} → statement M
+full_tick_on_spec = tie.close (tie.spec (λ c κs. search rules) (λ c κs. search rules) turn-each-requires returns)

@@ -24,5 +24,5 @@ returns c =
     ∙ lines-trim n a.memory a.connectors sample
     ∙ ap (λ (k : ℕ). lines_in k a.memory a.connectors sample) z.cells-for.ensures.0
 
-pub lines-by-spec : {M : Type 1} → statement M
-lines-by-spec = tie.close (tie.spec (λ c κs. search rules) (λ c κs. search rules) (λ c κs. search rules) returns)
+pub lines_by_spec : {M : Type 1} → statement M
+lines_by_spec = tie.close (tie.spec (λ c κs. search rules) (λ c κs. search rules) (λ c κs. search rules) returns)

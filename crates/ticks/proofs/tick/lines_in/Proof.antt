@@ -35,5 +35,5 @@ returns c n room fits =
     a.connectors (e.effective.ensures k))
     ∙ lines-built _ _ a.connectors sample
 
-pub lines-in-spec : {M : Type 1} → statement M
-lines-in-spec = tie.close (tie.spec (λ c κs. search rules) (λ c κs. search rules) (λ c κs. search rules) drive-requires returns)
+pub lines_in_spec : {M : Type 1} → statement M
+lines_in_spec = tie.close (tie.spec (λ c κs. search rules) (λ c κs. search rules) (λ c κs. search rules) drive-requires returns)

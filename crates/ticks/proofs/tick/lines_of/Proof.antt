@@ -24,5 +24,5 @@ returns c =
     ∙ lines-trim n a.card.memory a.card.connectors sample
     ∙ ap (λ (k : ℕ). lines k a.card a.input) z.cells-for.ensures.0
 
-pub lines-of-spec : {M : Type 1} → statement M
-lines-of-spec = tie.close (tie.spec (λ c κs. search rules) (λ c κs. search rules) (λ c κs. search rules) returns)
+pub lines_of_spec : {M : Type 1} → statement M
+lines_of_spec = tie.close (tie.spec (λ c κs. search rules) (λ c κs. search rules) (λ c κs. search rules) returns)

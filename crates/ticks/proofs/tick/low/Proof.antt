@@ -23,5 +23,5 @@ cast-result c =
 returns : tie.Need-returns
 returns c = masked c.before.args.w c.before.args.n _ c.all-edited.ensures
 
-pub low-spec : {M : Type 1} → statement M
-low-spec = tie.close (tie.spec (λ c κs. search rules) cast-result returns)
+pub low_spec : {M : Type 1} → statement M
+low_spec = tie.close (tie.spec (λ c κs. search rules) cast-result returns)

@@ -10,5 +10,5 @@ returns c = rw c.before.if1.true c.pushed.ensures
 returns-2 : tie.Need-returns-2
 returns-2 c = rw c.if1.false (omega arith)
 
-pub noted-spec : {M : Type 1} → statement M
-noted-spec = tie.close (tie.spec (λ c κs. search rules) returns returns-2)
+pub noted_spec : {M : Type 1} → statement M
+noted_spec = tie.close (tie.spec (λ c κs. search rules) returns returns-2)

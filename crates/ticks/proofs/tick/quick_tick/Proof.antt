@@ -75,8 +75,8 @@ returns-3 c =
     (l.lines-in.ensures n z.cells-for.ensures.1 fits)
     ∙ ap (λ (m : ℕ). ticked m false a.card a.input) z.cells-for.ensures.0)
 
-pub quick-tick-spec : {M : Type 1} → statement M
-quick-tick-spec =
+pub quick_tick_spec : {M : Type 1} → statement M
+quick_tick_spec =
     tie.close
     (tie.spec
     (λ c κs. search rules)

@@ -53,8 +53,8 @@ returns-2 c =
     c.turn-each.ensures ∙ whole-tick-on n false a.card s.seen-memory.result a.l s.seen-memory.ensures
     ∙ ap (λ (k : ℕ). ticked_on k false a.card a.l) z.cells-for.ensures.0
 
-pub quick-tick-on-spec : {M : Type 1} → statement M
-quick-tick-on-spec =
+pub quick_tick_on_spec : {M : Type 1} → statement M
+quick_tick_on_spec =
     tie.close
     (tie.spec
     (λ c κs. search rules)

@@ -7,5 +7,5 @@ use Rattle.ticks.proofs.tick.ran_with.Tie as tie
 returns : tie.Need-returns
 returns c n h small = rw (c.tally.ensures n h small)
 
-pub ran-with-spec : {M : Type 1} → statement M
-ran-with-spec = tie.close (tie.spec (λ c κs. search rules) returns)
+pub ran_with_spec : {M : Type 1} → statement M
+ran_with_spec = tie.close (tie.spec (λ c κs. search rules) returns)

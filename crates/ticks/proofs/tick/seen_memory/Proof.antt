@@ -17,6 +17,6 @@ returns c =
       levels2 = m.levels2;
     }
 
-pub seen-memory-spec : {M : Type 1} → statement M
-seen-memory-spec = tie.close
+pub seen_memory_spec : {M : Type 1} → statement M
+seen_memory_spec = tie.close
     (tie.spec (λ c. search rules) (λ c κs. search rules) (λ c. search rules) (λ c κs. search rules) (λ c. search rules) (λ c κs. search rules) returns)

@@ -14,5 +14,5 @@ returns c i =
     bit-or (bit_xor w.outputs w.outputs2) (bit_xor w.outputs2 w.outputs3) i
     ∙ ap₂ (λ (a b : Bool). a || b) (bit-xor w.outputs w.outputs2 i) (bit-xor w.outputs2 w.outputs3 i)
 
-pub shifted-spec : {M : Type 1} → statement M
-shifted-spec = tie.close (tie.spec returns)
+pub shifted_spec : {M : Type 1} → statement M
+shifted_spec = tie.close (tie.spec returns)

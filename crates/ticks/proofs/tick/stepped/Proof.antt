@@ -42,8 +42,8 @@ returns c f g h r m =
     as-asked _ a.full a.edited kind a.cell.config (state_of a.cell) _ _ _ _ _ c.step.ensures now other (moved-disagree kind
     (slots_read f g a.cell.slots) (slots_read g h a.cell.slots))
 
-pub stepped-spec : {M : Type 1} → statement M
-stepped-spec =
+pub stepped_spec : {M : Type 1} → statement M
+stepped_spec =
     tie.close
     (tie.spec
     (λ c. search rules)

@@ -370,8 +370,8 @@ returns c =
     ∙ (λ k. ran_with a.n a.m (next k) a.l (turned_to (next k).cells (outputs k) (named k) (woken k)))
     ∙ ap (λ (v : Wires). ran_with a.n a.m a.card a.l (turned a.n a.full a.card.cells a.card.edited v)) set.wires-of.ensures
 
-pub turn-each-spec : {M : Type 1} → statement M
-turn-each-spec =
+pub turn_each_spec : {M : Type 1} → statement M
+turn_each_spec =
     tie.close
     (tie.spec
     invariant-loop

@@ -24,5 +24,5 @@ returns c =
     c.turn-each.ensures ∙ whole-tick-on n a.full a.card s.seen-memory.result a.l s.seen-memory.ensures
     ∙ ap (λ (k : ℕ). ticked_on k a.full a.card a.l) z.cells-for.ensures.0
 
-pub turned-on-spec : {M : Type 1} → statement M
-turned-on-spec = tie.close (tie.spec (λ c κs. search rules) (λ c κs. search rules) turn-each-requires returns)
+pub turned_on_spec : {M : Type 1} → statement M
+turned_on_spec = tie.close (tie.spec (λ c κs. search rules) (λ c κs. search rules) turn-each-requires returns)

@@ -26,5 +26,5 @@ returns-2 c =
       rw c.low2.ensures (mod-lt _ (pow_pos n)),
     )
 
-pub woken-by-spec : {M : Type 1} → statement M
-woken-by-spec = tie.close (tie.spec (λ c κs. search rules) (λ c κs. search rules) returns returns-2)
+pub woken_by_spec : {M : Type 1} → statement M
+woken_by_spec = tie.close (tie.spec (λ c κs. search rules) (λ c κs. search rules) returns returns-2)

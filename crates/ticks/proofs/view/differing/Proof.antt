@@ -7,8 +7,8 @@ use Rattle.ticks.proofs.view.differing.Tie as tie
 returns : tie.Need-returns
 returns c = differ-words c.args.t1 c.args.t2
 
-pub differing-spec : {M : Type 1} → statement M
-differing-spec =
+pub differing_spec : {M : Type 1} → statement M
+differing_spec =
     tie.close
     (tie.spec
     (λ c. search rules)

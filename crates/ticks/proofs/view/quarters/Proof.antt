@@ -10,5 +10,5 @@ returns : tie.Need-returns
 unfolding ReadsAs read_from
 returns c a h = quarter-reads c.args.now c.args.before a h
 
-pub quarters-spec : {M : Type 1} → statement M
-quarters-spec = tie.close (tie.spec returns)
+pub quarters_spec : {M : Type 1} → statement M
+quarters_spec = tie.close (tie.spec returns)

@@ -38,5 +38,5 @@ returns c n room hb ho =
     view-word n a.i a.below a.others a.levels _ room hb ho (search rules)
     (placed a.i a.below a.others a.levels (search rules) (search rules) (search rules) (search rules))
 
-pub sees-spec : {M : Type 1} → statement M
-sees-spec = tie.close (tie.spec (λ c. search rules) sub-mask returns)
+pub sees_spec : {M : Type 1} → statement M
+sees_spec = tie.close (tie.spec (λ c. search rules) sub-mask returns)

@@ -9,5 +9,5 @@ returns c n room fits =
     reads-views _ _ _ _ _ (c.before.before.sees.ensures n room fits.0 fits.1) (c.before.sees2.ensures n room fits.1 fits.2)
     c.quarters.ensures
 
-pub words-last-spec : {M : Type 1} → statement M
-words-last-spec = tie.close (tie.spec (λ c κs. search rules) (λ c κs. search rules) (λ c κs. search rules) returns)
+pub words_last_spec : {M : Type 1} → statement M
+words_last_spec = tie.close (tie.spec (λ c κs. search rules) (λ c κs. search rules) (λ c κs. search rules) returns)

@@ -8,6 +8,6 @@ returns : tie.Need-returns
 returns c n room below fits =
     differ-moves _ _ _ _ _ _ c.differing.ensures (c.before.before.words-now.ensures n room below fits) (c.before.words_last.ensures n room fits)
 
-pub words-moved-spec : {M : Type 1} → statement M
-words-moved-spec =
+pub words_moved_spec : {M : Type 1} → statement M
+words_moved_spec =
     tie.close (tie.spec (λ c κs. search rules) (λ c κs. search rules) (λ c κs. search rules) returns)

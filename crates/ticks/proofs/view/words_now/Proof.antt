@@ -9,5 +9,5 @@ returns c n room below fits =
     reads-views _ _ _ _ _ (c.before.before.sees.ensures n room below fits.0) (c.before.sees2.ensures n room fits.0 fits.1)
     c.quarters.ensures
 
-pub words-now-spec : {M : Type 1} → statement M
-words-now-spec = tie.close (tie.spec (λ c κs. search rules) (λ c κs. search rules) (λ c κs. search rules) returns)
+pub words_now_spec : {M : Type 1} → statement M
+words_now_spec = tie.close (tie.spec (λ c κs. search rules) (λ c κs. search rules) (λ c κs. search rules) returns)

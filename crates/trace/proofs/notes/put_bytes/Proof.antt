@@ -11,8 +11,8 @@ invariant-loop out₀ bytes form s₀ i₀ out s i = i ≤ length bytes
 abbrev decreases-loop : tie.decreases-loop
 decreases-loop out₀ bytes form s₀ i₀ out s i = length bytes - i
 
-pub put-bytes-spec : {M : Type 1} → statement M
-put-bytes-spec =
+pub put_bytes_spec : {M : Type 1} → statement M
+put_bytes_spec =
     tie.close
     (tie.spec
     invariant-loop

@@ -34,8 +34,8 @@ returns c =
       (whole.at-end, omega (arith, c.put-slots.ensures.1.1, p3.put3.ensures.1.1, p2.put2.ensures.1.1, p1.put.ensures.1.1)),
     )
 
-pub put-cell-spec : {M : Type 1} → statement M
-put-cell-spec =
+pub put_cell_spec : {M : Type 1} → statement M
+put_cell_spec =
     tie.close
     (tie.spec
     (λ c κs. search rules)

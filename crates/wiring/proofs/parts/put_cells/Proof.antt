@@ -41,8 +41,8 @@ returns c =
     let whole = subst (λ (n : ℕ). Placed a.out.now 0 l.out (text n) l.at) end l.invariant.placed in
     (whole.bytes, (whole.at-end, omega (arith, l.invariant.within, end)))
 
-pub put-cells-spec : {M : Type 1} → statement M
-put-cells-spec =
+pub put_cells_spec : {M : Type 1} → statement M
+put_cells_spec =
     tie.close
     (tie.spec
     invariant-loop

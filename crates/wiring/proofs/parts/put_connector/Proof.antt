@@ -25,8 +25,8 @@ returns c =
     let whole = placed-as (connector-parts a.k a.c) sourced in
     (whole.bytes, (whole.at-end, omega (arith, c.put3.ensures.1.1, p2.put2.ensures.1.1, p1.put.ensures.1.1)))
 
-pub put-connector-spec : {M : Type 1} → statement M
-put-connector-spec =
+pub put_connector_spec : {M : Type 1} → statement M
+put_connector_spec =
     tie.close
     (tie.spec
     (λ c. search rules)

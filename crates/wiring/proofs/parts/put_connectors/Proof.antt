@@ -44,8 +44,8 @@ returns c =
     let whole = placed-as (ap (λ (ks : List Connector). commands_text (commands_from connector_commands 0 ks)) all) l.invariant.placed in
     (whole.bytes, (whole.at-end, omega (arith, l.invariant.within, end)))
 
-pub put-connectors-spec : {M : Type 1} → statement M
-put-connectors-spec =
+pub put_connectors_spec : {M : Type 1} → statement M
+put_connectors_spec =
     tie.close
     (tie.spec
     invariant-loop

@@ -88,8 +88,8 @@ returns-2 c =
       ),
     )
 
-pub put-slots-spec : {M : Type 1} → statement M
-put-slots-spec =
+pub put_slots_spec : {M : Type 1} → statement M
+put_slots_spec =
     tie.close
     (tie.spec
     (λ c κs. search rules)

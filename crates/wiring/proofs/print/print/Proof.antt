@@ -51,8 +51,8 @@ returns-2 c =
     let size = ap length copied ∙ length-sets a.buffer.now 0 (wiring_text (cells_for a.card.size) a.card) in
     (rw room, (rw room p.ensures.1.0, (rw room copied, omega (arith, size, p.ensures.1.0))))
 
-pub print-spec : {M : Type 1} → statement M
-print-spec =
+pub print_spec : {M : Type 1} → statement M
+print_spec =
     tie.close
     (tie.spec
     (λ c κs. search rules)

@@ -35,8 +35,8 @@ returns c =
     let most : c.put.result ≤ text_most = omega (arith, c.put.ensures.1.1, k.put-connectors.ensures.1.1, d.put-cells.ensures.1.1) in
     (whole.bytes ∙ ap (λ (m : ℕ). sets a.out.now 0 (wiring_text m a.card)) sized, (end ∙ ap (λ (m : ℕ). length (wiring_text m a.card)) sized, most))
 
-pub put-wiring-spec : {M : Type 1} → statement M
-put-wiring-spec =
+pub put_wiring_spec : {M : Type 1} → statement M
+put_wiring_spec =
     tie.close
     (tie.spec
     (λ c κs. search rules)
