@@ -10,7 +10,7 @@ use cells::cell::{Cell, Pulses};
 
 // A front or backplane connector by itself: its type (0 input, 1 open-drain, 2 push-pull) and the
 // address that it is driven from.
-#[derive(Drop)]
+#[derive(Clone, Copy)]
 pub struct Connector {
     pub kind: u8,
     pub source: u8,
@@ -20,7 +20,7 @@ pub struct Connector {
 // those that are of it, bit 0 for BNC1 to bit 15 for TTL7 as in the sample. The others are inputs.
 // One that is in both words is push-pull; lines and loads leave none.
 #[repr(C)]
-#[derive(Drop)]
+#[derive(Clone, Copy)]
 pub struct Connectors {
     pub sources: [u8; CONNECTORS],
     pub push_pull: u16,
@@ -32,7 +32,7 @@ pub struct Connectors {
 // and `levels2` are those of the tick before it, and `outputs3` those of the one before that. No
 // tick has to write anything for a cell that sleeps.
 #[repr(C)]
-#[derive(Drop)]
+#[derive(Clone, Copy)]
 pub struct Memory {
     pub driven: u16,
     pub pulled: u16,
@@ -45,7 +45,7 @@ pub struct Memory {
 
 // The card.
 #[repr(C)]
-#[derive(Drop)]
+#[derive(Clone, Copy)]
 pub struct Card {
     pub cells: [Cell; CELLS],
     pub connectors: Connectors,

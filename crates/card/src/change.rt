@@ -12,7 +12,7 @@ use cells::cell::{Config, Count};
 use cells::table::Slots;
 
 // The slots that a write gives, each with its address.
-#[derive(Drop)]
+#[derive(Clone, Copy)]
 pub struct Wires {
     pub given: Slots,
     pub x: u8,
@@ -23,7 +23,7 @@ pub struct Wires {
 
 // `Kind`, `Config`, `State` and `Slots` are of the cell at the pointer, `ConnectorKind` and
 // `Source` of the connector there.
-#[derive(Drop)]
+#[derive(Clone, Copy)]
 pub enum Change {
     Nothing,
     Pointer(u8),

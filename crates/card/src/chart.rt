@@ -6,7 +6,7 @@ ghost use Rattle.card.specs.Chart.{entry_of, entry_in, Charted};
 use crate::limits::{LARGE, SMALL};
 
 // What the chart says of an address.
-#[derive(Drop)]
+#[derive(Clone, Copy)]
 pub struct Entry {
     pub base: u8,
     pub inverted: bool,

@@ -19,7 +19,7 @@ pub type Value = Config;
 
 // A small part of the card: no line looks at more before it changes something. `at_cell` says
 // whether the pointer is at a cell.
-#[derive(Drop)]
+#[derive(Clone, Copy)]
 pub struct Context {
     pub pointer: u8,
     pub at_cell: bool,

@@ -179,7 +179,7 @@ const LARGE_SOURCES: u64 = 0xff_ff_11_00_01;
 const OFFERED: u64 = 0x0ff7fff8fffebffd;
 
 // The two rows of a preset.
-#[derive(Drop)]
+#[derive(Clone, Copy)]
 pub struct CellRow(pub u64, pub u64);
 
 pub fn bad_preset(v: Number, size: u8) -> bool

@@ -9,7 +9,7 @@ use cells::cell::Ticks;
 
 // For each cell the ticks in which the rules named it, and the ticks that ran.
 #[repr(C)]
-#[derive(Drop)]
+#[derive(Clone, Copy)]
 pub struct Tallies {
     pub cells: [Ticks; CELLS],
     pub total: Ticks,
@@ -38,7 +38,7 @@ fn counted(v: Ticks) -> Ticks
 }
 
 // What a tick that ran comes to: the total after it, and the cells whose tallies may go up.
-#[derive(Drop)]
+#[derive(Clone, Copy)]
 struct Counts {
     total: Ticks,
     named: u64,

@@ -11,18 +11,18 @@ pub type Count = Config;
 // A number of pulses, which are clock edges and never ticks: a duration, a count of pulses left, or
 // a counter's count.
 #[repr(C)]
-#[derive(Drop)]
+#[derive(Clone, Copy)]
 pub struct Pulses(pub Count);
 
 // A number of ticks, which a tally counts.
 #[repr(C)]
-#[derive(Drop)]
+#[derive(Clone, Copy)]
 pub struct Ticks(pub u32);
 
 // What a cell keeps between ticks, the same for every type: a flip-flop's bit, a timer's count and
 // pulse, a counter's count. In a counter that is started and stopped the bit says "active".
 #[repr(C)]
-#[derive(Drop)]
+#[derive(Clone, Copy)]
 pub struct State {
     pub count: Pulses,
     pub bit: bool,
@@ -33,7 +33,7 @@ pub struct State {
 // and its state, part by part, in 16 bytes. A tick passes the parts on as they are: a State made
 // there would be packed and unpacked once for each cell.
 #[repr(C)]
-#[derive(Drop)]
+#[derive(Clone, Copy)]
 pub struct Cell {
     pub config: Config,
     pub count: Pulses,
@@ -68,7 +68,7 @@ pub fn with_state(cell: Cell, s: State) -> Cell
 
 // What working out a cell gives: the state that it keeps, and its output.
 #[repr(C)]
-#[derive(Drop)]
+#[derive(Clone, Copy)]
 pub struct Worked {
     pub state: State,
     pub out: bool,

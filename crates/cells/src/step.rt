@@ -22,7 +22,7 @@ use crate::work::{DECIDES_AND, DECIDES_OR, Effect};
 // Whether the rules name a cell, what becomes of it, and at how many slots it looked one by one: a
 // gate of four slots that is worked out at 1 to 4, any other cell at none. A tick does not use the
 // number, which its contract checks; the compiler leaves it out.
-#[derive(Drop)]
+#[derive(Clone, Copy)]
 pub struct Stepped {
     pub named: bool,
     pub effect: Effect,

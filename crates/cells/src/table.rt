@@ -8,7 +8,7 @@ use crate::cell::Config;
 
 // One bit for each input slot: the readings of the four, or a set of them.
 #[repr(C)]
-#[derive(Drop)]
+#[derive(Clone, Copy)]
 pub struct Slots {
     pub x: bool,
     pub y: bool,
@@ -17,7 +17,7 @@ pub struct Slots {
 }
 
 // The gates. A lookup reads its configuration, the code; the others read their slots alone.
-#[derive(Drop)]
+#[derive(Clone, Copy)]
 pub enum GateKind {
     Lookup,
     And2,
@@ -28,7 +28,7 @@ pub enum GateKind {
 }
 
 // The flip-flops, types 1, 12, 18 and 13.
-#[derive(Drop)]
+#[derive(Clone, Copy)]
 pub enum FlopKind {
     DFlop,
     SyncDFlop,
@@ -38,7 +38,7 @@ pub enum FlopKind {
 
 // The counters, types 19 to 22: active while A and B are high, or while either is; from start to
 // stop, or so if started at a count of 0.
-#[derive(Drop)]
+#[derive(Clone, Copy)]
 pub enum CounterKind {
     WhileBoth,
     WhileEither,
@@ -48,7 +48,7 @@ pub enum CounterKind {
 
 // What a type does: a family, with what distinguishes its members. One-shots and delays say whether
 // they take a trigger while they are busy.
-#[derive(Drop)]
+#[derive(Clone, Copy)]
 pub enum Class {
     Nothing,
     Constant,
@@ -61,7 +61,7 @@ pub enum Class {
 
 // What a type keeps between ticks: nothing, a flip-flop's bit, a timer's count and pulse, or a
 // counter's count and whether it is active.
-#[derive(Drop)]
+#[derive(Clone, Copy)]
 pub enum Kept {
     Stateless,
     Bit,
@@ -71,7 +71,7 @@ pub enum Kept {
 
 // What the table holds of a type. Without a configuration the largest is 0, and with one it is
 // above 0.
-#[derive(Drop)]
+#[derive(Clone, Copy)]
 pub struct Row {
     pub used: Slots,
     pub edge: Slots,

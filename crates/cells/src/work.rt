@@ -37,7 +37,7 @@ pub(crate) fn gate_out(gate: GateKind, code: Config, r: Slots) -> bool
 }
 
 // What a gate of four slots answers, and how many slots it looked at.
-#[derive(Drop)]
+#[derive(Clone, Copy)]
 pub struct Looked {
     pub out: bool,
     pub slots: u8,
@@ -286,7 +286,7 @@ fn counted_up(reset: bool, active: bool, clock: bool, count: Pulses) -> Pulses
 
 // What becomes of a cell: nothing, its output alone, or with that what is new in its state. A
 // caller writes back only what is new.
-#[derive(Drop)]
+#[derive(Clone, Copy)]
 pub enum Effect {
     // it was not worked out, and keeps its output
     Slept,

@@ -23,14 +23,14 @@ const LARGE_LENGTH: usize = 516;
 
 // 0 or the number of the refusal, and the result's length, 0 where it is refused.
 #[repr(C)]
-#[derive(Drop)]
+#[derive(Clone, Copy)]
 pub struct Converted {
     pub k: u8,
     pub len: usize,
 }
 
 // A form of records: the width of a configuration, and the length.
-#[derive(Drop)]
+#[derive(Clone, Copy)]
 struct Form {
     width: usize,
     len: usize,

@@ -30,7 +30,7 @@ pub const GAP: u64 = 16;
 
 // Ticks side by side: from tick `start` up to `end`, counted from 0 among those kept; `before` came
 // before these. Their columns are wide where the picture has few.
-#[derive(Drop)]
+#[derive(Clone, Copy)]
 pub struct Strip {
     pub start: usize,
     pub end: usize,

@@ -14,7 +14,7 @@ use cells::table::Slots;
 const LONGEST_LINE: usize = 80;
 
 // The slots that one line gives, each with its number.
-#[derive(Drop)]
+#[derive(Clone, Copy)]
 pub struct Pairs {
     pub given: Slots,
     pub x: Number,
@@ -24,7 +24,7 @@ pub struct Pairs {
 }
 
 // A slot's letter.
-#[derive(Drop)]
+#[derive(Clone, Copy)]
 pub enum Slot {
     X,
     Y,
@@ -34,7 +34,7 @@ pub enum Slot {
 }
 
 // What a well-formed line asks for.
-#[derive(Drop)]
+#[derive(Clone, Copy)]
 pub enum Command {
     Move(Number),
     Where,
@@ -58,7 +58,7 @@ pub enum Command {
 
 // What the bytes of a line are: of another form, a command for another card, or a command for this
 // one.
-#[derive(Drop)]
+#[derive(Clone, Copy)]
 pub enum Parsed {
     Malformed,
     Elsewhere,
@@ -67,7 +67,7 @@ pub enum Parsed {
 
 // How far the pairs of a line have been read: whether they were well formed so far, and where the
 // next one starts.
-#[derive(Drop)]
+#[derive(Clone, Copy)]
 pub struct Reading {
     pub ok: bool,
     pub pairs: Pairs,
@@ -75,7 +75,7 @@ pub struct Reading {
 }
 
 // A number that ends its line, if there is one.
-#[derive(Drop)]
+#[derive(Clone, Copy)]
 pub struct Ending {
     pub ok: bool,
     pub value: Number,

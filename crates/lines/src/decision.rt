@@ -17,7 +17,7 @@ use grammar::grammar::{Command, Parsed};
 const LARGEST_NUMBER: Number = 4294967295;
 
 // The response to a command: nothing, a number, or the record that it saves.
-#[derive(Drop)]
+#[derive(Clone, Copy)]
 pub struct Response {
     pub number: bool,
     pub value: Value,
@@ -25,7 +25,7 @@ pub struct Response {
 }
 
 // 0 or the number of the refusal, the change that is then to be made, and the response.
-#[derive(Drop)]
+#[derive(Clone, Copy)]
 pub struct Decision {
     pub k: u8,
     pub change: Change,

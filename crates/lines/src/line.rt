@@ -19,7 +19,7 @@ pub const SHORTEST_REPLY: usize = 16;
 
 // The answer to a line: the card, 0 or the number of the refusal, and the reply's length.
 #[repr(C)]
-#[derive(Drop)]
+#[derive(Clone, Copy)]
 pub struct Answered {
     pub card: Card,
     pub k: u8,
@@ -79,7 +79,7 @@ pub fn judge(card: Card, text: &[u8], reply: usize, store: usize) -> Decision
 
 // What a line comes to: 0 or the number of its refusal, the card then, and the response. The
 // definitions go by it; the code changes the card last.
-#[derive(Drop)]
+#[derive(Clone, Copy)]
 pub struct Outcome {
     pub k: u8,
     pub card: Card,

@@ -70,7 +70,7 @@ fn with(set: u64, holds: bool, fault: u32) -> u64
 const DIGITS: u8 = 10;
 
 // What the bytes of a line up to one of them have.
-#[derive(Drop)]
+#[derive(Clone, Copy)]
 struct Marks {
     // the byte before, and how many digits of a number end there
     before: u8,

@@ -141,7 +141,7 @@ fn slot_code(card: Card, i: u8, c: Cell, slot: u8) -> u8 {
 }
 
 // What holds of cell i: of its duration, its clock, and each slot.
-#[derive(Drop)]
+#[derive(Clone, Copy)]
 struct Codes {
     duration: u8,
     clock: u8,

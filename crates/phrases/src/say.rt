@@ -7,7 +7,7 @@ use crate::terms::{
 };
 
 // What a `%` is written as.
-#[derive(Drop)]
+#[derive(Clone, Copy)]
 pub enum Part {
     Number(u32),
     // "high" or "low"

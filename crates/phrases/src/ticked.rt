@@ -17,7 +17,7 @@ use ticks::tick::Answer;
 use ticks::view::Input;
 
 // A tick: what came in with it, its kind, its answer, and the card before it and after it.
-#[derive(Drop)]
+#[derive(Clone, Copy)]
 pub struct Tick {
     pub input: Input,
     pub full: bool,

@@ -9,7 +9,7 @@ use cells::table::{Class, class_of};
 use reasons::cell::{Reasons, any_reason};
 
 // A cell in a tick: as it was and is, its output then and now, and its reasons.
-#[derive(Drop)]
+#[derive(Clone, Copy)]
 pub struct Turn {
     pub old: Cell,
     pub new: Cell,

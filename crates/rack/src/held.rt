@@ -11,7 +11,7 @@ use card::card::Card;
 pub const HELD: usize = 5;
 
 // The cards, and the pass that went over them.
-#[derive(Drop)]
+#[derive(Clone, Copy)]
 pub struct Held {
     pub cards: [Card; HELD],
     pub pass: Pass,

@@ -19,7 +19,7 @@ const OVER_SUPPLY: u8 = 19;
 
 // What a line or a load to a card needs of the row: whether row and number are no rack's, the
 // card's place, and what the cards draw.
-#[derive(Drop)]
+#[derive(Clone, Copy)]
 pub struct Taken {
     pub bad: bool,
     pub place: usize,
@@ -28,7 +28,7 @@ pub struct Taken {
 
 // What a call on a row answers: 0 or the number of the refusal, and the reply's length.
 #[repr(C)]
-#[derive(Drop)]
+#[derive(Clone, Copy)]
 pub struct Replied {
     pub k: u8,
     pub len: usize,

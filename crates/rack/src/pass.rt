@@ -15,7 +15,7 @@ use ticks::view::Input;
 // What comes in at the front of one card: the word sampled, and which of its lines have something
 // attached.
 #[repr(C)]
-#[derive(Drop)]
+#[derive(Clone, Copy)]
 pub struct Front {
     pub sample: u8,
     pub attached: u8,
@@ -24,7 +24,7 @@ pub struct Front {
 // What comes in with a rack tick: the code of its clock, the word sampled at the backplane and what
 // is attached there, and the fronts, one for each of `count` cards.
 #[repr(C)]
-#[derive(Drop)]
+#[derive(Clone, Copy)]
 pub struct RackInput {
     pub code: u8,
     pub sample: u8,
@@ -35,7 +35,7 @@ pub struct RackInput {
 
 // What a rack tick gives: 0 or the number of its refusal, and the answers, those past the row idle.
 #[repr(C)]
-#[derive(Drop)]
+#[derive(Clone, Copy)]
 pub struct RackTicked {
     pub k: u8,
     pub answers: [Answer; MOST],
@@ -54,7 +54,7 @@ pub const NO_RACK: u8 = 20;
 // What goes from card to card: what is done to each (`act`), with its input; the number of the
 // refusal, which leaves the cards as they are; how many cards are done; of the cards looked at the
 // backplane lines that some pull low, and what each draws; and the answers of those that ticked.
-#[derive(Drop)]
+#[derive(Clone, Copy)]
 pub struct Pass {
     pub act: u8,
     pub full: bool,
@@ -67,7 +67,7 @@ pub struct Pass {
 }
 
 // A card, and the pass that goes on to the next.
-#[derive(Drop)]
+#[derive(Clone, Copy)]
 pub struct Visited {
     pub card: Card,
     pub pass: Pass,

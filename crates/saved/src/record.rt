@@ -94,7 +94,7 @@ pub fn record_length(size: u8) -> usize
 
 // What a load gives: the card, and the number that refuses it, 0 where none does.
 #[repr(C)]
-#[derive(Drop)]
+#[derive(Clone, Copy)]
 pub struct Loaded {
     pub card: Card,
     pub k: u8,

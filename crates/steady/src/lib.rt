@@ -27,7 +27,7 @@ const FOREVER: u32 = 4294967295;
 
 // Ticks made at once: the card after them, the answer of the last, and how many were made.
 #[repr(C)]
-#[derive(Drop)]
+#[derive(Clone, Copy)]
 pub struct Advanced {
     pub card: Card,
     pub answer: Answer,

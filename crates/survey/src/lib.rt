@@ -23,7 +23,7 @@ const NO_PLACE: u8 = 5;
 // What a survey gives: 0, or 5 for a place that is no connector's, and what depends on the
 // connector, as a word with a bit for each cell and a word in the sample's order.
 #[repr(C)]
-#[derive(Drop)]
+#[derive(Clone, Copy)]
 pub struct Surveyed {
     pub k: u8,
     pub cells: CellWord,
@@ -31,7 +31,7 @@ pub struct Surveyed {
 }
 
 // Two words of what depends on a line.
-#[derive(Drop)]
+#[derive(Clone, Copy)]
 struct Found {
     cells: CellWord,
     connectors: u16,

@@ -10,7 +10,7 @@ ghost use Rattle.text.specs.Hex.{hex_digit, hex_value, is_hex, hex4, hex_at};
 const MAX_DIGITS: usize = 10;
 
 // What was read: a number where ok, and where the text goes on.
-#[derive(Drop)]
+#[derive(Clone, Copy)]
 pub struct Number {
     pub ok: bool,
     pub value: u64,
@@ -18,7 +18,7 @@ pub struct Number {
 }
 
 // What was read: a word where ok.
-#[derive(Drop)]
+#[derive(Clone, Copy)]
 pub struct Hex {
     pub ok: bool,
     pub value: u16,

@@ -16,7 +16,7 @@ use cells::cell::Ticks;
 const STANDSTILL: u32 = 4294967295;
 
 // The lines of a tick; and where it is quiet, all that it changes, and its answer.
-#[derive(Drop)]
+#[derive(Clone, Copy)]
 pub struct Brief {
     pub memory: Memory,
     pub total: Ticks,

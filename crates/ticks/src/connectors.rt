@@ -11,7 +11,7 @@ use card::limits::BACKPLANE;
 use cells::reading::{QUARTERS, read};
 
 // The driven word of a tick, the lines of the backplane that it pulls low, and the levels.
-#[derive(Drop)]
+#[derive(Clone, Copy)]
 pub struct Lines {
     pub driven: u16,
     pub pulled: u16,

@@ -26,7 +26,7 @@ use cells::step::{Stepped, step};
 use cells::work::Effect;
 
 // What a tick makes of all cells.
-#[derive(Drop)]
+#[derive(Clone, Copy)]
 pub struct Turned {
     pub cells: [Cell; CELLS],
     pub outputs: CellWord,
@@ -36,7 +36,7 @@ pub struct Turned {
 
 // A tick's answer. An idle tick has not run, and its words are 0.
 #[repr(C)]
-#[derive(Drop)]
+#[derive(Clone, Copy)]
 pub struct Answer {
     pub ran: bool,
     pub driven: u16,
@@ -46,7 +46,7 @@ pub struct Answer {
 }
 
 #[repr(C)]
-#[derive(Drop)]
+#[derive(Clone, Copy)]
 pub struct Ticked {
     pub card: Card,
     pub answer: Answer,

@@ -14,7 +14,7 @@ use cells::reading::QUARTERS;
 // What comes in with a tick: the code of its clock, the word sampled at the connectors, and which
 // of them have something attached.
 #[repr(C)]
-#[derive(Drop)]
+#[derive(Clone, Copy)]
 pub struct Input {
     pub code: u8,
     pub sample: u16,
@@ -23,7 +23,7 @@ pub struct Input {
 
 // What the readers of a tick see besides its own outputs: the levels of this tick, of the last one
 // that ran (2) and of the one before (3), and the cell words of the last three ticks that ran.
-#[derive(Drop)]
+#[derive(Clone, Copy)]
 pub struct Wires {
     pub levels: u16,
     pub levels2: u16,

@@ -12,7 +12,7 @@ use card::place::cells_for;
 
 // 0 or the number of the refusal, and the text's length, 0 where it is refused.
 #[repr(C)]
-#[derive(Drop)]
+#[derive(Clone, Copy)]
 pub struct Printed {
     pub k: u8,
     pub len: usize,
