@@ -1,0 +1,21 @@
+-- `cells::work::clear_d_flop` meets its contract: it reads and decides in the order of the
+-- definition.
+use mathlib.Core.Path.{sym, ◌∙◌}
+use borrow.Author.Rules.{rules}
+use Rattle.cells.proofs.work.clear_d_flop.Goals as goal
+
+pub returns-then-read : goal.returns-then-read
+returns-then-read c = rw (sym c.read.ensures ∙ c.if-read.true)
+
+pub returns-then-read-3 : goal.returns-then-read-3
+returns-then-read-3 c =
+    rw (sym c.read.ensures ∙ c.if-read.false, sym c.read-else-read.ensures ∙ c.if-read-2.true, sym c.read-then-read-2.ensures ∙ c.if-read-3.true)
+
+pub returns-else-read-3 : goal.returns-else-read-3
+returns-else-read-3 c =
+    let last = sym c.read-then-read-2.ensures ∙ c.if-read-3.false in
+    rw (sym c.read.ensures ∙ c.if-read.false, sym c.read-else-read.ensures ∙ c.if-read-2.true, last) c.read-else-read-3.ensures
+
+pub returns-else-read-2 : goal.returns-else-read-2
+returns-else-read-2 c =
+    rw (sym c.read.ensures ∙ c.if-read.false, sym c.read-else-read.ensures ∙ c.if-read-2.false)

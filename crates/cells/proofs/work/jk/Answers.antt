@@ -1,0 +1,24 @@
+-- `cells::work::jk` meets its contract: it reads and decides in the order of the definition.
+use mathlib.Core.Path.{sym, ◌∙◌}
+use borrow.Author.Rules.{rules}
+use Rattle.cells.proofs.work.jk.Goals as goal
+
+pub returns-then-read-3 : goal.returns-then-read-3
+returns-then-read-3 c =
+    rw (sym c.read.ensures ∙ c.if-read.true, sym c.read-then-read.ensures ∙ c.if-read-2.true, sym c.read-then-read-2.ensures ∙ c.if-read-3.true)
+
+pub returns-else-read-3 : goal.returns-else-read-3
+returns-else-read-3 c =
+    rw (sym c.read.ensures ∙ c.if-read.true, sym c.read-then-read.ensures ∙ c.if-read-2.true, sym c.read-then-read-2.ensures ∙ c.if-read-3.false)
+
+pub returns-then-read-4 : goal.returns-then-read-4
+returns-then-read-4 c =
+    rw (sym c.read.ensures ∙ c.if-read.true, sym c.read-then-read.ensures ∙ c.if-read-2.false, sym c.read-else-read-2.ensures ∙ c.if-read-4.true)
+
+pub returns-else-read-4 : goal.returns-else-read-4
+returns-else-read-4 c =
+    rw (sym c.read.ensures ∙ c.if-read.true, sym c.read-then-read.ensures ∙ c.if-read-2.false, sym c.read-else-read-2.ensures ∙ c.if-read-4.false)
+
+pub returns-else-read : goal.returns-else-read
+returns-else-read c =
+    rw (sym c.read.ensures ∙ c.if-read.false)
