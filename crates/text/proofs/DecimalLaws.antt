@@ -134,7 +134,7 @@ pub decimal-value : (n : ℕ) → value_from 0 (decimal n) ≡ n
 unfolding value_by
 decimal-value =
     by_digits (λ n. value_from 0 (decimal n) ≡ n) (λ n h. rw (decimal-one n h) (omega arith))
-    (λ n h ih. rw (decimal-more n h, value-append, ih) (omega arith))
+    (λ n h ih. rw (decimal-more n h, value-append 10 digit_value 0 (decimal (n / 10)) ((48 + n % 10) ∷ []), ih) (omega arith))
 
 -- at most k digits below 10 ^ k
 pub decimal-length : (n k : ℕ) → 1 ≤ k → n < 10 ^ k → length (decimal n) ≤ k

@@ -16,7 +16,7 @@ use Rattle.text.proofs.digits_value.Goals.{At-loop-i, In-loop-i}
 abbrev Byte : At-loop-i → ℕ
 Byte c = get_or c.args.text.now (c.args.at + c.loop-i.i) 0
 
-is_digit_lem : (c : In-loop-i) → is_digit (Byte c.before) ≡ true
+is_digit_lem : (c : In-loop-i) → is_digit (get_or c.args.text.now (c.args.at + c.loop-i.i) 0) ≡ true
 is_digit_lem c = let a = c.args in digits-is a.text.now a.at c.loop-i.i (omega arith)
 
 -- one digit more still fits

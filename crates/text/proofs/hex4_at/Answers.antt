@@ -26,7 +26,7 @@ is-hex : (c : Else-not-is_hex) → is_hex (Byte c) ≡ true
 is-hex c = sym c.is_hex.ensures ∙ not-false c.is_hex.result c.if-not-is_hex.false-raw
 
 small : (c : After-hex_value) → c.hex_value.result < 16
-small c = rw c.hex_value.ensures (hex-small (Byte c.before) (is-hex c.before))
+small c = rw c.hex_value.ensures (hex-small _ (sym c.is_hex.ensures ∙ not-false c.is_hex.result c.if-not-is_hex.false-raw))
 
 pub loop-i-init : goal.loop-i-init
 loop-i-init c = (search rules, search rules, refl, refl)

@@ -15,10 +15,10 @@ copy-requires c =
       arith,
       decimal-length c.args.n max_digits (lit≤ tt) (search rules),
       c.put_decimal-end.ensures.value,
-      c.put_decimal-end.auto.0,
+      c.put_decimal-end.auto.out,
       c.copy-at.ensures.value,
-      c.copy-at.auto.0,
-      (c.requires.n_bound, c.requires.ending_in_bounds),
+      c.copy-at.auto.out,
+      c.requires.ending_in_bounds,
     )
 
 pub returns : goal.returns
