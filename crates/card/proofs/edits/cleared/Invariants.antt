@@ -1,0 +1,14 @@
+-- `card::edits::cleared` meets its contract: after i turns the first i cells are cleared.
+use Rattle.std.proofs.Common.{◌≡◌, ℕ, ◌+◌, ◌-◌, ◌<◌, ◌≤◌, List, ◌++◌, length, get_or, drop, set, sym, refl, ap, ◌∙◌, zero-le, arith, rules}
+use Rattle.words.specs.Listed.{listed}
+use Rattle.words.proofs.Listed.{listed_next, listed-mapped}
+use Rattle.cells.specs.declared.cell.Cell.{Cell}
+use Rattle.card.specs.Fresh.{no_cell}
+use Rattle.card.specs.Edits.{cleared_cell, cleared_cells}
+use Rattle.card.proofs.edits.cleared.Given as goal
+
+abbrev pub invariant-loop-i : goal.invariant-loop-i
+invariant-loop-i l = (l.i ≤ l.n) × (l.next ≡ cleared_cells l.i l.cells)
+
+abbrev pub decreases-loop-i : goal.decreases-loop-i
+decreases-loop-i l = l.n - l.i
