@@ -1,0 +1,17 @@
+-- `grammar::grammar::is_word` meets its contract: after i turns what is left to show is the word without its first i bytes.
+use borrow.Author.Rules.{rules}
+use Prim.Native.Nat.{◌+◌, ◌-◌, ◌≤◌, zero-le}
+use mathlib.Core.Path.{◌≡◌, sym, ◌∙◌}
+use native.Mathlib.Nat.{add-zero}
+use native.Mathlib.Omega.{arith}
+use lib.ListN.{length, drop}
+use borrow.Author.Tests.{eq-eqb, ne_eqb}
+use Rattle.grammar.specs.Grammar.{is_word}
+use Rattle.grammar.proofs.Words.{word_next, word_end}
+use Rattle.grammar.proofs.grammar.is_word.Given as goal
+
+abbrev pub invariant-loop-i : goal.invariant-loop-i
+invariant-loop-i l = (l.i ≤ length l.word) × (is_word l.word l.at l.text ≡ is_word (drop l.i l.word) (l.at + l.i) l.text)
+
+abbrev pub decreases-loop-i : goal.decreases-loop-i
+decreases-loop-i l = length l.word - l.i

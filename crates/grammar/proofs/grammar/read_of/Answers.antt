@@ -1,0 +1,24 @@
+-- `grammar::grammar::read_of` meets its contract: each arm is a case of the definition.
+use Rattle.grammar.specs.Grammar.{read_of}
+use borrow.Author.Rules.{rules}
+use Rattle.grammar.proofs.grammar.read_of.Goals as goal
+
+pub returns-in-X : goal.returns-in-X
+unfolding read_of
+returns-in-X c = rw c.in-X.is
+
+pub returns-in-Y : goal.returns-in-Y
+unfolding read_of
+returns-in-Y c = rw c.in-Y.is
+
+pub returns-in-Z : goal.returns-in-Z
+unfolding read_of
+returns-in-Z c = rw c.in-Z.is
+
+pub returns-in-F : goal.returns-in-F
+unfolding read_of
+returns-in-F c = rw c.in-F.is c.upper_form.ensures
+
+pub returns-in-NoSlot : goal.returns-in-NoSlot
+unfolding read_of
+returns-in-NoSlot c = rw c.in-NoSlot.is

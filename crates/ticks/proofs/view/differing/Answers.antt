@@ -1,0 +1,7 @@
+-- `ticks::view::differing` meets its contract: quarter by quarter.
+use Rattle.ticks.proofs.Words.{differ-words}
+use borrow.Author.Rules.{rules}
+use Rattle.ticks.proofs.view.differing.Goals as goal
+
+pub returns : goal.returns
+returns c = differ-words c.args.a c.args.b
