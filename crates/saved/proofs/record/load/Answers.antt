@@ -11,6 +11,6 @@ returns c =
     let a = c.args in
     let form = c.width_of-width.ensures.value in
     let n = c.cells_for-n.ensures.value in record {
-      card_value = c.load_as.ensures.card_value ∙ ap₂ (λ (m c.before : ℕ). loaded_as m c.before a.card a.bytes.now) n form;
-      k_value = c.load_as.ensures.k_value ∙ ap₂ (λ (m c.before : ℕ). load_number_as m c.before a.bytes.now) n form;
+      card_value = c.load_as.ensures.card_value ∙ ap₂ (λ (m w : ℕ). loaded_as m w a.card a.bytes.now) n form;
+      k_value = c.load_as.ensures.k_value ∙ ap₂ (λ (m w : ℕ). load_number_as m w a.bytes.now) n form;
     }

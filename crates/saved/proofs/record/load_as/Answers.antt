@@ -49,13 +49,18 @@ tested c =
     ∙ ap (λ (m : ℕ). valid m (trigger_in bytes) c.cells_in-cells.result c.connectors_in-connectors.result) (sym c.requires.n_value)
     ∙ ap (λ (k : List Connector). valid a.n (trigger_in bytes) c.cells_in-cells.result k) c.connectors_in-connectors.ensures
     ∙ valid-from a.n a.width bytes c.cells_in-cells.result (drop a.n a.card.cells) c.cells_in-cells.ensures in
-    number c.before.before.before.before.before.before.before.before.before.before.before ∙ rw found (ap (λ (v : Bool). cond v 0 15) (sym same))
+    let v = valid a.n (trigger_in bytes) (load_cells a.n a.width bytes) (connectors_in a.n a.width bytes) in
+    number-headed a.n a.width bytes (λ i. omega (arith, c.shared_slice_known-1.given i))
+    ∙ ap (λ (h : Bool). cond h (cond v 0 15) 14) (sym c.is_headed.ensures) ∙ rw found (ap (λ (v : Bool). cond v 0 15) (sym same))
 
 pub returns-then-not-is_headed : goal.returns-then-not-is_headed
 returns-then-not-is_headed c =
     let a = c.args in
     let other : c.is_headed.result ≡ false = not-true _ c.if-not-is_headed.true-raw in
-    refused-with a.n a.width a.card a.bytes.now 14 (number (goal.at.returns-then-not-is_headed c).After-is_headed ∙ rw other) refl
+    let e = refused-with a.n a.width a.card a.bytes.now 14 (number (goal.at.returns-then-not-is_headed c).After-is_headed ∙ rw other) refl in record {
+      card_value = e.0;
+      k_value = e.1;
+    }
 
 pub bounds-bytes-3 : goal.bounds-bytes-3
 bounds-bytes-3 c = omega (arith, long (goal.at.bounds-bytes-3 c).Else-not-is_headed)
@@ -78,7 +83,10 @@ pub returns-then-not-valid_settings : goal.returns-then-not-valid_settings
 returns-then-not-valid_settings c =
     let a = c.args in
     let bad : c.valid_settings.result ≡ false = not-true _ c.if-not-valid_settings.true-raw in
-    refused-with a.n a.width a.card a.bytes.now 15 (tested (goal.at.returns-then-not-valid_settings c).After-valid_settings ∙ rw bad) refl
+    let e = refused-with a.n a.width a.card a.bytes.now 15 (tested (goal.at.returns-then-not-valid_settings c).After-valid_settings ∙ rw bad) refl in record {
+      card_value = e.0;
+      k_value = e.1;
+    }
 
 pub returns : goal.returns
 returns c =

@@ -10,6 +10,13 @@ use borrow.Author.Rules.{rules}
 use Rattle.saved.proofs.record.save.Goals as goal
 
 -- the test of the room, by a length that the code found
+module _ (len r m : ℕ) (e : r ≡ m) where
+  short : len < r → ltb len m ≡ true
+  short h = lt-ltb len m (omega arith)
+
+  roomy : r ≤ len → ltb len m ≡ false
+  roomy h = le-ltb len m (omega arith)
+
 pub returns-then-store-record_length : goal.returns-then-store-record_length
 unfolding saved_to
 returns-then-store-record_length c =
