@@ -22,16 +22,16 @@ use Rattle.convert.proofs.convert.Statement.{statement}
 use Rattle.convert.proofs.convert.Tie as tie
 
 -- the length is that of a form
-known : (e : tie.Else1) → other_length cell_count e.before.before.before.args.bytes.now ≡ false
-known e = e.if1.false
+known : (e : tie.Else-given) → other_length cell_count e.args.bytes.now ≡ false
+known e = e.if-given.false
 
 -- the buffer has room
-enough : (e : tie.Else2) → let a = e.before.before.before.before.before.before.args in
+enough : (e : tie.Else-buffer-to) → let a = e.args in
     short_for cell_count (length a.buffer.now) a.bytes.now ≡ false
 enough e =
-    let a = e.before.before.before.before.before.before.args in
+    let a = e.args in
     le-ltb (length a.buffer.now) (record_length cell_count (other_width cell_count a.bytes.now))
-    (omega (arith, e.if2.false, e.before.before.other-form.ensures.1.1))
+    (omega (arith, e.if-buffer-to.false, e.other_form-to.ensures.1.1))
 
 -- the card that loads the record has its number of cells
 size_is : (b : Bool) → cells_for (cells_for (cond b cell_room cell_count)) ≡ cond b cell_room cell_count
@@ -39,46 +39,41 @@ unfolding cells_for
 size_is true = refl
 size_is false = refl
 
-sized : (f : tie.After-fresh-of) → cells_for f.fresh-of.result.size
-    ≡ cells_of cell_count f.before.before.before.before.before.before.before.before.args.bytes.now
+sized : (f : tie.After-fresh_of) → cells_for f.fresh_of.result.size
+    ≡ cells_of cell_count f.args.bytes.now
 sized f =
-    let bytes = f.before.before.before.before.before.before.before.before.args.bytes.now in
-    ap (λ (c : Card). cells_for c.size) f.fresh-of.ensures
-    ∙ ap (λ (k : ℕ). cells_for (cells_for k)) f.before.Cells-of.ensures.0
+    let bytes = f.args.bytes.now in
+    ap (λ (c : Card). cells_for c.size) f.fresh_of.ensures
+    ∙ ap (λ (k : ℕ). cells_for (cells_for k)) f.cells_of-n.ensures.0
     ∙ size_is (eqb (length bytes) large_length)
 
 -- what the load gives
-number_at : (l : tie.After-load) → let f = l.before in
-    l.load.result.k ≡ loader_number cell_count f.before.before.before.before.before.before.before.before.args.bytes.now
+number_at : (l : tie.After-load-loaded) → l.load-loaded.result.k ≡ loader_number cell_count l.args.bytes.now
 number_at l =
-    let bytes = l.before.before.before.before.before.before.before.before.before.args.bytes.now in
-    l.load.ensures.1 ∙ ap (λ (m : ℕ). load_number m bytes) (sized l.before)
+    let bytes = l.args.bytes.now in
+    l.load-loaded.ensures.1 ∙ ap (λ (m : ℕ). load_number m bytes) (sized l.before)
 
-card-at : (l : tie.After-load) → let f = l.before in
-    let bytes = f.before.before.before.before.before.before.before.before.args.bytes.now in
-    l.load.result.card ≡ loaded (cells_of cell_count bytes) f.fresh-of.result bytes
+card-at : (l : tie.After-load-loaded) → let bytes = l.args.bytes.now in
+    l.load-loaded.result.card ≡ loaded (cells_of cell_count bytes) l.fresh_of.result bytes
 card-at l =
-    let bytes = l.before.before.before.before.before.before.before.before.before.args.bytes.now in
-    l.load.ensures.0 ∙ ap (λ (m : ℕ). loaded m l.before.fresh-of.result bytes) (sized l.before)
+    let bytes = l.args.bytes.now in
+    l.load-loaded.ensures.0 ∙ ap (λ (m : ℕ). loaded m l.fresh_of.result bytes) (sized l.before)
 
-taken : (e : tie.Else3) → loader_number cell_count e.before.before.before.before.before.before.before.before.before.before.args.bytes.now ≡ 0
-taken e = sym (number_at e.before) ∙ e.if3.false
+taken : (e : tie.Else-k-ne0) → loader_number cell_count e.args.bytes.now ≡ 0
+taken e = sym (number_at e.before) ∙ e.if-k-ne0.false
 
 -- what the code found of its durations
-found : (e : tie.After-all-narrow)
-    → let to = e.before.before.before.before.before.before.before.before.before.before.before in
-    too_long cell_count to.before.before.before.before.args.bytes.now
-    ≡ (eqb to.other-form.result.width narrow_width && not e.all-narrow.result)
+found : (e : tie.After-all_narrow)
+    → too_long cell_count e.args.bytes.now
+    ≡ (eqb e.other_form-to.result.width narrow_width && not e.all_narrow.result)
 unfolding too_long
 found e =
-    let load = e.before.before.before.before.before.before in
-    let count = load.before.before.Cells-of.ensures.0 in
-    let to = load.before.before.before.before.before in
-    let bytes = to.before.before.before.before.args.bytes.now in
-    let cells = (λ i. take (count i) (card-at load i).cells)
+    let count = e.cells_of-n.ensures.0 in
+    let bytes = e.args.bytes.now in
+    let cells = (λ i. take (count i) (card-at e.before.before.before.before.before.before i).cells)
     ∙ loaded-cells (cells_of cell_count bytes) _ bytes (taken e.before.before.before.before.before) in
-    let all = e.all-narrow.ensures ∙ ap (every narrow_cell) cells in
-    ap₂ (λ (w : ℕ) (q : Bool). eqb w narrow_width && not q) (sym to.other-form.ensures.0) (sym all)
+    let all = e.all_narrow.ensures ∙ ap (every narrow_cell) cells in
+    ap₂ (λ (w : ℕ) (q : Bool). eqb w narrow_width && not q) (sym e.other_form-to.ensures.0) (sym all)
 
 -- the bounds of the number of cells
 module _ (m n : ℕ) (e : n ≡ m) where
@@ -89,115 +84,100 @@ module _ (m n : ℕ) (e : n ≡ m) where
   at_most h = omega arith
 
 -- and of the cells above those of a small card
-found-above : (v : tie.After-valid-settings)
-    → let load = v.before.before.before.before.before.before.before.before.before.before in
-    above_small cell_count load.before.before.before.before.before.before.before.before.before.args.bytes.now
-    ≡ (not v.before.all-blank.result || not v.valid-settings.result)
+found-above : (v : tie.After-valid_settings)
+    → above_small cell_count v.args.bytes.now
+    ≡ (not v.all_blank.result || not v.valid_settings.result)
 unfolding cells_for
 found-above v =
-    let blank = v.before in
-    let load = v.before.before.before.before.before.before.before.before.before.before in
-    let count = load.before.before.Cells-of.ensures in
-    let bytes = load.before.before.before.before.before.before.before.before.before.args.bytes.now in
-    let d = load.before.fresh-of.result in
+    let count = v.cells_of-n.ensures in
+    let bytes = v.args.bytes.now in
+    let d = v.fresh_of.result in
     let m = cells_of cell_count bytes in
     let least = at_least m _ count.0 count.1.0 in
     let ok = taken v.before.before.before.before.before.before.before.before.before in
-    let all = blank.all-blank.ensures ∙ (λ i. every is_blank (take (count.0 i - cell_count) (drop cell_count (card-at load i).cells)))
+    let all = v.all_blank.ensures ∙ (λ i. every is_blank (take (count.0 i - cell_count) (drop cell_count (card-at v.before.before.before.before.before.before.before.before.before.before i).cells)))
     ∙ ap (every is_blank) (sym (drop-taken cell_count m (loaded m d bytes).cells least)) in
-    let card = load.load.result.card in
-    let rules = v.valid-settings.ensures ∙ ap (valid cell_count card.trigger card.cells) v.before.before.each_of.ensures
-    ∙ ap (λ (c : Card). valid cell_count c.trigger c.cells (each c.connectors)) (card-at load) in
+    let card = v.load-loaded.result.card in
+    let rules = v.valid_settings.ensures ∙ ap (valid cell_count card.trigger card.cells) v.each_of-connectors.ensures
+    ∙ ap (λ (c : Card). valid cell_count c.trigger c.cells (each c.connectors)) (card-at v.before.before.before.before.before.before.before.before.before.before) in
     above-is cell_count bytes d least (at_most m _ count.0 count.1.1) ok
     ∙ ap₂ (λ (p q : Bool). not p || not q) (sym all) (sym rules)
 
-returns : tie.Need-returns
+returns : tie.Need-returns-then-given
 returns c =
-    let a = c.before.before.before.args in
+    let a = c.args in
     let bytes = a.bytes.now in
     let buffer = a.buffer.now in
-    let number = number_is cell_count (length buffer) bytes true _ _ _ _ c.if1.true refl refl refl refl in
+    let number = number_is cell_count (length buffer) bytes true _ _ _ _ c.if-given.true refl refl refl refl in
     let r = refused_as cell_count 14 bytes buffer number refl in
     (r.0, (r.1, (r.2, zero-le)))
 
-returns-2 : tie.Need-returns-2
+returns-2 : tie.Need-returns-then-buffer-to
 returns-2 c =
-    let e = c.before.before.before in
-    let a = e.before.before.before.args in
+    let a = c.args in
     let bytes = a.bytes.now in
     let buffer = a.buffer.now in
-    let len = c.before.before.other-form.ensures.1.1 in
-    let short = lt-ltb (length buffer) (record_length cell_count (other_width cell_count bytes)) (omega (arith, c.if2.true, len)) in
-    let number = number_is cell_count (length buffer) bytes false true _ _ _ (known e) short refl refl refl in
+    let len = c.other_form-to.ensures.1.1 in
+    let short = lt-ltb (length buffer) (record_length cell_count (other_width cell_count bytes)) (omega (arith, c.if-buffer-to.true, len)) in
+    let number = number_is cell_count (length buffer) bytes false true _ _ _ (known c.before.before.before) short refl refl refl in
     let r = refused_as cell_count 1 bytes buffer number refl in
     (r.0, (r.1, (r.2, zero-le)))
 
-returns-3 : tie.Need-returns-3
+returns-3 : tie.Need-returns-then-k-ne0
 returns-3 c =
-    let e = c.before.before.before.before in
-    let a = e.before.before.before.before.before.before.args in
+    let a = c.args in
     let bytes = a.bytes.now in
     let buffer = a.buffer.now in
-    let k = c.before.load.result.k in
-    let other = ne_eqb k 0 c.if3.true in
-    let number = number-loader cell_count (length buffer) bytes k (known e.before.before.before) (enough e) (sym (number_at c.before)) other in
+    let k = c.load-loaded.result.k in
+    let other = ne_eqb k 0 c.if-k-ne0.true in
+    let number = number-loader cell_count (length buffer) bytes k (known c.before.before.before.before.before.before.before) (enough c.before.before.before.before) (sym (number_at c.before)) other in
     let r = refused_as cell_count k bytes buffer number other in
     (r.0, (r.1, (r.2, zero-le)))
 
-returns-4 : tie.Need-returns-4
+returns-4 : tie.Need-returns-then-to-all_narrow
 returns-4 c =
-    let e = c.before.before.before.before.before.before in
-    let room = e.before.before.before.before in
-    let a = room.before.before.before.before.before.before.args in
+    let a = c.args in
     let bytes = a.bytes.now in
     let buffer = a.buffer.now in
-    let long = found c.before ∙ c.if4.true in
-    let number = number_is cell_count (length buffer) bytes false false true _ 0 (known room.before.before.before) (enough room) (taken e) long refl in
+    let long = found c.before ∙ c.if-to-all_narrow.true in
+    let number = number_is cell_count (length buffer) bytes false false true _ 0 (known c.before.before.before.before.before.before.before.before.before.before.before.before.before) (enough c.before.before.before.before.before.before.before.before.before.before) (taken c.before.before.before.before.before.before) long refl in
     let r = refused_as cell_count 17 bytes buffer number refl in
     (r.0, (r.1, (r.2, zero-le)))
 
-returns-5 : tie.Need-returns-5
+returns-5 : tie.Need-returns-then-all_blank-valid_settings
 returns-5 c =
-    let narrow = c.before.before.before.before.before in
-    let e = narrow.before.before.before.before.before in
-    let room = e.before.before.before.before in
-    let a = room.before.before.before.before.before.before.args in
+    let a = c.args in
     let bytes = a.bytes.now in
     let buffer = a.buffer.now in
-    let long = found narrow ∙ c.before.before.before.before.if4.false in
-    let above = found-above c.before ∙ c.if5.true in
-    let number = number_is cell_count (length buffer) bytes false false false true 0 (known room.before.before.before) (enough room) (taken e) long above in
+    let long = found c.before.before.before.before.before ∙ c.if-to-all_narrow.false in
+    let above = found-above c.before ∙ c.if-all_blank-valid_settings.true in
+    let number = number_is cell_count (length buffer) bytes false false false true 0 (known c.before.before.before.before.before.before.before.before.before.before.before.before.before.before.before.before.before) (enough c.before.before.before.before.before.before.before.before.before.before.before.before.before.before) (taken c.before.before.before.before.before.before.before.before.before.before) long above in
     let r = refused_as cell_count 18 bytes buffer number refl in
     (r.0, (r.1, (r.2, zero-le)))
 
-returns-6 : tie.Need-returns-6
+returns-6 : tie.Need-returns
 unfolding record_of
 returns-6 c =
-    let last = c.before.before.before.before in
-    let narrow = last.before.before.before.before.before in
-    let e = narrow.before.before.before.before.before in
-    let load = e.before in
-    let count = load.before.before.Cells-of.ensures in
-    let room = e.before.before.before.before in
-    let to = room.before.before.other-form in
-    let a = room.before.before.before.before.before.before.args in
+    let count = c.cells_of-n.ensures in
+    let to = c.other_form-to in
+    let a = c.args in
     let bytes = a.bytes.now in
     let buffer = a.buffer.now in
     let m = cells_of cell_count bytes in
-    let long = found narrow ∙ last.before.before.before.before.if4.false in
-    let above = found-above last.before ∙ last.if5.false in
-    let number = number_is cell_count (length buffer) bytes false false false false 0 (known room.before.before.before) (enough room)
-    (taken e) long above in
+    let long = found c.before.before.before.before.before.before.before.before.before ∙ c.if-to-all_narrow.false in
+    let above = found-above c.before.before.before.before.before ∙ c.if-all_blank-valid_settings.false in
+    let number = number_is cell_count (length buffer) bytes false false false false 0 (known c.before.before.before.before.before.before.before.before.before.before.before.before.before.before.before.before.before.before.before.before.before) (enough c.before.before.before.before.before.before.before.before.before.before.before.before.before.before.before.before.before.before)
+    (taken c.before.before.before.before.before.before.before.before.before.before.before.before.before.before) long above in
     let is = converted_as cell_count bytes buffer number in
-    let form = held-form cell_count bytes load.before.fresh-of.result (at_least m _ count.0 count.1.0) (at_most m _ count.0 count.1.1)
-    (taken e) in
-    let card = load.load.result.card in
-    let listed-row = ap (encode to.result.width card.trigger (take cell_count card.cells)) last.before.before.before.each_of.ensures in
-    let written = listed-row ∙ ap (record_of cell_count to.result.width) (card-at load) ∙ form to.result.width to.ensures.0 in (
+    let form = held-form cell_count bytes c.fresh_of.result (at_least m _ count.0 count.1.0) (at_most m _ count.0 count.1.1)
+    (taken c.before.before.before.before.before.before.before.before.before.before.before.before.before.before) in
+    let card = c.load-loaded.result.card in
+    let listed-row = ap (encode to.result.width card.trigger (take cell_count card.cells)) c.each_of-connectors.ensures in
+    let written = listed-row ∙ ap (record_of cell_count to.result.width) (card-at c.before.before.before.before.before.before.before.before.before.before.before.before.before.before.before) ∙ form to.result.width to.ensures.0 in (
       sym number,
       (
         to.ensures.1.1 ∙ is.0,
-        (c.before.before.encode-to.ensures ∙ ap (sets buffer 0) written ∙ is.1, search rules),
+        (c.encode_to.ensures ∙ ap (sets buffer 0) written ∙ is.1, search rules),
       ),
     )
 
