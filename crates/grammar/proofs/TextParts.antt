@@ -25,7 +25,7 @@ use Rattle.grammar.specs.declared.grammar.Ending.{Ending}
 use Rattle.grammar.specs.declared.grammar.Slot.{Slot}
 use Rattle.grammar.specs.declared.grammar.Slot.TheVariants.{X, Y, Z, F, NoSlot}
 use Rattle.grammar.specs.Grammar.{char_at, is_word, is_whole, to_end, slot_of, gave, give, is_pair, pair_read}
-use Rattle.grammar.specs.Grammar.{equals, blank, CCB}
+use Rattle.grammar.specs.Grammar.{equals, blank}
 use Rattle.grammar.specs.Texts.{letter_of, given_pair, given_pairs, pairs_text, printable, printable_slots}
 use Rattle.grammar.proofs.Printed.{Takes, read, steps, some}
 use Rattle.grammar.proofs.Printed.{pairs-each}

@@ -34,7 +34,6 @@ use Rattle.grammar.specs.Texts.Says.{printed, bang, ordered}
 use Rattle.grammar.specs.Texts.SaysOther.{other}
 use Rattle.grammar.proofs.Printed.{parse-card, read, steps, pairs-read, pairs-short, no_read, some, takes_all_lem, all-printable, at-most-four}
 use Rattle.grammar.proofs.Printed.{text-parses}
-use Rattle.grammar.proofs.Printed.Takes.{none, next}
 use Rattle.grammar.proofs.TextParts.{prints, perm-takes, perm-every, perm-length, takes-perm, takes-printable, byte-there, before-there}
 use Rattle.grammar.proofs.TextParts.{word-there, whole-there, letter-back, ending_there, Said, pairs-said}
 

@@ -1,6 +1,5 @@
 -- `grammar::grammar::addressed` meets its contract: each arm is a case of the definition.
 use Rattle.grammar.specs.Grammar.{addressed}
-use borrow.Author.Rules.{rules}
 use Rattle.grammar.proofs.grammar.addressed.Goals as goal
 
 pub returns-then-here : goal.returns-then-here

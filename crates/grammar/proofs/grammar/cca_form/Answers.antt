@@ -1,7 +1,6 @@
 -- `grammar::grammar::cca_form` meets its contract: each way is a case of the definition.
 use borrow.Author.Tests.{eq-eqb, ne_eqb}
 use Rattle.grammar.specs.Grammar.{cca_form}
-use borrow.Author.Rules.{rules}
 use Rattle.grammar.proofs.grammar.cca_form.Goals as goal
 
 pub returns-then-sign-eq61 : goal.returns-then-sign-eq61

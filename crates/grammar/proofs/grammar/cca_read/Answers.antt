@@ -1,6 +1,5 @@
 -- `grammar::grammar::cca_read` meets its contract: each arm is a case of the definition.
 use Rattle.grammar.specs.Grammar.{cca_read}
-use borrow.Author.Rules.{rules}
 use Rattle.grammar.proofs.grammar.cca_read.Goals as goal
 
 pub returns-in-X : goal.returns-in-X

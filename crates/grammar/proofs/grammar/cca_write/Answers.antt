@@ -1,6 +1,5 @@
 -- `grammar::grammar::cca_write` meets its contract: each arm is a case of the definition.
 use Rattle.grammar.specs.Grammar.{cca_write}
-use borrow.Author.Rules.{rules}
 use Rattle.grammar.proofs.grammar.cca_write.Goals as goal
 
 pub returns-then-e : goal.returns-then-e

@@ -1,6 +1,5 @@
 -- `grammar::grammar::ccb_form` meets its contract: each way is a case of the definition.
 use Rattle.grammar.specs.Grammar.{ccb_form}
-use borrow.Author.Rules.{rules}
 use Rattle.grammar.proofs.grammar.ccb_form.Goals as goal
 
 pub returns-then-framed-text : goal.returns-then-framed-text

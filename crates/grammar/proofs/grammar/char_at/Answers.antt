@@ -1,7 +1,6 @@
 -- `grammar::grammar::char_at` meets its contract: past the end a list reads as 0.
 use mathlib.Core.Path.{sym}
 use lib.ListN.{get_or-eq_default}
-use borrow.Author.Rules.{rules}
 use Rattle.grammar.proofs.grammar.char_at.Goals as goal
 
 pub returns-else-at-text : goal.returns-else-at-text

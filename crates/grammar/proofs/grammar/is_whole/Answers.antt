@@ -1,8 +1,7 @@
 -- `grammar::grammar::is_whole` meets its contract: by `is_word`, and the lengths.
 use Rattle.grammar.specs.Grammar.{is_whole}
-use borrow.Author.Rules.{rules}
 use Rattle.grammar.proofs.grammar.is_whole.Goals as goal
 
 pub returns : goal.returns
 unfolding is_whole
-returns c = rw c.is_Is_word.ensures
+returns c = rw c.is_word.ensures

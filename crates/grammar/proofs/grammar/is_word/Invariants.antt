@@ -1,13 +1,8 @@
 -- `grammar::grammar::is_word` meets its contract: after i turns what is left to show is the word without its first i bytes.
-use borrow.Author.Rules.{rules}
-use Prim.Native.Nat.{◌+◌, ◌-◌, ◌≤◌, zero-le}
-use mathlib.Core.Path.{◌≡◌, sym, ◌∙◌}
-use native.Mathlib.Nat.{add-zero}
-use native.Mathlib.Omega.{arith}
+use Prim.Native.Nat.{◌+◌, ◌-◌, ◌≤◌}
+use mathlib.Core.Path.{◌≡◌}
 use lib.ListN.{length, drop}
-use borrow.Author.Tests.{eq-eqb, ne_eqb}
 use Rattle.grammar.specs.Grammar.{is_word}
-use Rattle.grammar.proofs.Words.{word_next, word_end}
 use Rattle.grammar.proofs.grammar.is_word.Given as goal
 
 abbrev pub invariant-loop-i : goal.invariant-loop-i

@@ -1,5 +1,4 @@
 -- `grammar::grammar::moved` meets its contract: each arm is a case of the definition.
-use borrow.Author.Rules.{rules}
 use Rattle.grammar.proofs.grammar.moved.Goals as goal
 
 pub returns-then-e : goal.returns-then-e

@@ -2,7 +2,6 @@
 use mathlib.Core.Path.{ap, ◌∙◌}
 use borrow.Author.Tests.{le-leb, lt-leb}
 use Rattle.grammar.specs.Grammar.{longest_line, addressed, parse}
-use borrow.Author.Rules.{rules}
 use Rattle.grammar.proofs.grammar.parse_line.Goals as goal
 
 pub returns-then-n-lt1 : goal.returns-then-n-lt1

@@ -1,6 +1,5 @@
 -- `grammar::grammar::read_form` meets its contract: each arm is a case of the definition.
 use Rattle.grammar.specs.Grammar.{read_form}
-use borrow.Author.Rules.{rules}
 use Rattle.grammar.proofs.grammar.read_form.Goals as goal
 
 pub returns-then-char_at-text : goal.returns-then-char_at-text

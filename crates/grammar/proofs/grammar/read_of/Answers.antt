@@ -1,6 +1,5 @@
 -- `grammar::grammar::read_of` meets its contract: each arm is a case of the definition.
 use Rattle.grammar.specs.Grammar.{read_of}
-use borrow.Author.Rules.{rules}
 use Rattle.grammar.proofs.grammar.read_of.Goals as goal
 
 pub returns-in-X : goal.returns-in-X

@@ -1,6 +1,5 @@
 -- `grammar::grammar::slot_form` meets its contract: each arm is a case of the definition.
 use Rattle.grammar.specs.Grammar.{slot_form}
-use borrow.Author.Rules.{rules}
 use Rattle.grammar.proofs.grammar.slot_form.Goals as goal
 
 pub returns-in-X : goal.returns-in-X

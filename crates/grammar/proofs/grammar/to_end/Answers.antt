@@ -1,7 +1,6 @@
 -- `grammar::grammar::to_end` meets its contract: each way is a case of the definition.
 use borrow.Author.Tests.{le-leb, lt-leb}
 use Rattle.grammar.specs.Grammar.{to_end}
-use borrow.Author.Rules.{rules}
 use Rattle.grammar.proofs.grammar.to_end.Goals as goal
 
 pub returns-then-n-next : goal.returns-then-n-next

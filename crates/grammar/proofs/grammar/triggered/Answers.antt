@@ -1,5 +1,4 @@
 -- `grammar::grammar::triggered` meets its contract: each arm is a case of the definition.
-use borrow.Author.Rules.{rules}
 use Rattle.grammar.proofs.grammar.triggered.Goals as goal
 
 pub returns-then-e : goal.returns-then-e

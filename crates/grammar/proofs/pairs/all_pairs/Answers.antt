@@ -1,7 +1,6 @@
 -- `grammar::pairs::all_pairs` meets its contract: four steps, and the end of the line.
 use mathlib.Core.Path.{◌≡◌}
 use Rattle.grammar.specs.Grammar.{begun, pair_read, pairs_of}
-use borrow.Author.Rules.{rules}
 use Rattle.grammar.proofs.pairs.all_pairs.Goals as goal
 use Rattle.grammar.proofs.pairs.all_pairs.Goals.{After-read_pair-r}
 

@@ -1,6 +1,5 @@
 -- `grammar::pairs::give` meets its contract: each arm is a case of the definition.
 use Rattle.grammar.specs.Grammar.{give}
-use borrow.Author.Rules.{rules}
 use Rattle.grammar.proofs.pairs.give.Goals as goal
 
 pub returns-in-X : goal.returns-in-X
