@@ -1,6 +1,6 @@
 -- A quick tick in which every cell sleeps, in brief: the law of the fast path, taken apart.
 use Prim.Native.Nat.{ℕ, ◌≤◌}
-use mathlib.Core.Path.{◌≡◌, refl, sym, ap, ◌∙◌}
+use mathlib.Core.Path.{◌≡◌, sym, ap, ◌∙◌}
 use mathlib.Core.Bool.{false, true}
 use lib.Count.{ones, ones_in}
 use lib.ListN.{length}

@@ -36,7 +36,7 @@ use Rattle.ticks.specs.declared.tick.Turned.{Turned}
 use Rattle.ticks.specs.declared.tick.Ticked.{Ticked}
 use Rattle.ticks.specs.declared.tick.Answer.{Answer}
 use Rattle.ticks.specs.Tick.{Turn, read_now, read_last, slept_turn, named, turn_at, outputs_below, turn_of, cell_after, turn_named, woke_at, turned}
-use Rattle.ticks.specs.Tick.{wires_of, lines, turned_in, ticked, idle, tick}
+use Rattle.ticks.specs.Tick.{wires_of, lines, turned_in, ticked, tick}
 use Rattle.ticks.specs.Reading.{level_at, slots_read, mixed, view}
 use Rattle.ticks.specs.Rest.{steady_wires, slept_all, steady, cell_rests, all_rest, AtRest, rest_answer, with_total, total_of, total_after, rest_total}
 use Rattle.ticks.specs.Words.{FitsMemory}

@@ -19,7 +19,7 @@ use Rattle.ticks.specs.declared.connectors.Lines.{Lines}
 use Rattle.ticks.specs.declared.view.Input.{Input}
 use Rattle.ticks.specs.Tick.{read_last, turn_at, cell_after, turn_named, woke_at, turned, wires_of, lines, turned_in, ticked_on, ticked, idle, tick_on, tick}
 use Rattle.ticks.specs.Settled.{remembered}
-use Rattle.ticks.specs.Exact.{cell_before, reads_at, cell_named, due_at, cell_exact, output_exact, Exact, WorksExactly}
+use Rattle.ticks.specs.Exact.{cell_before, cell_named, due_at, cell_exact, output_exact, Exact, WorksExactly}
 use Rattle.ticks.proofs.Cases.{turn-named, turn-due, turn-cell, turn-out, tick-other}
 use Rattle.ticks.proofs.Sleep.{output-bit}
 use Rattle.ticks.proofs.Ticks.{outputs-built}

@@ -1,10 +1,10 @@
 -- Laws of a word's lowest set bit, over any width: `trailing_zeros` gives its place, and `w & (w -
 -- 1)` is the word with it cleared.
-use Prim.Native.Nat.{ℕ, zero, suc, ◌+◌, ◌-◌, ◌*◌, ◌/◌, ◌%◌, ◌^◌, ◌≤◌, ◌<◌}
+use Prim.Native.Nat.{ℕ, zero, suc, ◌+◌, ◌-◌, ◌*◌, ◌/◌, ◌%◌, ◌^◌, ◌<◌}
 use mathlib.Core.Path.{◌≡◌, refl, sym, ap, ap₂, ◌∙◌}
-use mathlib.Core.Bool.{Bool, true, false}
+use mathlib.Core.Bool.{true, false}
 use native.Mathlib.Decide.{dec_lt}
-use native.Mathlib.Nat.{two-pow-succ, lt-suc_self, add-zero, mul-add, mod_self}
+use native.Mathlib.Nat.{two-pow-succ, lt-suc_self, mul-add, mod_self}
 use native.Mathlib.Omega.{arith}
 use lib.Bits.{bit_and, and_block, and_mask, and_self}
 use lib.Count.{count_trailing_zeros, under}

@@ -5,7 +5,6 @@ use Prim.Native.Nat.{ℕ, ◌<◌}
 use mathlib.Core.Path.{◌≡◌, refl, subst}
 use mathlib.Core.Bool.{Bool, true, false, cond}
 use mathlib.Core.List.{List, [], ◌∷◌}
-use lib.ListN.{get_or}
 use Rattle.words.specs.Bits.{bit_at}
 use Rattle.words.proofs.Bools.{or_right}
 use Rattle.words.proofs.Listed.{front_at}

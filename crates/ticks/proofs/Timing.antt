@@ -3,7 +3,7 @@
 -- sleep.
 use Prim.Native.Nat.{ℕ, ◌+◌, ◌<◌}
 use mathlib.Core.Path.{◌≡◌, refl, sym, ap, ◌∙◌}
-use mathlib.Core.Bool.{Bool, true, false, cond, true≢false}
+use mathlib.Core.Bool.{Bool, true, false, true≢false}
 use mathlib.Core.List.{List, [], ◌∷◌}
 use native.Mathlib.Nat.{add-zero, zero-add}
 use native.Mathlib.Omega.{arith}
@@ -17,7 +17,7 @@ use Rattle.cells.specs.Timing.{is_timer, pulses_in, pulses_before, ignoring}
 use Rattle.cells.proofs.Timers.{Word, taken-stirs, word-taken, word-worked, word-slept, word-ignored, ignoring-fewer}
 use Rattle.card.specs.declared.card.Card.{Card}
 use Rattle.ticks.specs.declared.view.Input.{Input}
-use Rattle.ticks.specs.Runs.{Step, cell_at, step_runs, step_reads, stepped, tick_by, last_of, after_all, readings_in, ResetLow, own}
+use Rattle.ticks.specs.Runs.{Step, cell_at, step_reads, stepped, tick_by, last_of, after_all, readings_in, ResetLow, own}
 use Rattle.ticks.specs.Timing.{TakesTrigger, TakesNone, TimerPromiseOn, IgnoresAllOn, TimerPromise, IgnoresAll}
 use Rattle.ticks.proofs.Cases.{by-tick-on}
 use Rattle.ticks.proofs.Runs.{output_at, worked_cell, worked_out, after-step, Lasts, lasts, always}

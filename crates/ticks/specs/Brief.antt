@@ -9,7 +9,6 @@ use Rattle.card.specs.Tally.{ticks, standstill}
 use Rattle.ticks.specs.declared.brief.Brief.{Brief}
 use Rattle.ticks.specs.declared.connectors.Lines.{Lines}
 use Rattle.ticks.specs.declared.view.Input.{Input}
-use Rattle.ticks.specs.declared.tick.Ticked.{Ticked}
 use Rattle.ticks.specs.Tick.{moved, lines, ticked_on}
 
 -- the tick total after a tick that ran

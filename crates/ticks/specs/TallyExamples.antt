@@ -1,6 +1,6 @@
 -- Document 02, "Wake tallies", by computation: one tick at and around the limit, and whom full
 -- ticks name.
-use Rattle.std.specs.Prelude.{ℕ, ◌-◌, ◌^◌, ◌≡◌, refl, Bool, true, false, List, [], ◌∷◌, ◌++◌, map, get_or, replicate, take}
+use Rattle.std.specs.Prelude.{ℕ, ◌-◌, ◌^◌, ◌≡◌, refl, Bool, true, false, List, [], ◌∷◌, ◌++◌, map, replicate, take}
 use Rattle.words.specs.Bits.{bit_at, word_of}
 use Rattle.words.specs.Listed.{listed}
 use Rattle.cells.specs.declared.cell.Ticks.{Ticks}
@@ -12,11 +12,10 @@ use Rattle.card.specs.Address.{cell_count}
 use Rattle.card.specs.Connectors.{kind_at, source_at}
 use Rattle.card.specs.Fresh.{fresh, started}
 use Rattle.card.specs.Tally.{ticks, counted, tallied_by}
-use Rattle.ticks.specs.declared.view.Input.{Input}
 use Rattle.ticks.specs.Reading.{level_at, reads_levels, reads, slots_read, mixed, view}
 use Rattle.ticks.specs.Levels.{effective_sample, driven_word, levels_from, lines_of}
 use Rattle.ticks.specs.Tick.{read_now, read_last, named, turn_at, outputs_below, turned, tick}
-use Rattle.ticks.specs.Examples.{card, clock0}
+use Rattle.ticks.specs.Examples.{clock0}
 
 -- a fresh card with these edits, this tick total and these tallies of cells 1 to 3
 handed : (edited total one two three : ℕ) → Card

@@ -61,10 +61,10 @@ fn stepped(
     q: &[u64; QUARTERS],
     d: &[u64; QUARTERS],
 ) -> Stepped
-    ensures { (f g h : ℕ → Bool) → ReadsAs (now q.entry) f g → MovesAs (now d.entry) f g h →
-        let now = slots_read f g cell.slots in
-        StepsTo result full (rules_name cell edited now (slots_read g h cell.slots)) (state_of cell)
-        (work_out cell.kind cell.config (state_of cell) now) (looked_at cell.kind now) }
+    ensures { (f g h : ℕ → Bool) → ReadsAs q.now f g → MovesAs d.now f g h →
+        let read = slots_read f g cell.slots in
+        StepsTo result full (rules_name cell edited read (slots_read g h cell.slots)) (state_of cell)
+        (work_out cell.kind cell.config (state_of cell) read) (looked_at cell.kind read) }
 {
     let s = cell.slots;
     let x = address(s[0]);

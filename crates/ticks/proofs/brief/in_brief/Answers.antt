@@ -2,10 +2,9 @@
 -- the fast path hold its law says what the tick comes to.
 use Prim.Native.Nat.{ℕ, ◌^◌, ◌≤◌, ◌<◌}
 use mathlib.Core.Path.{◌≡◌, sym, ap, subst, ◌∙◌}
-use mathlib.Core.Bool.{Bool, false, true, false≢true}
+use mathlib.Core.Bool.{false, true, false≢true}
 use native.Mathlib.Omega.{arith}
 use lib.ListN.{length}
-use borrow.Author.Rules.{rules}
 use borrow.Author.Tests.{eqb-true, not-false}
 use Rattle.words.proofs.Bools.{or_left}
 use Rattle.card.specs.declared.card.Memory.{Memory}
@@ -39,7 +38,7 @@ own-lines l =
     ∙ lines-trim n a.card.memory a.card.connectors sample
 
 tallies-long : (c : Start) → length c.args.card.tallies.cells ≡ cell_room
-tallies-long c = search (as_long, c.well_formed.0.0.1.1.1)
+tallies-long c = search as_long
 
 pub returns-then-card-unchanged : goal.returns-then-card-unchanged
 returns-then-card-unchanged c =

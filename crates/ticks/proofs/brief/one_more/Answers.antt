@@ -1,6 +1,5 @@
 -- `ticks::brief::one_more` meets its contract: it tests what the definition tests.
 use native.Mathlib.Omega.{arith}
-use borrow.Author.Rules.{rules}
 use borrow.Author.Tests.{lt-ltb, le-ltb}
 use Rattle.card.specs.Tally.{standstill}
 use Rattle.ticks.proofs.brief.one_more.Goals as goal

@@ -1,6 +1,5 @@
 -- `ticks::brief::slept` meets its contract: the total is the definition's, and the rest is written
 -- out.
-use borrow.Author.Rules.{rules}
 use Rattle.ticks.proofs.brief.slept.Goals as goal
 
 pub returns : goal.returns

@@ -1,5 +1,4 @@
 -- `ticks::connectors::drive` meets its contract: by those of its calls.
-use borrow.Author.Rules.{rules}
 use Rattle.ticks.specs.Levels.{lines_of}
 use Rattle.ticks.proofs.connectors.drive.Goals as goal
 

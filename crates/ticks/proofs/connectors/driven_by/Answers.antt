@@ -1,8 +1,8 @@
 -- `ticks::connectors::driven_by` meets its contract: of the outputs that are not left the driven
 -- word has the bits, and each turn takes the lowest.
-use Prim.Native.Nat.{ℕ, ◌-◌, ◌^◌, ◌<◌}
-use mathlib.Core.Path.{◌≡◌, refl, sym, ap, ap₂, ◌∙◌}
-use mathlib.Core.Bool.{Bool, true, false, ◌&&◌, ◌||◌, cond}
+use Prim.Native.Nat.{ℕ, ◌-◌, ◌<◌}
+use mathlib.Core.Path.{◌≡◌, refl, sym, ap, ◌∙◌}
+use mathlib.Core.Bool.{Bool, true, false, ◌&&◌, cond}
 use mathlib.Core.List.{List}
 use native.Mathlib.Omega.{arith}
 use native.Mathlib.Nat.{lt_of_le_of_lt}
@@ -41,8 +41,8 @@ loop-left-init c =
     )
 
 -- the lowest of those that are left
-lowest-left : (c : In-loop-left) → let w = c.loop-left.false in Lowest connector_count w (count_trailing_zeros connector_count w)
-lowest-left c = lowest connector_count c.loop-left.false (omega (arith, c.loop-left-test.true)) c.loop-left.invariant.3
+lowest-left : (c : In-loop-left) → let w = c.loop-left.left in Lowest connector_count w (count_trailing_zeros connector_count w)
+lowest-left c = lowest connector_count c.loop-left.left (omega (arith, c.loop-left-test.true)) c.loop-left.invariant.3
 
 pub overflow_cast-k : goal.overflow_cast-k
 overflow_cast-k c = record { fits = omega (arith, (lowest-left (goal.at.overflow_cast-k c).In-loop-left).within) }
@@ -66,34 +66,32 @@ loop-left-smaller c = less-left _ c.loop-left-test.true
 -- what is still left was left
 left-before : (w k : ℕ) → bit_at (bit_and w (w - 1)) k ≡ true → bit_at w k ≡ true
 left-before w k e = and_left (bit_at w k) (bit_at (w - 1) k) (sym (bit-and w (w - 1) k) ∙ e)
+
 -- the driven word after a turn, by whether the source is high
-module _ (c : After-is_high) where
-  turn-of : (b : Bool) → c.is-high.result ≡ b
-      → let l = c.before.before.before.loop in let a = c.before.before.before.before.before.before.before.args in
-      let outputs = bit_or a.connectors.push_pull a.connectors.open_drain in let k = count_trailing_zeros connector_count l.left in
-      cond b (with_bit l.driven k true) l.driven
-      ≡ word_of (taken_bit connector_count (driving a.now a.before a.connectors.sources outputs) (bit_and l.left (l.left - 1))) connector_count
-  turn-of b e =
-      let at = c.before.before.before in
-      let l = at.loop in
-      let q = at.before.before.before in
-      let a = q.before.args in
-      let outputs = bit_or a.connectors.push_pull a.connectors.open_drain in
-      let k = count_trailing_zeros connector_count l.left in
-      let low = lowest-left c.before.before in
-      let was = lowest_set connector_count l.left k low in
-      let source = reads (bit_at a.now) (bit_at a.before) (get_or a.connectors.sources k 0) in
-      let high : c.is-high.result ≡ driving a.now a.before a.connectors.sources outputs k =
-      c.is-high.ensures (bit_at a.now) (bit_at a.before) q.quarters.ensures l.invariant.0
-      ∙ sym (ap (λ (x : Bool). x && source) (l.invariant.2 k was)) in
-      taken_next connector_count (driving a.now a.before a.connectors.sources outputs) l.left (bit_and l.left (l.left - 1)) k l.driven b
-      low.within was (lowest-clear connector_count l.left k low) (lowest-other connector_count l.left k low) l.invariant.1 (sym e ∙ high)
+turn-of : (c : After-is_high) → (b : Bool) → c.is_high.result ≡ b
+    → let l = c.loop-left in let a = c.args in
+    let outputs = bit_or a.connectors.push_pull a.connectors.open_drain in let k = count_trailing_zeros connector_count l.left in
+    cond b (with_bit l.driven k true) l.driven
+    ≡ word_of (taken_bit connector_count (driving a.now a.before a.connectors.sources outputs) (bit_and l.left (l.left - 1))) connector_count
+turn-of c b e =
+    let l = c.loop-left in
+    let a = c.args in
+    let outputs = bit_or a.connectors.push_pull a.connectors.open_drain in
+    let k = count_trailing_zeros connector_count l.left in
+    let low : Lowest connector_count l.left k = lowest connector_count l.left (omega (arith, c.loop-left-test.true)) l.invariant.3 in
+    let was = lowest_set connector_count l.left k low in
+    let source = reads (bit_at a.now) (bit_at a.before) (get_or a.connectors.sources k 0) in
+    let high : c.is_high.result ≡ driving a.now a.before a.connectors.sources outputs k =
+    c.is_high.ensures (bit_at a.now) (bit_at a.before) c.quarters-q.ensures l.invariant.0
+    ∙ sym (ap (λ (x : Bool). x && source) (l.invariant.2 k was)) in
+    taken_next connector_count (driving a.now a.before a.connectors.sources outputs) l.left (bit_and l.left (l.left - 1)) k l.driven b
+    low.within was (lowest-clear connector_count l.left k low) (lowest-other connector_count l.left k low) l.invariant.1 (sym e ∙ high)
 
 pub loop-left-preserved-then-is_high : goal.loop-left-preserved-then-is_high
 loop-left-preserved-then-is_high c =
     let l = c.loop-left in (
       l.invariant.0,
-      c.with_set-driven.ensures ∙ turn-of c.before.before true c.if-is_high.true,
+      c.with_set-driven.ensures ∙ turn-of (goal.at.loop-left-preserved-then-is_high c).After-is_high true c.if-is_high.true,
       λ k e. l.invariant.2 k (left-before l.left k e),
       lt_of_le_of_lt (and_le_l l.left (l.left - 1)) l.invariant.3,
     )
@@ -102,7 +100,7 @@ pub loop-left-preserved : goal.loop-left-preserved
 loop-left-preserved c =
     let l = c.loop-left in (
       l.invariant.0,
-      turn-of c.before false c.if-is_high.false,
+      turn-of (goal.at.loop-left-preserved c).After-is_high false c.if-is_high.false,
       λ k e. l.invariant.2 k (left-before l.left k e),
       lt_of_le_of_lt (and_le_l l.left (l.left - 1)) l.invariant.3,
     )

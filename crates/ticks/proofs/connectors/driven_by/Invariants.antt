@@ -1,26 +1,14 @@
 -- `ticks::connectors::driven_by` meets its contract: of the outputs that are not left the driven
 -- word has the bits, and each turn takes the lowest.
-use Prim.Native.Nat.{ℕ, ◌-◌, ◌^◌, ◌<◌}
-use mathlib.Core.Path.{◌≡◌, refl, sym, ap, ap₂, ◌∙◌}
-use mathlib.Core.Bool.{Bool, true, false, ◌&&◌, ◌||◌, cond}
+use Prim.Native.Nat.{ℕ, ◌^◌, ◌<◌}
+use mathlib.Core.Path.{◌≡◌}
+use mathlib.Core.Bool.{Bool, true, false, ◌&&◌}
 use mathlib.Core.List.{List}
-use native.Mathlib.Omega.{arith}
-use native.Mathlib.Nat.{lt_of_le_of_lt}
-use lib.Bits.{bit_and, bit_or, and_le_l, and_le_r, or_lt}
-use lib.Count.{count_trailing_zeros}
 use lib.ListN.{get_or}
-use borrow.Author.Rules.{rules}
-use Rattle.words.specs.Bits.{bit_at, word_of, with_bit}
-use Rattle.words.proofs.Laws.{bit-and, bit-or, built-lt, built-same}
-use Rattle.words.proofs.Bools.{and_left}
-use Rattle.card.specs.declared.card.Connectors.{Connectors}
+use Rattle.words.specs.Bits.{bit_at, word_of}
 use Rattle.card.specs.Address.{connector_count}
-use Rattle.card.specs.Connectors.{is_output, kind_at, source_at}
-use Rattle.card.proofs.ConnectorLaws.{kind-output}
 use Rattle.ticks.specs.Reading.{reads}
-use Rattle.ticks.specs.Levels.{driven_at, driven_word}
-use Rattle.ticks.proofs.Drives.{taken_bit, taken_next, taken_none, taken-all}
-use Rattle.ticks.proofs.Lowest.{Lowest, lowest, lowest_set, lowest-clear, lowest-other}
+use Rattle.ticks.proofs.Drives.{taken_bit}
 use Rattle.ticks.proofs.connectors.driven_by.Given as goal
 
 -- connector k is one of the outputs, and its source is high

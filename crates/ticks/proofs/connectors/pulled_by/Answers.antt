@@ -8,7 +8,7 @@ use lib.Dec.{lit<}
 use Rattle.words.specs.Bits.{bit_at}
 use Rattle.words.proofs.Laws.{bit-and, bit-or, bit-xor, bit-ones, built-of-bits, built-same}
 use Rattle.card.specs.declared.card.Connectors.{Connectors}
-use Rattle.card.specs.Address.{connector_count, on_backplane}
+use Rattle.card.specs.Address.{connector_count}
 use Rattle.card.proofs.ConnectorLaws.{kind-output}
 use Rattle.ticks.specs.Levels.{pulled_at, pulled_word}
 use Rattle.ticks.proofs.Effective.{backplane, backplane-bit}

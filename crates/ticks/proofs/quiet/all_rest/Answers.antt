@@ -1,7 +1,6 @@
 -- `ticks::quiet::all_rest` meets its contract: after i turns the first i cells rest.
-use Prim.Native.Nat.{◌-◌, ◌≤◌, zero-le}
+use Prim.Native.Nat.{zero-le}
 use mathlib.Core.Path.{◌≡◌, refl, sym, ◌∙◌}
-use mathlib.Core.Bool.{true}
 use native.Mathlib.Omega.{arith}
 use Rattle.words.specs.Bits.{bit_at}
 use Rattle.ticks.specs.Rest.{all_rest}

@@ -1,13 +1,9 @@
 -- `ticks::quiet::all_rest` meets its contract: after i turns the first i cells rest.
-use Prim.Native.Nat.{◌-◌, ◌≤◌, zero-le}
-use mathlib.Core.Path.{◌≡◌, refl, sym, ◌∙◌}
+use Prim.Native.Nat.{◌-◌, ◌≤◌}
+use mathlib.Core.Path.{◌≡◌}
 use mathlib.Core.Bool.{true}
-use native.Mathlib.Omega.{arith}
 use Rattle.words.specs.Bits.{bit_at}
 use Rattle.ticks.specs.Rest.{all_rest}
-use borrow.Author.Tests.{not-true, not-false}
-use Rattle.ticks.proofs.AtRest.{rest-next, rest-fails}
-use borrow.Author.Rules.{rules}
 use Rattle.ticks.proofs.quiet.all_rest.Given as goal
 
 abbrev pub invariant-loop-i : goal.invariant-loop-i

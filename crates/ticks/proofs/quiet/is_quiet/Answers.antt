@@ -25,9 +25,9 @@ on true false r p q = absurd (false≢true q)
 pub returns-then-edited-ne0 : goal.returns-then-edited-ne0
 unfolding is_quiet
 returns-then-edited-ne0 c = record {
-      value = rw (ne_eqb _ 0 c.if-edited-ne0.true);
-      w_value = λ h. absurd (false≢true h);
-    }
+  value = rw (ne_eqb _ 0 c.if-edited-ne0.true);
+  w_value = λ h. absurd (false≢true h);
+}
 
 pub returns-then-not-unchanged : goal.returns-then-not-unchanged
 unfolding is_quiet

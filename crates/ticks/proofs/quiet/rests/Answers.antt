@@ -8,7 +8,6 @@ use Rattle.cells.specs.State.{state_of}
 use Rattle.cells.specs.Wake.{stirred}
 use Rattle.cells.proofs.Laws.{edgeless-still}
 use Rattle.ticks.proofs.Words.{Holds, slots-as}
-use borrow.Author.Rules.{rules}
 use Rattle.ticks.proofs.quiet.rests.Goals as goal
 
 pub returns-then-not-has_edges : goal.returns-then-not-has_edges

@@ -1,19 +1,14 @@
 -- `ticks::rest::at_rest` meets its contract: what it tests is what the laws of rest ask, both ways.
 use Prim.Native.Nat.{ℕ, ◌%◌, ◌^◌, ◌<◌}
-use mathlib.Core.Path.{◌≡◌, refl, sym, ap, ap₂, subst, ◌∙◌}
-use mathlib.Core.Bool.{Bool, true, false≢true, not, ◌||◌, ◌&&◌}
+use mathlib.Core.Path.{◌≡◌, refl, sym, ap₂, subst, ◌∙◌}
+use mathlib.Core.Bool.{Bool, true, false≢true, not, ◌||◌}
 use native.Mathlib.Nat.{mod-lt, mod-eq_of_lt}
 use lib.Dec.{eqb}
 use lib.Pow.{pow_pos}
 use borrow.Author.Tests.{eqb-true, eq-eqb, not-false}
-use borrow.Author.Rules.{rules}
 use Rattle.words.proofs.Bools.{or_left, or_right, and_left, and_right, and_both}
-use Rattle.card.specs.declared.card.Card.{Card}
-use Rattle.card.specs.declared.card.Memory.{Memory}
 use Rattle.card.specs.Address.{cells_for}
-use Rattle.ticks.specs.declared.view.Input.{Input}
-use Rattle.ticks.specs.Tick.{wires_of}
-use Rattle.ticks.specs.Rest.{steady, AtRest, Decides}
+use Rattle.ticks.specs.Rest.{AtRest, Decides}
 use Rattle.ticks.proofs.AtRest.{memory-steady, idle-rests, rests-still, rest-fits}
 use Rattle.ticks.proofs.rest.at_rest.Goals as goal
 

@@ -1,7 +1,7 @@
 -- `ticks::rest::rests_on` meets its contract: what it tests is what the laws of rest ask of
 -- connectors and cells, both ways.
-use mathlib.Core.Path.{◌≡◌, refl, sym, ap, ap₂, ◌∙◌}
-use mathlib.Core.Bool.{Bool, false≢true, not, ◌||◌}
+use mathlib.Core.Path.{◌≡◌, sym, ap, ◌∙◌}
+use mathlib.Core.Bool.{false≢true, not, ◌||◌}
 use lib.Dec.{eqb}
 use lib.ListN.{length}
 use borrow.Author.Tests.{eqb-true, eq-eqb, not-false}
@@ -19,7 +19,7 @@ use Rattle.ticks.proofs.rest.rests_on.Goals.{After-lines_in-l, Start}
 
 -- there are as many tallies as there is room for cells
 tallies-long : (c : Start) → length c.args.card.tallies.cells ≡ cell_room
-tallies-long c = search (as_long, c.well_formed.0.0.1.1.1)
+tallies-long c = search as_long
 
 known : (d : After-lines_in-l) → let a = d.args in
     StillMemory a.card.memory × (d.lines_in-l.result ≡ Tick.lines a.n a.card a.input)
@@ -44,17 +44,17 @@ returns-then-l-m c =
 pub returns : goal.returns
 returns c =
     let a = c.args in
-    let pre = (c.requires.n_le_cell_room, (c.requires.code_value, (c.requires.edited_value, (c.requires.outputs_bound, c.requires.levels_value)))) in
+    let pre = c.requires in
     let m = a.card.memory in
     let w = c.lines_in-l.result in
     let still = (known (goal.at.returns c).After-lines_in-l).0 in
     let lines = (known (goal.at.returns c).After-lines_in-l).1 in
     let tallies = tallies-long (goal.at.returns c).Start in
     let seen = rest-seen a.n (view_last a.n m) c.sees.result a.card.cells
-    (c.sees.ensures a.n pre.0 pre.1.1.1.0 pre.1.1.1.0) in (
-      λ e. still-rests a.n a.card a.input (omega (arith, c.all_rest.ensures.cells_len, pre.0)) (omega (arith, tallies, pre.0)) pre.1.1.1.0
+    (c.sees.ensures a.n pre.n_le_cell_room pre.outputs_bound pre.outputs_bound) in (
+      λ e. still-rests a.n a.card a.input (omega (arith, c.all_rest.ensures.cells_len, pre.n_le_cell_room)) (omega (arith, tallies, pre.n_le_cell_room)) pre.outputs_bound
           (record {
-            edited = pre.1.1.0;
+            edited = pre.edited_value;
             memory = still;
             driven = ap (λ (l : Lines). l.driven) (sym lines) ∙ eqb-true w.driven m.driven (not-false _ (or_left _ _ (or_left _ _ c.if-l-m.false)));
             pulled = ap (λ (l : Lines). l.pulled) (sym lines)
@@ -64,5 +64,5 @@ returns c =
                 c.if-l-m.false));
             cells = seen ∙ sym c.all_rest.ensures.value ∙ e;
           }),
-      λ rest. c.all_rest.ensures.value ∙ sym seen ∙ (rests-still a.n a.card a.input pre.1.0 rest).cells,
+      λ rest. c.all_rest.ensures.value ∙ sym seen ∙ (rests-still a.n a.card a.input pre.code_value rest).cells,
     )

@@ -5,11 +5,9 @@ use mathlib.Core.Path.{sym, ap, subst, ◌∙◌}
 use mathlib.Core.Bool.{true}
 use borrow.Author.Tests.{not-true, not-false}
 use Rattle.card.specs.declared.card.Memory.{Memory}
-use Rattle.ticks.specs.declared.connectors.Lines.{Lines}
 use Rattle.ticks.specs.Tick.{ticked, tick}
 use Rattle.ticks.specs.Words.{FitsMemory}
 use Rattle.ticks.proofs.Trim.{trim-fits, whole-tick}
-use borrow.Author.Rules.{rules}
 use Rattle.ticks.proofs.tick.full_tick.Goals as goal
 
 pub returns-then-not-is_own : goal.returns-then-not-is_own

@@ -6,7 +6,6 @@ use Rattle.card.specs.declared.card.Memory.{Memory}
 use Rattle.ticks.specs.Tick.{ticked_on}
 use Rattle.ticks.specs.Words.{FitsMemory}
 use Rattle.ticks.proofs.Trim.{trim-fits, whole-tick-on}
-use borrow.Author.Rules.{rules}
 use Rattle.ticks.proofs.tick.full_tick_on.Goals as goal
 
 pub turn_each-requires : goal.turn_each-requires

@@ -7,7 +7,6 @@ use Rattle.ticks.specs.Levels.{effective_sample}
 use Rattle.ticks.specs.Tick.{lines_in, lines}
 use Rattle.ticks.specs.Words.{FitsMemory}
 use Rattle.ticks.proofs.Trim.{trim-fits, lines-trim}
-use borrow.Author.Rules.{rules}
 use Rattle.ticks.proofs.tick.lines_of.Goals as goal
 
 pub returns : goal.returns

@@ -1,6 +1,5 @@
 -- `ticks::tick::noted` meets its contract: a bit that is low adds nothing.
 use native.Mathlib.Omega.{arith}
-use borrow.Author.Rules.{rules}
 use Rattle.ticks.proofs.tick.noted.Goals as goal
 
 pub returns-then-is : goal.returns-then-is

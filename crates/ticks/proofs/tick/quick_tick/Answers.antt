@@ -7,13 +7,11 @@ use mathlib.Core.Bool.{false}
 use lib.Pow.{pow_pos}
 use borrow.Author.Tests.{not-true, not-false}
 use Rattle.card.specs.declared.card.Memory.{Memory}
-use Rattle.ticks.specs.declared.connectors.Lines.{Lines}
 use Rattle.ticks.specs.declared.view.Wires.{Wires}
 use Rattle.ticks.specs.Rest.{slept_all}
 use Rattle.ticks.specs.Tick.{ran_with, turned, ticked, tick}
 use Rattle.ticks.specs.Words.{FitsMemory}
 use Rattle.ticks.proofs.Trim.{trim-fits, whole-tick}
-use borrow.Author.Rules.{rules}
 use Rattle.ticks.proofs.tick.quick_tick.Goals as goal
 
 pub returns-then-not-is_own : goal.returns-then-not-is_own

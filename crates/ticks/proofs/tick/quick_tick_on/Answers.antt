@@ -10,7 +10,6 @@ use Rattle.ticks.specs.Rest.{slept_all}
 use Rattle.ticks.specs.Tick.{ran_with, turned, ticked_on}
 use Rattle.ticks.specs.Words.{FitsMemory}
 use Rattle.ticks.proofs.Trim.{trim-fits, whole-tick-on}
-use borrow.Author.Rules.{rules}
 use Rattle.ticks.proofs.tick.quick_tick_on.Goals as goal
 
 pub is_quiet-requires : goal.is_quiet-requires

@@ -1,6 +1,5 @@
 -- `ticks::tick::ran_with` meets its contract: the tallies are those of the definition on a card of
 -- any number of cells that the named ones lie in.
-use borrow.Author.Rules.{rules}
 use Rattle.ticks.proofs.tick.ran_with.Goals as goal
 
 pub returns : goal.returns

@@ -1,5 +1,4 @@
 -- `ticks::tick::seen_memory` meets its contract.
-use borrow.Author.Rules.{rules}
 use Rattle.ticks.proofs.tick.seen_memory.Goals as goal
 
 pub returns : goal.returns

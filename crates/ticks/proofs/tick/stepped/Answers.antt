@@ -13,7 +13,6 @@ use Rattle.cells.specs.Work.{looked_at, work_out}
 use Rattle.cells.proofs.Laws.{moved-disagree}
 use Rattle.ticks.specs.Reading.{slots_read}
 use Rattle.ticks.proofs.Words.{Holds, slots-as, slots-moved}
-use borrow.Author.Rules.{rules}
 use Rattle.ticks.proofs.tick.stepped.Goals as goal
 
 -- what is asked, by the readings of the definition

@@ -1,23 +1,21 @@
 -- `ticks::tick::turn_each` meets its contract: after i turns the first i cells are those of the
 -- definition, the words of outputs and of named cells hold their bits up to there, and the words
 -- that addresses are read from are those of reader i.
-use Prim.Native.Nat.{ℕ, ◌+◌, ◌-◌, ◌^◌, ◌≤◌, ◌<◌, zero-le}
+use Prim.Native.Nat.{ℕ, ◌+◌, ◌^◌, ◌≤◌, ◌<◌, zero-le}
 use mathlib.Core.Path.{◌≡◌, refl, sym, ap, subst, ◌∙◌}
 use mathlib.Core.Bool.{Bool, false, not, ◌||◌, beq, true≢false}
 use mathlib.Core.List.{List}
-use mathlib.Core.Logic.{⊎_elim}
 use native.Mathlib.Nat.{le_refl, lt_of_lt_of_le}
 use native.Mathlib.Omega.{arith}
 use lib.ListN
 use lib.ListN.{get_or, length}
 use lib.Pow.{pow_mono}
-use borrow.Author.Rules.{rules, below_length}
+use borrow.Author.Rules.{rules}
 use Rattle.words.specs.Bits.{bit_at, word_of}
 use Rattle.words.specs.Listed.{listed}
 use Rattle.words.proofs.Laws.{bit-built, built-same, built-of-bits, built-next, built-fits}
 use Rattle.words.proofs.Listed.{behind-at, listed_kept, listed_next}
 use Rattle.cells.specs.declared.cell.Cell.{Cell}
-use Rattle.cells.specs.declared.table.Slots.{Slots}
 use Rattle.cells.specs.declared.work.Effect.{Effect}
 use Rattle.cells.specs.State.{state_of, with_state}
 use Rattle.cells.specs.Work.{looked_at, work_out}
@@ -35,7 +33,7 @@ use Rattle.ticks.proofs.Turns.{step-named, step-cell, step-out, turn-woke, turn-
 use Rattle.ticks.proofs.Turns.{Halfway, halfway-start, halfway-kept, halfway-put, halfway-end, same_bit, flips-to, steady-at}
 use Rattle.ticks.proofs.Sleep.{output-bit}
 use Rattle.ticks.proofs.tick.turn_each.Goals as goal
-use Rattle.ticks.proofs.tick.turn_each.Goals.{After-stepped-step, After-wires_of-w, At-loop-i, Joined-effect, Joined-moved, Joined-out-last, Start}
+use Rattle.ticks.proofs.tick.turn_each.Goals.{in-Slept, in-Same, in-Bit, in-Count, in-Timed, in-Counted, then-out-last, else-out-last, then-moved, else-moved, After-stepped-step, After-wires_of-w, At-loop-i, Joined-effect, Joined-moved, Joined-out-last, Start}
 
 -- the number of cells is at most the room, and every cell word has that many bits
 room : (c : Start) → c.args.n ≤ cell_room
@@ -71,9 +69,9 @@ overflow_cast-outputs c =
 
 pub noted-named-requires : goal.noted-named-requires
 noted-named-requires c = record {
-      i_bound = search rules;
-      named_bound = built-fits _ c.loop-i.i _ c.loop-i.invariant.3;
-    }
+  i_bound = search rules;
+  named_bound = built-fits _ c.loop-i.i _ c.loop-i.invariant.3;
+}
 
 -- the number of cells
 abbrev count : At-loop-i → ℕ
@@ -109,28 +107,23 @@ turn-here at inside =
     ap (λ (c : Cell). turn_at a.n a.full c l.i a.card.edited wires below) (sym same)
     ∙ turn-same a.n a.full (get_or l.next.cells l.i no_cell) l.i a.card.edited wires below l.outputs
     (λ k h. output-bit a.n a.full a.card.cells a.card.edited wires l.i k h ∙ sym (l.invariant.2.1 k h))
+
 -- the step that the code took: whether the rules name cell i, and the cell and the output of its
 -- effect, are those of the definition
 pub record Taken (s : After-stepped-step) : Type 0 where
-  pub names : (let at = s.before.before.before.before.before.before in
-      let set = at.before.before.before.before in
-      let a = set.before.args in
-      s.stepped.result.named ≡ names_of a.n a.full a.card set.wires-of.result at.loop.i)
-  pub cell : (let at = s.before.before.before.before.before.before in
-      let l = at.loop in
-      let set = at.before.before.before.before in
-      let a = set.before.args in
-      let wires = set.wires-of.result in
+  pub names : (let a = s.args in
+      s.stepped-step.result.named ≡ names_of a.n a.full a.card s.wires_of-w.result s.loop-i.i)
+  pub cell : (let l = s.loop-i in
+      let a = s.args in
+      let wires = s.wires_of-w.result in
       let old : Cell = get_or l.next.cells l.i no_cell in
-      (e : Effect) → s.stepped.result.effect ≡ e
+      (e : Effect) → s.stepped-step.result.effect ≡ e
       → with_state old (worked_by (state_of old) (bit_at wires.outputs l.i) e).state ≡ after_of a.n a.full a.card wires l.i)
-  pub out : (let at = s.before.before.before.before.before.before in
-      let l = at.loop in
-      let set = at.before.before.before.before in
-      let a = set.before.args in
-      let wires = set.wires-of.result in
+  pub out : (let l = s.loop-i in
+      let a = s.args in
+      let wires = s.wires_of-w.result in
       let old : Cell = get_or l.next.cells l.i no_cell in
-      (e : Effect) → s.stepped.result.effect ≡ e
+      (e : Effect) → s.stepped-step.result.effect ≡ e
       → (worked_by (state_of old) (bit_at wires.outputs l.i) e).out ≡ outs_of a.n a.full a.card wires l.i)
 
 taken : (s : After-stepped-step) → Taken s
@@ -179,8 +172,8 @@ Met m =
     let l = m.loop-i in
     let a = m.args in
     let wires = m.wires_of-w.result in
-    (m.in-Slept.next ≡ seated a.card (up_to a.n a.full a.card wires (l.i + 1)))
-    × (m.in-Slept.out ≡ outs_of a.n a.full a.card wires l.i)
+    (m.match-effect.next ≡ seated a.card (up_to a.n a.full a.card wires (l.i + 1)))
+    × (m.match-effect.out ≡ outs_of a.n a.full a.card wires l.i)
 
 met : (m : Joined-effect) → Met m
 unfolding Met
@@ -190,24 +183,26 @@ met m =
     let wires = m.wires_of-w.result in
     let inside = m.loop-i-test.true in
     let after = after_of a.n a.full a.card wires in
-    let here = within m.before.before.before.before.before.before.before.before inside in
+    let at = m.before.before.before.before.before.before.before.before in
+    let here = within at inside in
     let old : Cell = get_or l.next.cells l.i no_cell in
-    let same = behind-at after l.i a.card.cells l.next.cells no_cell (cells-so m.before.before.before.before.before.before.before.before) here in
+    let same = behind-at after l.i a.card.cells l.next.cells no_cell (cells-so at) here in
     let took = taken m.before.before in
     let made : (e : Effect) → Cell = λ e. with_state old (worked_by (state_of old) (bit_at wires.outputs l.i) e).state in
     let keep : old ≡ after l.i → l.next ≡ seated a.card (up_to a.n a.full a.card wires (l.i + 1)) = λ is.
-    kept-card m.before.before.before.before.before.before.before.before (listed_kept after l.i a.card.cells l.next.cells no_cell (cells-so m.before.before.before.before.before.before.before.before) (sym same ∙ is) here) in
+    kept-card at (listed_kept after l.i a.card.cells l.next.cells no_cell (cells-so at) (sym same ∙ is) here) in
     let put : (e : Effect) → m.stepped-step.result.effect ≡ e
     → seated l.next (ListN.set l.next.cells l.i (made e)) ≡ seated a.card (up_to a.n a.full a.card wires (l.i + 1)) = λ e is.
-    put-card m.before.before.before.before.before.before.before.before (listed_next after l.i a.card.cells l.next.cells (made e) no_cell (cells-so m.before.before.before.before.before.before.before.before) (took.cell e is) here) in
+    put-card at (listed_next after l.i a.card.cells l.next.cells (made e) no_cell (cells-so at) (took.cell e is) here) in
     let last = m.bit-last.ensures ∙ l.invariant.2.2 l.i (le_refl l.i) inside in
-    ⊎_elim (λ w. (w.2 ∙ keep (took.cell _ w.1.given.1), w.3 ∙ last ∙ took.out _ w.1.given.1))
-    (⊎_elim (λ w. (w.3 ∙ keep (took.cell _ w.1.given.1), w.4 ∙ took.out _ w.1.given.1))
-    (⊎_elim (λ w. (w.4 ∙ put _ w.1.given.1, w.5 ∙ took.out _ w.1.given.1))
-    (⊎_elim (λ w. (w.5 ∙ put _ w.1.given.1, w.6 ∙ took.out _ w.1.given.1))
-    (⊎_elim (λ w. (w.4 ∙ put _ w.1.given.1, w.5 ∙ took.out _ w.1.given.1))
-    (λ w. (w.4 ∙ put _ w.1.given.1, w.5 ∙ took.out _ w.1.given.1))))))
-    m.in-Slept.branch
+    elim m.match-effect.branch [
+      | in-Slept w ↦ (w.next-is ∙ keep (took.cell _ w.in-Slept.is), w.out-is ∙ last ∙ took.out _ w.in-Slept.is)
+      | in-Same w ↦ (w.next-is ∙ keep (took.cell _ w.in-Same.is), w.out-is ∙ took.out _ w.in-Same.is)
+      | in-Bit w ↦ (w.next-is ∙ put _ w.in-Bit.is, w.out-is ∙ took.out _ w.in-Bit.is)
+      | in-Count w ↦ (w.next-is ∙ put _ w.in-Count.is, w.out-is ∙ took.out _ w.in-Count.is)
+      | in-Timed w ↦ (w.next-is ∙ put _ w.in-Timed.is, w.out-is ∙ took.out _ w.in-Timed.is)
+      | in-Counted w ↦ (w.next-is ∙ put _ w.in-Counted.is, w.out-is ∙ took.out _ w.in-Counted.is)
+    ]
 
 -- what the turn of cell i made: the outputs are those of the definition, and readers above see of
 -- it what readers up to it do unless it moved
@@ -232,52 +227,55 @@ turned_on j =
     let last = l.invariant.2.2 l.i (le_refl l.i) inside in
     let shift = j.bit-moved.ensures ∙ j.shifted-shifted.ensures l.i in
     let out = (met j.before.before.before).1 in
-    ⊎_elim
-    (λ w.
-    let flip = flips-to j.in-Slept.out j.bit-last.result w.0.taken in (
-      halfway-put outs _ a.n l.i l.outputs _ _ l.invariant.2 inside (ap not (sym bit) ∙ flip ∙ out) (w.2 ∙ w.1.ensures),
-      λ still. absurd (true≢false (sym w.3 ∙ still)),
-    ))
-    (λ w.
-    let same = sym bit ∙ sym (same_bit j.in-Slept.out j.bit-last.result w.0.left) ∙ out in (
-      rw w.1 (halfway-kept outs _ a.n l.i l.outputs l.invariant.2 same),
-      λ still. steady-at _ _ _ (sym same ∙ last) (sym shift ∙ sym w.2 ∙ still),
-    ))
-    j.if-out-last.branch
+    elim j.if-out-last.branch [
+      | then-out-last w ↦
+          let flip = flips-to j.match-effect.out j.bit-last.result w.if-out-last.true in (
+            halfway-put outs _ a.n l.i l.outputs _ _ l.invariant.2 inside (ap not (sym bit) ∙ flip ∙ out) (w.outputs-is ∙ w.flipped-outputs.ensures),
+            λ still. absurd (true≢false (sym w.moved-is ∙ still)),
+          )
+      | else-out-last w ↦
+          let same = sym bit ∙ sym (same_bit j.match-effect.out j.bit-last.result w.if-out-last.false) ∙ out in (
+            rw w.outputs-is (halfway-kept outs _ a.n l.i l.outputs l.invariant.2 same),
+            λ still. steady-at _ _ _ (sym same ∙ last) (sym shift ∙ sym w.moved-is ∙ still),
+          )
+    ]
 
 -- the words of the next reader: made anew, or still those
 next-words : (c : Joined-moved) → let l = c.loop-i in
     let w = c.wires_of-w.result in
-    ReadsAs c.if-moved.q (sees_now (count c.before.before.before.before.before.before.before.before.before.before.before.before) (l.i + 1) w c.if-out-last.outputs) (saw_last (count c.before.before.before.before.before.before.before.before.before.before.before.before) (l.i + 1) w)
-    × MovesAs c.if-moved.d (sees_now (count c.before.before.before.before.before.before.before.before.before.before.before.before) (l.i + 1) w c.if-out-last.outputs) (saw_last (count c.before.before.before.before.before.before.before.before.before.before.before.before) (l.i + 1) w) (saw_earlier (count c.before.before.before.before.before.before.before.before.before.before.before.before) (l.i + 1) w)
+    ReadsAs c.if-moved.q (sees_now c.args.n (l.i + 1) w c.if-out-last.outputs) (saw_last c.args.n (l.i + 1) w)
+    × MovesAs c.if-moved.d (sees_now c.args.n (l.i + 1) w c.if-out-last.outputs) (saw_last c.args.n (l.i + 1) w) (saw_earlier c.args.n (l.i + 1) w)
 unfolding Turned-on
 next-words c =
     let l = c.loop-i in
     let a = c.args in
     let wires = c.wires_of-w.result in
     let step = turned_on c.before in
+    let set : After-wires_of-w = c.before.before.before.before.before.before.before.before.before.before.before.before.before.before.before.before in
+    let start = set.before in
+    let fits = fits-wires set in
     let outputs = c.if-out-last.outputs in
     let now = sees_now a.n (l.i + 1) wires outputs in
     let last = saw_last a.n (l.i + 1) wires in
     let earlier = saw_earlier a.n (l.i + 1) wires in
-    ⊎_elim
-    (λ w. (
-      subst (λ (q : List ℕ). ReadsAs q now last) (sym w.3) (w.1.ensures a.n (room c.before.before.before.before.before.before.before.before.before.before.before.before.before.before.before.before.before) step.0.0 (fits-wires c.before.before.before.before.before.before.before.before.before.before.before.before.before.before.before.before)),
-      subst (λ (d : List ℕ). MovesAs d now last earlier) (sym w.4) (w.2.ensures a.n (room c.before.before.before.before.before.before.before.before.before.before.before.before.before.before.before.before.before) step.0.0 (fits-wires c.before.before.before.before.before.before.before.before.before.before.before.before.before.before.before.before)),
-    ))
-    (λ w.
-    let kept = words-kept a.n l.i _ wires l.outputs outputs (step.1 w.0.left)
-    (λ k h. l.invariant.2.1 k h ∙ sym (step.0.1 k (omega arith))) (step.0.1 l.i (omega arith))
-    l.q l.d l.invariant.4 l.invariant.5 in
-    (subst (λ (q : List ℕ). ReadsAs q now last) (sym w.1) kept.0, subst (λ (d : List ℕ). MovesAs d now last earlier) (sym w.2) kept.1))
-    c.if-moved.branch
+    elim c.if-moved.branch [
+      | then-moved w ↦ (
+        subst (λ (q : List ℕ). ReadsAs q now last) (sym w.q-is) (w.words_now-q-then-moved.ensures a.n (room start) step.0.0 fits),
+        subst (λ (d : List ℕ). MovesAs d now last earlier) (sym w.d-is) (w.words_moved-d-then-moved.ensures a.n (room start) step.0.0 fits),
+      )
+      | else-moved w ↦
+          let kept = words-kept a.n l.i _ wires l.outputs outputs (step.1 w.if-moved.false)
+          (λ k h. l.invariant.2.1 k h ∙ sym (step.0.1 k (omega arith))) (step.0.1 l.i (omega arith))
+          l.q l.d l.invariant.4 l.invariant.5 in
+          (subst (λ (q : List ℕ). ReadsAs q now last) (sym w.q-is) kept.0, subst (λ (d : List ℕ). MovesAs d now last earlier) (sym w.d-is) kept.1)
+    ]
 
 pub loop-i-preserved : goal.loop-i-preserved
 unfolding Turned-on Met
 loop-i-preserved c =
     let l = c.loop-i in
     let words = next-words (goal.at.loop-i-preserved c).Joined-moved in
-    let more : l.i + 1 ≤ count at = omega (arith, c.loop-i-test.true) in
+    let more : l.i + 1 ≤ c.args.n = omega (arith, c.loop-i-test.true) in
     let names = built-next _ l.i l.named _ _ l.invariant.3 (taken (goal.at.loop-i-preserved c).After-stepped-step).names c.noted-named.ensures in
     (more, (met (goal.at.loop-i-preserved c).Joined-effect).0, (turned_on (goal.at.loop-i-preserved c).Joined-out-last).0, names, words.0, words.1)
 
@@ -290,7 +288,7 @@ names-fit at end = built-fits _ (count at) _ (rw end at at.loop-i.invariant.3)
 
 pub overflow_cast-named : goal.overflow_cast-named
 overflow_cast-named c =
-    let end : c.loop-i.i ≡ count at = omega arith in
+    let end : c.loop-i.i ≡ c.args.n = omega arith in
     record { fits = lt_of_lt_of_le (names-fit (goal.at.overflow_cast-named c).At-loop-i end) (pow_mono (room (goal.at.overflow_cast-named c).Start)) }
 
 pub returns : goal.returns
@@ -303,10 +301,10 @@ returns c =
     let outs = outs_of a.n a.full a.card wires in
     let names = names_of a.n a.full a.card wires in
     let wokes = wokes_of a.n a.full a.card wires in
-    let next = rw end c.before.before.before l.invariant.1 in
-    let outputs = halfway-end outs _ a.n l.outputs (rw end c.before.before.before l.invariant.2)
+    let next = rw end at l.invariant.1 in
+    let outputs = halfway-end outs _ a.n l.outputs (rw end at l.invariant.2)
     ∙ sym (outputs-built a.n a.full a.card.cells a.card.edited wires a.n) in
-    let named : l.named ≡ word_of names a.n = rw end c.before.before.before l.invariant.3 in
+    let named : l.named ≡ word_of names a.n = rw end at l.invariant.3 in
     let set-of = c.woken_by-woken.ensures in
     let bits = built-same (bit_at c.woken_by-woken.result) wokes a.n (λ k h.
     set-of.by_index k h ∙ ap (λ (b : Bool). a.full || b) (ap (λ (x : ℕ). bit_at x k) named ∙ bit-built names a.n k h)

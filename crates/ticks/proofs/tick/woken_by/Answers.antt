@@ -1,13 +1,11 @@
 -- `ticks::tick::woken_by` meets its contract: in a full tick every bit is set, and a remainder
 -- keeps the bits below.
-use Prim.Native.Nat.{ℕ, ◌^◌, ◌<◌, ◌≤◌}
-use mathlib.Core.Path.{◌≡◌, ap, ◌∙◌}
+use Prim.Native.Nat.{ℕ}
+use mathlib.Core.Path.{ap, ◌∙◌}
 use native.Mathlib.Omega.{arith}
 use Rattle.words.specs.Bits.{bit_at}
-use Rattle.card.specs.Address.{cell_room}
 use native.Mathlib.Nat.{mod-lt}
 use lib.Pow.{pow_pos}
-use borrow.Author.Rules.{rules}
 use Rattle.words.proofs.Laws.{bit-ones, bit-mod}
 use Rattle.ticks.proofs.tick.woken_by.Goals as goal
 

@@ -1,6 +1,5 @@
 -- `ticks::view::differing` meets its contract: quarter by quarter.
 use Rattle.ticks.proofs.Words.{differ-words}
-use borrow.Author.Rules.{rules}
 use Rattle.ticks.proofs.view.differing.Goals as goal
 
 pub returns : goal.returns

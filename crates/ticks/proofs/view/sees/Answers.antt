@@ -8,7 +8,6 @@ use lib.Pow.{pow_pos, pow-lt}
 use Rattle.card.specs.Address.{first_connector}
 use Rattle.ticks.proofs.Views.{mix, mix-lt, view-word}
 use borrow.Author.Rules.{rules}
-use Rattle.ticks.proofs.view.sees.Reads as reads
 use Rattle.ticks.proofs.view.sees.Goals as goal
 
 one_shifted : (i : ℕ) → i < 64 → 1 * 2 ^ i % 2 ^ 64 ≡ 2 ^ i

@@ -1,6 +1,5 @@
 -- `ticks::view::words_moved` meets its contract: it compares what is read now with what was read.
 use Rattle.ticks.proofs.Words.{differ-moves}
-use borrow.Author.Rules.{rules}
 use Rattle.ticks.proofs.view.words_moved.Goals as goal
 
 pub returns : goal.returns

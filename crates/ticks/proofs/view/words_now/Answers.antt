@@ -1,6 +1,5 @@
 -- `ticks::view::words_now` meets its contract: the two words are those of the views.
 use Rattle.ticks.proofs.Words.{reads-views}
-use borrow.Author.Rules.{rules}
 use Rattle.ticks.proofs.view.words_now.Goals as goal
 
 pub returns : goal.returns
