@@ -14,29 +14,24 @@ use Rattle.reasons.proofs.reasons_at.Tie as tie
 returns : tie.Need-returns
 unfolding reasons_at read_now read_last
 returns c =
-    let s = c.before in
-    let b = s.before.before.before.before.before in
-    let d = b.before in
-    let o = d.before.before.before.before.before in
-    let start = o.before.before in
-    let a = start.args in
-    let pre = start.requires in
+    let a = c.args in
+    let pre = c.requires in
     let cell = a.cell in
     let now = sees_now a.n a.i a.w a.below in
     let last = saw_last a.n a.i a.w in
     let held : Holds cell.slots _ _ _ _ =
     record {
-      at_x = d.before.before.before.address.ensures;
-      at_y = d.before.before.address2.ensures;
-      at-z = d.before.address3.ensures;
-      at_f = d.address4.ensures;
+      at_x = c.address-x.ensures;
+      at_y = c.address-y.ensures;
+      at-z = c.address-z.ensures;
+      at_f = c.address-f.ensures;
     } in
-    let reads = s.before.before.before.four.ensures
-    ∙ slots-as now last _ cell.slots _ _ _ _ (o.before.words-now.ensures a.n pre.0 pre.1.1.0 pre.1.1.1) held in
-    let read = s.before.four2.ensures
-    ∙ slots-as last (saw_earlier a.n a.i a.w) _ cell.slots _ _ _ _ (o.words_last.ensures a.n pre.0 pre.1.1.1) held in
-    c.reasons-of.ensures
-    ∙ (λ k. reasons_of cell.kind (s.state-of.ensures k) (b.bit.ensures k) (reads k) (read k))
+    let reads = c.four-now.ensures
+    ∙ slots-as now last _ cell.slots _ _ _ _ (c.words_now-q.ensures a.n pre.0 pre.1.1.0 pre.1.1.1) held in
+    let read = c.four-last.ensures
+    ∙ slots-as last (saw_earlier a.n a.i a.w) _ cell.slots _ _ _ _ (c.words_last-p.ensures a.n pre.0 pre.1.1.1) held in
+    c.reasons_of.ensures
+    ∙ (λ k. reasons_of cell.kind (c.state_of.ensures k) (c.bit-is_edited.ensures k) (reads k) (read k))
 
 pub reasons_at_spec : {M : Type 1} → statement M
 reasons_at_spec =

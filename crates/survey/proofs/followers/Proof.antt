@@ -12,38 +12,38 @@ use Rattle.survey.specs.Survey.{driven_from}
 use Rattle.survey.proofs.followers.Statement.{statement}
 use Rattle.survey.proofs.followers.Tie as tie
 
-abbrev invariant-loop : tie.invariant-loop
+abbrev invariant-loop : tie.invariant-loop-j
 invariant-loop connectors set w₀ j₀ w j = (j ≤ connector_count) × (w ≡ word_of (λ j. driven_from (bit_at set) (connector_at connectors j)) j)
 
-abbrev decreases-loop : tie.decreases-loop
+abbrev decreases-loop : tie.decreases-loop-j
 decreases-loop connectors set w₀ j₀ w j = connector_count - j
 
-loop-holds : tie.Need-loop-init invariant-loop decreases-loop
+loop-holds : tie.Need-loop-j-init invariant-loop decreases-loop
 unfolding word_of
 loop-holds c = (zero-le, refl)
 
-pushed-requires : tie.Need-pushed-requires invariant-loop decreases-loop
-pushed-requires c κs = (search rules, built-fits _ _ _ c.before.before.before.loop.invariant.1)
+pushed-requires : tie.Need-pushed-w-requires invariant-loop decreases-loop
+pushed-requires c κs = (search rules, built-fits _ _ _ c.loop-j.invariant.1)
 
-loop-again : tie.Need-loop-preserved invariant-loop decreases-loop
+loop-again : tie.Need-loop-j-preserved invariant-loop decreases-loop
 loop-again c =
-    let l = c.before.before.before.before.loop in
-    let a = c.before.before.before.before.before.args in
+    let l = c.loop-j in
+    let a = c.args in
     let f : ℕ → Bool = λ j. driven_from (bit_at a.set) (connector_at a.connectors j) in (
       omega arith,
-      built-next f l.j l.w _ _ l.invariant.1 (c.before.driven-from.ensures ∙ ap (driven_from (bit_at a.set))
-          c.before.before.connector-at.ensures) c.pushed.ensures,
+      built-next f l.j l.w _ _ l.invariant.1 (c.driven_from-b.ensures ∙ ap (driven_from (bit_at a.set))
+          c.connector_at.ensures) c.pushed-w.ensures,
     )
 
-cast-result : tie.Need-overflow-cast-result invariant-loop decreases-loop
+cast-result : tie.Need-overflow_cast-result invariant-loop decreases-loop
 cast-result c =
-    let l = c.before.loop in
+    let l = c.loop-j in
     let end : l.j ≡ connector_count = omega arith in
     record { fits = built-fits _ connector_count _ (rw end at l.invariant.1) }
 
 returns : tie.Need-returns invariant-loop decreases-loop
 returns c =
-    let l = c.before.loop in
+    let l = c.loop-j in
     let end : l.j ≡ connector_count = omega arith in
     rw end at l.invariant.1
 

@@ -8,13 +8,18 @@ use borrow.Author.Rules.{rules}
 use Rattle.lines.proofs.line.put_reply_if.Statement.{statement}
 use Rattle.lines.proofs.line.put_reply_if.Tie as tie
 
-returns : tie.Need-returns
-returns c = rw (lt-ltb (length c.before.before.args.reply.now) shortest_reply c.if1.true) (refl, (refl, zero-le))
+returns : tie.Need-returns-then-reply-lt-SHORTEST_REPLY
+returns c = rw (lt-ltb (length c.args.reply.now) shortest_reply c.if-reply-lt-SHORTEST_REPLY.true) (refl, (refl, zero-le))
 
-returns-2 : tie.Need-returns-2
+returns-2 : tie.Need-returns
 returns-2 c =
-    let z = c.before.before.before.before in
-    rw (le-ltb (length z.before.before.args.reply.now) shortest_reply z.if1.false) c.before.before.put-reply.ensures
+    rw (le-ltb (length c.args.reply.now) shortest_reply c.if-reply-lt-SHORTEST_REPLY.false) c.put_reply.ensures
 
 pub put_reply_if_spec : {M : Type 1} → statement M
-put_reply_if_spec = tie.close (tie.spec returns (λ c κs. search rules) (λ c. search rules) returns-2)
+put_reply_if_spec =
+    tie.close
+    (tie.spec
+    returns
+    (λ c κs. search rules)
+    (λ c. search rules)
+    returns-2)

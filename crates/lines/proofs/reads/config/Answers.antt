@@ -1,0 +1,12 @@
+-- `lines::reads::config` meets its contract: a read changes nothing, whatever its number.
+use lib.Dec.{eqb}
+use Rattle.card.specs.declared.change.Change.TheVariants.{Nothing}
+use Rattle.lines.specs.Refusal.{refusal}
+use Rattle.lines.specs.Line.{change_for, response_to, decision}
+use Rattle.lines.proofs.Decisions.{either_same}
+use borrow.Author.Rules.{rules}
+use Rattle.lines.proofs.reads.config.Goals as goal
+
+pub returns : goal.returns
+unfolding decision refusal change_for response_to
+returns c = cc (either_same (eqb c.when-k.result 0) Nothing)

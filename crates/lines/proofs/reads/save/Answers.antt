@@ -1,0 +1,6 @@
+-- `lines::reads::save` meets its contract: the test is of the record's length.
+use borrow.Author.Rules.{rules}
+use Rattle.lines.proofs.reads.save.Goals as goal
+
+pub returns : goal.returns
+returns c = cc
