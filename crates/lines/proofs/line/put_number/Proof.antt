@@ -15,4 +15,4 @@ put_number_spec =
     (tie.spec
     (λ c. search rules)
     (λ c. search rules)
-    (λ c. search rules))
+    returns)

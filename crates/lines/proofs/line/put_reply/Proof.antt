@@ -27,10 +27,10 @@ put_reply_spec =
     (tie.spec
     (λ c. search rules)
     (λ c. search rules)
+    returns
     (λ c. search rules)
     (λ c. search rules)
+    returns-2
     (λ c. search rules)
     (λ c. search rules)
-    (λ c. search rules)
-    (λ c. search rules)
-    (λ c. search rules))
+    returns-3)
