@@ -17,34 +17,33 @@ use Rattle.steady.proofs.cells_through.Reads as reads
 use Rattle.steady.proofs.cells_through.Lts as lts
 use Rattle.steady.proofs.cell_through.Reads as cell-through-reads
 
-abbrev invariant-loop : tie.invariant-loop
+abbrev invariant-loop : tie.invariant-loop-i
 invariant-loop m n before after next₀ i₀ i-end next i = (i ≤ n) × (next ≡ listed (λ i. cell_through (get_or before i no_cell) (get_or after i no_cell) m) i ++ drop i before)
 
-abbrev decreases-loop : tie.decreases-loop
+abbrev decreases-loop : tie.decreases-loop-i
 decreases-loop m n before after next₀ i₀ i-end next i = n - i
 
-loop-holds : tie.Need-loop-init invariant-loop decreases-loop
+loop-holds : tie.Need-loop-i-init invariant-loop decreases-loop
 unfolding listed
 loop-holds c = (zero-le, refl)
 
-cell-through-requires : tie.Need-cell-through-requires invariant-loop decreases-loop
+cell-through-requires : tie.Need-cell_through-cell-requires invariant-loop decreases-loop
 cell-through-requires c κs =
-    let s = c.before.before.before.before in
-    let l = c.before.before.before.loop in
-    let here = least_at s.args.n s.args.t1 s.args.t2 l.i (search rules) in
-    (s.requires.1.0, omega (arith, s.requires.1.1, here))
+    let l = c.loop-i in
+    let here = least_at c.args.n c.args.before c.args.after l.i (search rules) in
+    (c.requires.1.0, omega (arith, c.requires.1.1, here))
 
-loop-again : tie.Need-loop-preserved invariant-loop decreases-loop
+loop-again : tie.Need-loop-i-preserved invariant-loop decreases-loop
 loop-again c =
-    let l = c.before.before.before.before.loop in
-    let a = c.before.before.before.before.before.args in
-    let f : ℕ → Cell = λ i. cell_through (get_or a.t1 i no_cell) (get_or a.t2 i no_cell) a.m in
-    (omega arith, listed_next f l.i a.t1 l.next _ no_cell l.invariant.1 c.cell-through.ensures (search rules))
+    let l = c.loop-i in
+    let a = c.args in
+    let f : ℕ → Cell = λ i. cell_through (get_or a.before i no_cell) (get_or a.after i no_cell) a.m in
+    (omega arith, listed_next f l.i a.before l.next _ no_cell l.invariant.1 c.cell_through-cell.ensures (search rules))
 
 returns : tie.Need-returns invariant-loop decreases-loop
 returns c =
-    let l = c.before.loop in
-    let end : l.i ≡ c.before.before.args.n = omega arith in
+    let l = c.loop-i in
+    let end : l.i ≡ c.args.n = omega arith in
     rw end at l.invariant.1
 
 pub cells_through_spec : {M : Type 1} → statement M

@@ -16,74 +16,57 @@ use Rattle.wiring.proofs.parts.put_slots.Statement.{statement}
 use Rattle.wiring.proofs.parts.put_slots.Tie as tie
 
 -- the set that the table gives
-known : (c : tie.After-row-of) → c.row_of.result.used ≡ (row_of c.before.args.cell.kind).used
-known c = ap (λ (r : Row). r.used) c.row_of.ensures
+known : (c : tie.After-row_of-row) → c.row_of-row.result.used ≡ (row_of c.args.cell.kind).used
+known c = ap (λ (r : Row). r.used) c.row_of-row.ensures
 
-returns : tie.Need-returns
+returns : tie.Need-returns-then-not-used
 returns c =
-    let r = c.before.before.before.before.before in
-    let a = r.before.args in
-    let none = no-slots a.cell r.row_of.result.used (known r) (not-true _ c.if1.true) in
+    let a = c.args in
+    let none = no-slots a.cell c.row_of-row.result.used (known c.before.before.before.before.before) (not-true _ c.if-not-used.true-raw) in
     rw (sym none) (refl, (sym (add-zero a.at), omega arith))
 
-put-requires-4 : tie.Need-put-requires-4
+put-requires-4 : tie.Need-put-end-requires
 put-requires-4 c κs =
-    let p3 = c.before.before.before.before in
-    let p2 = p3.before.before.before.before.before in
-    let p1 = p2.before.before.before.before.before in
-    let w = p1.before.before.before.before.before in
-    let s = w.before.before.before.before.before.before.before.before.before in (
-      omega (arith, c.before.wide4.ensures.1),
-      omega (arith, p3.put3.ensures.1.1, p2.put2.ensures.1.1, p1.put.ensures.1.1, w.copy.ensures.1, s.requires),
+    (
+      omega (arith, c.wide-4.ensures.1),
+      omega (arith, c.put-f.ensures.1.1, c.put-z.ensures.1.1, c.put-y.ensures.1.1, c.copy-x.ensures.1, c.requires),
     )
 
-copy-requires-2 : tie.Need-copy-requires-2
+copy-requires-2 : tie.Need-copy-requires
 copy-requires-2 c κs =
-    let p4 = c.before.before in
-    let p3 = p4.before.before.before.before.before in
-    let p2 = p3.before.before.before.before.before in
-    let p1 = p2.before.before.before.before.before in
-    let w = p1.before.before.before.before.before in
-    let s = w.before.before.before.before.before.before.before.before.before in
-    let to-f = p4.put4.ensures.1.1 in
-    let to-z = p3.put3.ensures.1.1 in
-    omega (arith, c.before.copy-arg3.given, to-f, to-z, p2.put2.ensures.1.1, p1.put.ensures.1.1, w.copy.ensures.1, s.requires)
+    let to-f = c.put-end.ensures.1.1 in
+    let to-z = c.put-f.ensures.1.1 in
+    omega (arith, c.copy-arg-3-1.given, to-f, to-z, c.put-z.ensures.1.1, c.put-y.ensures.1.1, c.copy-x.ensures.1, c.requires)
 
-returns-2 : tie.Need-returns-2
+returns-2 : tie.Need-returns
 returns-2 c =
-    let p4 = c.before.before.before in
-    let p3 = p4.before.before.before.before.before in
-    let p2 = p3.before.before.before.before.before in
-    let p1 = p2.before.before.before.before.before in
-    let w = p1.before.before.before.before.before in
-    let r = w.before.before.before.before.before.before.before.before in
-    let a = r.before.args in
-    let used = r.row_of.result.used in
-    let x = p1.before.before.wide in
-    let y = p2.before.before.wide2 in
-    let z = p3.before.before.wide3 in
-    let f = p4.before.before.wide4 in
-    let first : Placed a.out.now a.at _ (card_line CCB) _ = record { bytes = w.copy.ensures.0; at-end = w.copy.ensures.1 } in
-    let to-x = placed-then first (part used.x (pair X) x.result []) p1.put.ensures.0 p1.put.ensures.1.0 in
-    let to-y = placed-then to-x (part used.y (pair Y) y.result []) p2.put2.ensures.0 p2.put2.ensures.1.0 in
-    let to-z = placed-then to-y (part used.z (pair Z) z.result []) p3.put3.ensures.0 p3.put3.ensures.1.0 in
-    let to-f = placed-then to-z (part used.f (pair F) f.result []) p4.put4.ensures.0 p4.put4.ensures.1.0 in
-    let all = placed-then to-f LF c.copy2.ensures.0 c.copy2.ensures.1 in
-    let some = not-false _ w.before.before.before.if1.false in
+    let a = c.args in
+    let used = c.row_of-row.result.used in
+    let x = c.wide in
+    let y = c.wide-2 in
+    let z = c.wide-3 in
+    let f = c.wide-4 in
+    let first : Placed a.out.now a.at _ (card_line CCB) _ = record { bytes = c.copy-x.ensures.0; at-end = c.copy-x.ensures.1 } in
+    let to-x = placed-then first (part used.x (pair X) x.result []) c.put-y.ensures.0 c.put-y.ensures.1.0 in
+    let to-y = placed-then to-x (part used.y (pair Y) y.result []) c.put-z.ensures.0 c.put-z.ensures.1.0 in
+    let to-z = placed-then to-y (part used.z (pair Z) z.result []) c.put-f.ensures.0 c.put-f.ensures.1.0 in
+    let to-f = placed-then to-z (part used.f (pair F) f.result []) c.put-end.ensures.0 c.put-end.ensures.1.0 in
+    let all = placed-then to-f LF c.copy.ensures.0 c.copy.ensures.1 in
+    let some = not-false _ c.if-not-used.false-raw in
     let text =
-    slot-parts a.cell used (known r) x.result y.result z.result f.result x.ensures.0 y.ensures.0 z.ensures.0 f.ensures.0 some in
+    slot-parts a.cell used (known c.before.before.before.before.before.before.before.before.before.before.before.before.before.before.before.before.before.before.before.before.before.before.before.before.before.before.before.before.before.before.before) x.result y.result z.result f.result x.ensures.0 y.ensures.0 z.ensures.0 f.ensures.0 some in
     let whole = placed-as text all in (
       whole.bytes,
       (
         whole.at-end,
         omega (
           arith,
-          c.copy2.ensures.1,
-          p4.put4.ensures.1.1,
-          p3.put3.ensures.1.1,
-          p2.put2.ensures.1.1,
-          p1.put.ensures.1.1,
-          w.copy.ensures.1,
+          c.copy.ensures.1,
+          c.put-end.ensures.1.1,
+          c.put-f.ensures.1.1,
+          c.put-z.ensures.1.1,
+          c.put-y.ensures.1.1,
+          c.copy-x.ensures.1,
         ),
       ),
     )
@@ -92,30 +75,20 @@ pub put_slots_spec : {M : Type 1} → statement M
 put_slots_spec =
     tie.close
     (tie.spec
-    (λ c κs. search rules)
+    (λ c. search rules)
     returns
     (λ c. search rules)
-    (λ c κs. search rules)
     (λ c. search rules)
     (λ c. search rules)
-    (λ c κs. search rules)
-    (λ c. search rules)
-    (λ c κs. search rules)
     (λ c. search rules)
     (λ c. search rules)
-    (λ c κs. search rules)
-    (λ c. search rules)
-    (λ c κs. search rules)
     (λ c. search rules)
     (λ c. search rules)
-    (λ c κs. search rules)
-    (λ c. search rules)
-    (λ c κs. search rules)
     (λ c. search rules)
     (λ c. search rules)
-    (λ c κs. search rules)
+    (λ c. search rules)
+    (λ c. search rules)
     (λ c. search rules)
     put-requires-4
-    (λ c. search rules)
     copy-requires-2
     returns-2)

@@ -15,31 +15,30 @@ use Rattle.wiring.proofs.print.print.Statement.{statement}
 use Rattle.wiring.proofs.print.print.Tie as tie
 
 -- the text that is written has room for any
-whole : (c : tie.After-put-wiring) → length c.put-wiring.new.0 ≡ text_most
+whole : (c : tie.After-put_wiring-len) → length c.put_wiring-len.new.0 ≡ text_most
 whole c =
-    ap length c.put-wiring.ensures.0
-    ∙ length-sets _ 0 (wiring_text (cells_for c.before.before.before.args.card.size) c.before.before.before.args.card)
+    ap length c.put_wiring-len.ensures.0
+    ∙ length-sets _ 0 (wiring_text (cells_for c.args.card.size) c.args.card)
     ∙ length-replicate {A = ℕ} text_most 0
 
-returns : tie.Need-returns
+returns : tie.Need-returns-then-buffer-len
 returns c =
-    let a = c.before.before.before.before.args in
-    let p = c.before.put-wiring in
-    let long : length a.buffer.now < length (wiring_text (cells_for a.card.size) a.card) = omega (arith, p.ensures.1.0, c.if1.true) in
+    let a = c.args in
+    let p = c.put_wiring-len in
+    let long : length a.buffer.now < length (wiring_text (cells_for a.card.size) a.card) = omega (arith, p.ensures.1.0, c.if-buffer-len.true) in
     let over = lt-ltb _ _ long in
     (rw over, (rw over, (rw over, zero-le)))
 
-part-copy-end : tie.Need-slice-bounds-copy-end
+part-copy-end : tie.Need-slice_bounds-copy-end
 part-copy-end c =
-    let p = c.before.before.before.put-wiring in
+    let p = c.put_wiring-len in
     omega (arith, whole c.before.before.before, p.ensures.1.1)
 
-returns-2 : tie.Need-returns-2
+returns-2 : tie.Need-returns
 returns-2 c =
-    let e = c.before.before.before.before.before.before in
-    let p = e.before.put-wiring in
-    let a = e.before.before.before.before.args in
-    let fits : length (wiring_text (cells_for a.card.size) a.card) ≤ length a.buffer.now = omega (arith, p.ensures.1.0, e.if1.false) in
+    let p = c.put_wiring-len in
+    let a = c.args in
+    let fits : length (wiring_text (cells_for a.card.size) a.card) ≤ length a.buffer.now = omega (arith, p.ensures.1.0, c.if-buffer-len.false) in
     let room = le-ltb _ _ fits in
     let all : p.result - 0 ≡ p.result = omega arith in
     let zeros : List ℕ = replicate text_most 0 in
@@ -47,7 +46,7 @@ returns-2 c =
     let text =
     ap (λ (n : ℕ). take n p.new.0) all ∙ ap (take p.result) p.ensures.0
     ∙ front zeros (wiring_text (cells_for a.card.size) a.card) p.result p.ensures.1.0 long in
-    let copied = c.before.before.copy.ensures.0 ∙ ap (sets a.buffer.now 0) text in
+    let copied = c.copy.ensures.0 ∙ ap (sets a.buffer.now 0) text in
     let size = ap length copied ∙ length-sets a.buffer.now 0 (wiring_text (cells_for a.card.size) a.card) in
     (rw room, (rw room p.ensures.1.0, (rw room copied, omega (arith, size, p.ensures.1.0))))
 

@@ -1,0 +1,14 @@
+-- `steady::least_holds` meets its contract: after i turns it is the least of the first i cells.
+use Prim.Native.Nat.{◌-◌, ◌≤◌, zero-le}
+use mathlib.Core.Path.{◌≡◌, refl, ◌∙◌}
+use native.Mathlib.Omega.{arith}
+use borrow.Author.Rules.{rules}
+use Rattle.steady.specs.Steady.{least_holds}
+use Rattle.steady.proofs.Cases.{least-next}
+use Rattle.steady.proofs.least_holds.Given as goal
+
+abbrev pub invariant-loop-i : goal.invariant-loop-i
+invariant-loop-i l = (l.i ≤ l.n) × (l.all ≡ least_holds l.i l.before l.after)
+
+abbrev pub decreases-loop-i : goal.decreases-loop-i
+decreases-loop-i l = l.n - l.i
