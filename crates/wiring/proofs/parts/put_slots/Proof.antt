@@ -22,7 +22,7 @@ known c = ap (λ (r : Row). r.used) c.row_of-row.ensures
 returns : tie.Need-returns-then-not-used
 returns c =
     let a = c.args in
-    let none = no-slots a.cell c.row_of-row.result.used (known c.before.before.before.before.before) (not-true _ c.if-not-used.true-raw) in
+    let none = no-slots a.cell c.row_of-row.result.used (ap (λ (r : Row). r.used) c.row_of-row.ensures) (not-true _ c.if-not-used.true-raw) in
     rw (sym none) (refl, (sym (add-zero a.at), omega arith))
 
 put-requires-4 : tie.Need-put-end-requires
@@ -54,7 +54,7 @@ returns-2 c =
     let all = placed-then to-f LF c.copy.ensures.0 c.copy.ensures.1 in
     let some = not-false _ c.if-not-used.false-raw in
     let text =
-    slot-parts a.cell used (known c.before.before.before.before.before.before.before.before.before.before.before.before.before.before.before.before.before.before.before.before.before.before.before.before.before.before.before.before.before.before.before) x.result y.result z.result f.result x.ensures.0 y.ensures.0 z.ensures.0 f.ensures.0 some in
+    slot-parts a.cell used (ap (λ (r : Row). r.used) c.row_of-row.ensures) x.result y.result z.result f.result x.ensures.0 y.ensures.0 z.ensures.0 f.ensures.0 some in
     let whole = placed-as text all in (
       whole.bytes,
       (

@@ -15,7 +15,7 @@ use Rattle.wiring.proofs.print.print.Statement.{statement}
 use Rattle.wiring.proofs.print.print.Tie as tie
 
 -- the text that is written has room for any
-whole : (c : tie.After-put_wiring-len) → length c.put_wiring-len.new.0 ≡ text_most
+whole : (c : tie.After-put_wiring-len) → length c.put_wiring-len.new.out ≡ text_most
 whole c =
     ap length c.put_wiring-len.ensures.0
     ∙ length-sets _ 0 (wiring_text (cells_for c.args.card.size) c.args.card)
@@ -32,7 +32,7 @@ returns c =
 part-copy-end : tie.Need-slice_bounds-copy-end
 part-copy-end c =
     let p = c.put_wiring-len in
-    omega (arith, whole c.before.before.before, p.ensures.1.1)
+    omega (arith, whole c.before.before, p.ensures.1.1)
 
 returns-2 : tie.Need-returns
 returns-2 c =
@@ -44,7 +44,7 @@ returns-2 c =
     let zeros : List ℕ = replicate text_most 0 in
     let long : length (wiring_text (cells_for a.card.size) a.card) ≤ length zeros = omega (arith, length-replicate {A = ℕ} text_most 0, p.ensures.1) in
     let text =
-    ap (λ (n : ℕ). take n p.new.0) all ∙ ap (take p.result) p.ensures.0
+    ap (λ (n : ℕ). take n p.new.out) all ∙ ap (take p.result) p.ensures.0
     ∙ front zeros (wiring_text (cells_for a.card.size) a.card) p.result p.ensures.1.0 long in
     let copied = c.copy.ensures.0 ∙ ap (sets a.buffer.now 0) text in
     let size = ap length copied ∙ length-sets a.buffer.now 0 (wiring_text (cells_for a.card.size) a.card) in
