@@ -1,20 +1,7 @@
--- Laws of passes over a list of cards, and the rules of the walks: a slice reborrowed, a row reborrowed for any callee, a call on plain values.
-pub mod Walk
-pub mod Locals
+-- Laws of passes over a list of cards, and of racks.
 pub mod Rows
 pub mod Orders
 pub mod Takes
-pub mod Again
-pub mod Lent
-pub mod Called
-pub mod Counted
-pub mod Types
-pub mod LendsPass
-pub mod LendsSwapAt
-pub mod LendsLineIn
-pub mod LendsLoadIn
-pub mod Own
-pub mod PlainsHeld
 pub mod Draws
 pub mod Racks
 pub mod Supplies
