@@ -17,7 +17,7 @@ pub type Text = [u8; LINE];
 pub type Answer = [u8; LONGEST_PRINT];
 
 // Between two lines of a transcript.
-#[derive(Drop)]
+#[derive(Clone, Copy)]
 pub struct Check {
     // what the line that was entered last did
     pub last: Facts,

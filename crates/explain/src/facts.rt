@@ -15,7 +15,7 @@ use session::{Entered, Event};
 // Between two lines: the card, the lines entered and the ticks that ran; the card as it was in the
 // last of these, on which all hints have been given; and whether the last line that was to move the
 // pointer was refused.
-#[derive(Drop)]
+#[derive(Clone, Copy)]
 pub struct Run {
     pub card: Card,
     pub hinted: Card,
@@ -26,7 +26,7 @@ pub struct Run {
 
 // What a line did: the run before it and after it, the event, of a card line what it was read as
 // and the cells that it edited, and how many bytes its answer has.
-#[derive(Drop)]
+#[derive(Clone, Copy)]
 pub struct Facts {
     pub before: Run,
     pub after: Run,

@@ -19,14 +19,14 @@ use phrases::wiring::put_edited;
 use session::{Event, LONGEST_PRINT, TickDone};
 
 // How lines are explained: as rows of JSON or in sentences, and whether cells that sleep are named.
-#[derive(Drop)]
+#[derive(Clone, Copy)]
 pub struct Style {
     pub rows: bool,
     pub asleep: bool,
 }
 
 // A run after a line, and how many bytes are written of the line.
-#[derive(Drop)]
+#[derive(Clone, Copy)]
 pub struct Explained {
     pub run: Run,
     pub len: usize,

@@ -5,38 +5,36 @@ ghost use Rattle.std.specs.Prelude.{◌≤◌, length};
 
 use crate::put;
 use card::limits::SMALL;
+use input::read_all;
+use input::system::{Source, open_read};
+use std::os::fd::AsRawFd;
 
 // No session is longer, and none prints more.
 const MOST: usize = 131072;
 
 // Plrun's loop over a named file. The result is whether both files could be opened.
-fn run_loop(path: &[u8]) -> bool {
-    let input = os::open_read(path);
-    if input < 0 {
+fn run_loop(rt: &HostRuntime, path: &[u8]) -> bool {
+    let Some(file) = open_read(rt, path) else {
         return false;
-    }
-    let output = os::open_overwrite(b"wrote");
-    if output < 0 {
-        libc::close(input);
+    };
+    let Ok(output) = std::fs::create(rt, "wrote") else {
         return false;
-    }
-    session::run::run_from(input, output);
-    libc::close(output);
-    libc::close(input);
+    };
+    let mut input = Source::Named(file);
+    session::run::run_from(&mut input, output.as_raw_fd());
     true
 }
 
 // The bytes that the loop wrote, at the front of a buffer.
-fn read_wrote(bytes: &mut [u8; MOST]) -> usize
+fn read_wrote(rt: &HostRuntime, bytes: &mut [u8; MOST]) -> usize
     ensures { result ≤ length bytes.new }
 {
-    let file = os::open_read(b"wrote");
-    if file < 0 {
+    let Some(file) = open_read(rt, b"wrote") else {
         return 0;
-    }
-    let n = io::read_full(file, bytes);
-    libc::close(file);
-    n
+    };
+    let mut wrote = Source::Named(file);
+    let got = read_all(&mut wrote, bytes);
+    got.n
 }
 
 // What the run over the bytes in memory did is what plrun wrote, and it took them all.
@@ -57,20 +55,20 @@ fn compare(session: &[u8], wrote: &[u8], output: &mut [u8]) {
 }
 
 // The session of an open file, which has this name.
-pub fn run(file: i32, path: &[u8], size: u8) {
+pub fn run(rt: &HostRuntime, file: &mut Source, path: &[u8], size: u8) {
     if size != SMALL {
         put(b"? plrun's card has sixteen cells\n");
         return;
     }
-    if !run_loop(path) {
+    if !run_loop(rt, path) {
         put(b"? plrun's loop cannot be run\n");
         return;
     }
     let mut session = [0u8; MOST];
     let mut wrote = [0u8; MOST];
     let mut output = [0u8; MOST];
-    let len = io::read_full(file, &mut session);
-    let n = read_wrote(&mut wrote);
+    let got = read_all(file, &mut session);
+    let n = read_wrote(rt, &mut wrote);
     put(&wrote[0..n]);
-    compare(&session[0..len], &wrote[0..n], &mut output);
+    compare(&session[0..got.n], &wrote[0..n], &mut output);
 }

@@ -4,6 +4,7 @@ ghost use Rattle.std.specs.Prelude.{◌≤◌, length};
 use crate::explained::put_front;
 use crate::lines_of::STORE;
 use explain::checking::{Answer, Check, Text, end, take, take_last};
+use input::system::Source;
 use input::{BUFFER, LINE, Reader, least, next_line};
 use phrases::out::Page;
 use saved::record::record_length;
@@ -39,7 +40,7 @@ fn take_given(
     last
 }
 
-pub fn run(file: i32, size: u8) {
+pub fn run(file: &mut Source, size: u8) {
     let mut block = [0u8; BUFFER];
     let mut line = [0u8; LINE];
     let mut store = [0u8; STORE];

@@ -2,7 +2,7 @@
 use crate::{put, put_number};
 use card::card::Card;
 use card::limits::Number;
-use libc::STDOUT_FILENO;
+use input::system::STDOUT;
 use wiring::parts::TEXT_MOST;
 
 // What a card prints of itself.
@@ -25,9 +25,9 @@ fn put_survey(card: Card, place: Number) {
     put(b" ");
     put_number(s.k as u64);
     put(b" ");
-    io::print_hex(STDOUT_FILENO, s.cells as u64, wide(card.size) / 4);
+    io::print_hex(STDOUT, s.cells as u64, wide(card.size) / 4);
     put(b" ");
-    io::print_hex(STDOUT_FILENO, s.connectors as u64, 4);
+    io::print_hex(STDOUT, s.connectors as u64, 4);
     put(b"\n");
 }
 

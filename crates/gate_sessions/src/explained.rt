@@ -5,6 +5,7 @@ use crate::lines_of::STORE;
 use crate::put;
 use explain::facts::{Run, more};
 use explain::line::{Style, explain, put_unended};
+use input::system::Source;
 use input::{BUFFER, LINE, Reader, least, next_line};
 use phrases::out::Page;
 use saved::record::record_length;
@@ -49,7 +50,7 @@ pub fn style(rows: bool, asleep: bool) -> Style {
     }
 }
 
-pub fn run(file: i32, size: u8, style: Style) {
+pub fn run(file: &mut Source, size: u8, style: Style) {
     let mut block = [0u8; BUFFER];
     let mut line = [0u8; LINE];
     let mut store = [0u8; STORE];

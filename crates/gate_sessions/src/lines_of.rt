@@ -3,6 +3,7 @@ ghost use Rattle.std.specs.Prelude.{◌≤◌, length};
 
 use crate::{Form, put};
 use card::card::Card;
+use input::system::Source;
 use input::{BUFFER, LINE, Reader, least, next_line, start};
 use saved::record::record_length;
 use session::{Event, LONGEST_PRINT};
@@ -81,7 +82,7 @@ fn take_given(card: Card, r: Reader, block: &[u8], store: &mut [u8], form: Form)
 }
 
 // The card that the lines of an open file leave.
-pub fn run(file: i32, size: u8, form: Form) -> Card {
+pub fn run(file: &mut Source, size: u8, form: Form) -> Card {
     let mut block = [0u8; BUFFER];
     let mut line = [0u8; LINE];
     let mut store = [0u8; STORE];

@@ -26,10 +26,10 @@ ghost use Rattle.std.specs.Prelude.{◌≤◌, length};
 use card::limits::{LARGE, SMALL};
 use check::same;
 use explained::style;
+use input::system::{STDOUT, Source, open_read};
 use input::{BUFFER, LINE, Reader, next_line, start};
-use libc::{STDIN_FILENO, STDOUT_FILENO};
 
-#[derive(Drop)]
+#[derive(Clone, Copy)]
 enum Form {
     Plrun,
     Session,
@@ -46,11 +46,11 @@ enum Form {
 }
 
 fn put(text: &[u8]) {
-    io::write_all(STDOUT_FILENO, text);
+    io::write_all(STDOUT, text);
 }
 
 fn put_number(n: u64) {
-    io::print_decimal(STDOUT_FILENO, n);
+    io::print_decimal(STDOUT, n);
 }
 
 // ---- a row
@@ -122,7 +122,7 @@ fn text_form_of(word: &[u8]) -> Form {
 }
 
 // The lines of an open file, and then what is printed of the card that they leave.
-fn run_lines(file: i32, size: u8, form: Form) {
+fn run_lines(file: &mut Source, size: u8, form: Form) {
     let card = lines_of::run(file, size, form);
     match form {
         Form::Session => ending::put_wiring(card),
@@ -133,9 +133,9 @@ fn run_lines(file: i32, size: u8, form: Form) {
 }
 
 // A run on an open file.
-fn run(file: i32, path: &[u8], size: u8, form: Form) {
+fn run(rt: &HostRuntime, file: &mut Source, path: &[u8], size: u8, form: Form) {
     match form {
-        Form::Plrun => both::run(file, path, size),
+        Form::Plrun => both::run(rt, file, path, size),
         Form::Explain => explained::run(file, size, style(false, false)),
         Form::Asleep => explained::run(file, size, style(false, true)),
         Form::Rows => explained::run(file, size, style(true, false)),
@@ -145,7 +145,7 @@ fn run(file: i32, path: &[u8], size: u8, form: Form) {
     }
 }
 
-fn run_row(size: u8, path: &[u8], form: Form) {
+fn run_row(rt: &HostRuntime, size: u8, path: &[u8], form: Form) {
     if size == 0 {
         put(b"? the size is not known\n");
         return;
@@ -154,16 +154,15 @@ fn run_row(size: u8, path: &[u8], form: Form) {
         put(b"? the form is not known\n");
         return;
     }
-    let file = os::open_read(path);
-    if file < 0 {
+    let Some(file) = open_read(rt, path) else {
         put(b"? the file cannot be read\n");
         return;
-    }
-    run(file, path, size, form);
-    libc::close(file);
+    };
+    let mut source = Source::Named(file);
+    run(rt, &mut source, path, size, form);
 }
 
-fn take_row(row: &[u8]) {
+fn take_row(rt: &HostRuntime, row: &[u8]) {
     put(row);
     put(b"\n");
     let n = row.len();
@@ -179,13 +178,13 @@ fn take_row(row: &[u8]) {
     }
     let size = size_of(&row[0..first]);
     let form = form_of(&row[second + 1..n]);
-    run_row(size, &row[first + 1..second], form);
+    run_row(rt, size, &row[first + 1..second], form);
 }
 
 // ---- the rows
 
 // The row that a reader has given, if it has given one.
-fn take_given(r: Reader, block: &[u8])
+fn take_given(rt: &HostRuntime, r: Reader, block: &[u8])
     requires start_le_end { r.start ≤ r.end }
     requires end_in_bounds { r.end ≤ length block.now }
 {
@@ -194,15 +193,16 @@ fn take_given(r: Reader, block: &[u8])
     }
     let start = r.start;
     let end = r.end;
-    take_row(&block[start..end]);
+    take_row(rt, &block[start..end]);
 }
 
-fn main() {
+fn main(rt: HostRuntime) {
     let mut block = [0u8; BUFFER];
     let mut row = [0u8; LINE];
+    let mut rows = Source::Standard(rt.stdin());
     let mut r = start();
     while r.left > 0 && r.going {
-        r = next_line(r, STDIN_FILENO, &mut block, &mut row);
-        take_given(r, &block);
+        r = next_line(r, &mut rows, &mut block, &mut row);
+        take_given(&rt, r, &block);
     }
 }

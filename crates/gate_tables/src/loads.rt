@@ -11,8 +11,8 @@ ghost use Rattle.std.specs.Prelude.{◌≤◌, length};
 
 use crate::{put, put_field, put_number};
 use card::limits::{LARGE, SMALL};
+use input::system::{STDOUT, Source};
 use input::{BLOCK, Reader, least, next_line, start};
-use libc::{STDIN_FILENO, STDOUT_FILENO};
 use text::Hex;
 
 // The longest row of digits, the bytes that it says, and the longest buffer for a conversion.
@@ -32,7 +32,7 @@ const BUFFER: usize = KEPT + BLOCK;
 
 // The bytes that a row says, of which there are so many at the front of a buffer, or a row of
 // another form.
-#[derive(Drop)]
+#[derive(Clone, Copy)]
 enum Record {
     Bytes(usize),
     Malformed,
@@ -78,7 +78,7 @@ fn bytes_in(row: &[u8], bytes: &mut [u8; MOST_BYTES]) -> Record {
 
 fn put_hex(bytes: &[u8]) {
     for i in 0..bytes.len() {
-        io::print_hex(STDOUT_FILENO, wide(bytes[i]), 2);
+        io::print_hex(STDOUT, wide(bytes[i]), 2);
     }
 }
 
@@ -201,12 +201,13 @@ fn put_given(r: Reader, block: &[u8])
     put_row(&block[start..end]);
 }
 
-pub fn put_table() {
+pub fn put_table(rt: &HostRuntime) {
     let mut block = [0u8; BUFFER];
     let mut row = [0u8; KEPT];
+    let mut rows = Source::Standard(rt.stdin());
     let mut r = start();
     while r.left > 0 && r.going {
-        r = next_line(r, STDIN_FILENO, &mut block, &mut row);
+        r = next_line(r, &mut rows, &mut block, &mut row);
         put_given(r, &block);
     }
 }

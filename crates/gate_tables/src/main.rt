@@ -9,10 +9,10 @@ mod chart; // the cell types
 mod loads; // loads and conversions of records
 mod presets; // the presets
 
-use libc::STDOUT_FILENO;
+use input::system::STDOUT;
 
 fn put(text: &[u8]) {
-    io::write_all(STDOUT_FILENO, text);
+    io::write_all(STDOUT, text);
 }
 
 fn put_byte(b: u8) {
@@ -21,7 +21,7 @@ fn put_byte(b: u8) {
 }
 
 fn put_number(n: u64) {
-    io::print_decimal(STDOUT_FILENO, n);
+    io::print_decimal(STDOUT, n);
 }
 
 // A number and a blank.
@@ -30,11 +30,11 @@ fn put_field(n: u64) {
     put_byte(b' ');
 }
 
-fn main() {
+fn main(rt: HostRuntime) {
     put(b"cell types\n");
     chart::put_table();
     put(b"presets\n");
     presets::put_table();
     put(b"records\n");
-    loads::put_table();
+    loads::put_table(&rt);
 }

@@ -3,13 +3,18 @@
 // What bytes of input do is a definition, `takes_all`, whatever a program does with a line. A
 // program that holds bytes in memory goes from LF to LF by `line_end`. One that reads goes from
 // line to line by `next_line`, in constant memory: a block of input with room for a line before it,
-// and the line that has not ended. The calls that read are in `read_at`; no contract can say
+// and the line that has not ended. The call that reads is in `read_into`; no contract can say
 // which bytes come there.
 #![tactic(auto)]
+
+pub mod system; // what a program reads and writes, and why a call failed
 
 ghost use Rattle.std.specs.Prelude.{true, false, ◌≡◌, ℕ, ◌≤◌, ◌<◌, ◌+◌, min, length, take, get_or};
 ghost use Rattle.input.specs.Lines.{part, kept, block_length, most_reads};
 ghost use Rattle.input.specs.Reading.{Looked, Refilled, Next};
+
+use std::io::Read;
+use system::Source;
 
 // `block_length`: the length of a block of input.
 pub const BLOCK: usize = 2048;
@@ -27,7 +32,7 @@ pub const READS: u64 = 1 << 47;
 
 // Where the line that was given last lies in a block, from `start` to its LF at `end`, and how many
 // bytes of the block have been read.
-#[derive(Drop)]
+#[derive(Clone, Copy)]
 pub struct Reader {
     pub start: usize,
     pub end: usize,
@@ -78,30 +83,43 @@ pub fn keep(line: &mut [u8], text: &[u8]) -> usize
     text::copy(line, 0, &text[0..n])
 }
 
-// How many bytes a read gave, and whether it failed: then it gave none, and errno says why.
-#[derive(Drop)]
+// How many bytes a read gave, and whether it failed: then it gave none, and `system::fail` says why.
+#[derive(Clone, Copy)]
 pub struct Got {
     pub n: usize,
     pub failed: bool,
 }
 
+// One read, to the front of a part of a buffer. It is one call of the system, so that what a person
+// types is given at once, and nothing is read ahead.
+fn read_into(input: &mut Source, part: &mut [u8]) -> Got
+    ensures { result.n ≤ length part.old }
+{
+    let got = match input {
+        Source::Nothing => Ok(0),
+        Source::Standard(standard) => standard.read(part),
+        Source::Named(file) => file.read(part),
+    };
+    match got {
+        Ok(n) => Got {
+            n: n,
+            failed: false,
+        },
+        Err(_) => Got { n: 0, failed: true },
+    }
+}
+
 // One read, to a place of a block.
-fn read_at(input: i32, block: &mut [u8], at: usize) -> Got
+fn read_at(input: &mut Source, block: &mut [u8], at: usize) -> Got
     requires { at + block_length ≤ length block.old }
     ensures n_le_block_length { result.n ≤ block_length }
     ensures block_unchanged { take at block.new ≡ take at block.old }
 {
-    let part = &mut block[at..at + BLOCK];
-    let got = libc::read(input, part);
-    let n = io::count(got, part);
-    Got {
-        n: n,
-        failed: got < 0,
-    }
+    read_into(input, &mut block[at..at + BLOCK])
 }
 
 // One read, after the first `len` bytes of a line.
-pub fn read_behind(input: i32, block: &mut [u8], line: &[u8], len: usize) -> Got
+pub fn read_behind(input: &mut Source, block: &mut [u8], line: &[u8], len: usize) -> Got
     requires len_in_bounds { len ≤ length line.now }
     requires block_length_in_bounds { len + block_length ≤ length block.old }
     ensures n_le_block_length { result.n ≤ block_length }
@@ -112,22 +130,16 @@ pub fn read_behind(input: i32, block: &mut [u8], line: &[u8], len: usize) -> Got
 }
 
 // One read, to the end of a buffer from a place on.
-fn read_from(input: i32, buffer: &mut [u8], at: usize) -> Got
+fn read_from(input: &mut Source, buffer: &mut [u8], at: usize) -> Got
     requires { at ≤ length buffer.old }
     ensures { at + result.n ≤ length buffer.old }
 {
-    let part = &mut buffer[at..];
-    let got = libc::read(input, part);
-    let n = io::count(got, part);
-    Got {
-        n: n,
-        failed: got < 0,
-    }
+    read_into(input, &mut buffer[at..])
 }
 
 // Reads until a buffer is full or the input ends. Where a read fails, `n` counts the bytes before
 // it.
-pub fn read_all(input: i32, buffer: &mut [u8]) -> Got
+pub fn read_all(input: &mut Source, buffer: &mut [u8]) -> Got
     ensures { result.n ≤ length buffer.new }
 {
     let mut n: usize = 0;
@@ -187,7 +199,7 @@ fn behind(r: Reader, block: &[u8]) -> Reader
 
 // The line from `start` has no LF up to the last byte that has been read. Its first bytes, as many
 // as are kept, go to the front of the block, and the bytes of a read after them.
-fn refilled(r: Reader, input: i32, block: &mut [u8], line: &mut [u8]) -> Reader
+fn refilled(r: Reader, input: &mut Source, block: &mut [u8], line: &mut [u8]) -> Reader
     requires start_le_n { r.start ≤ r.n }
     requires n_in_bounds { r.n ≤ length block.old }
     requires block_length_in_bounds { length line.old + block_length ≤ length block.old }
@@ -212,7 +224,7 @@ fn refilled(r: Reader, input: i32, block: &mut [u8], line: &mut [u8]) -> Reader
 
 // The next line. It lies in the block, from `start` to `end`, without its LF; where no further LF
 // comes, none is given. The reader is what `start` or this function gave, with the same buffers.
-pub fn next_line(r: Reader, input: i32, block: &mut [u8], line: &mut [u8]) -> Reader
+pub fn next_line(r: Reader, input: &mut Source, block: &mut [u8], line: &mut [u8]) -> Reader
     requires end_le_n { r.end ≤ r.n }
     requires n_in_bounds { r.n ≤ length block.old }
     requires block_length_in_bounds { length line.old + block_length ≤ length block.old }

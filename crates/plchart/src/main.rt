@@ -9,7 +9,7 @@ ghost use Rattle.plchart.specs.Rows.{field_text, row_text, chart_text, field_mos
 
 use card::chart::{ADDRESSES, Entry, chart, entry_of};
 use card::limits::SMALL;
-use program::arguments::{NO_INPUT, NOTHING};
+use program::arguments::{NO_INPUT, has_input};
 
 // The most bytes of a field, ten digits and what ends it, and of a row. All rows have room in this
 // many.
@@ -66,8 +66,9 @@ fn print_chart() {
     program::writer::write(&out[0..n]);
 }
 
-fn main() {
+fn main(rt: HostRuntime) {
     let given = program::arguments::read(
+        &rt,
         b"plchart reads nothing, and prints the chart of the 256 addresses.
 
 usage: plchart
@@ -77,7 +78,7 @@ cell 1.
 ",
         NO_INPUT,
     );
-    if given.input != NOTHING {
+    if has_input(&given) {
         print_chart();
     }
 }

@@ -5,6 +5,7 @@
 ghost use Rattle.std.specs.Prelude.{length, ◌≤◌};
 
 use explain::checking::{Answer, Check, Text, end, take, take_last};
+use input::system::{Source, fail};
 use input::{BUFFER, LINE, Reader, least, next_line};
 use phrases::out::Page;
 use program::arguments;
@@ -15,7 +16,7 @@ use session::LONGEST_PRINT;
 const LONGEST_RECORD: usize = 516;
 
 // A transcript so far, and whether it goes on: all that was said could be written.
-#[derive(Drop)]
+#[derive(Clone, Copy)]
 struct Said {
     check: Check,
     wrote: bool,
@@ -69,7 +70,7 @@ fn take_given(
     let text = &block[start..start + long];
     let room = least(record_length(size), store.len());
     if r.failed {
-        os::fail(b"the input");
+        fail(b"the input");
         return Said {
             check: check,
             wrote: false,
@@ -87,7 +88,7 @@ fn take_given(
 }
 
 // The run ends with the input, and where a write fails.
-fn run_from(input: i32, size: u8) {
+fn run_from(input: &mut Source, size: u8) {
     let mut block = [0u8; BUFFER];
     let mut line = [0u8; LINE];
     let mut store = [0u8; LONGEST_RECORD];
@@ -116,8 +117,9 @@ fn run_from(input: i32, size: u8) {
     }
 }
 
-fn main() {
+fn main(rt: HostRuntime) {
     let a = arguments::read(
+        &rt,
         b"plcheck reads a wiring and a transcript, lines with the answers that must come, and compares.
 
 usage: plcheck [--cells 32] [FILE]     with no FILE it reads standard input
@@ -135,7 +137,8 @@ counts, as `10 answers agree, 0 differ`.
 ",
         arguments::CELLS,
     );
-    if a.input != arguments::NOTHING {
-        run_from(a.input, a.cells);
+    if arguments::has_input(&a) {
+        let mut source = a.input;
+        run_from(&mut source, a.cells);
     }
 }

@@ -3,25 +3,25 @@
 // output. It is the program of document 02, "Records for cards already at sea".
 #![tactic(auto)]
 
-use libc::STDERR_FILENO;
-use program::arguments::NOTHING;
+use input::system::{STDERR, Source, fail};
+use program::arguments::has_input;
 
 // `:N-k` and LF.
 fn refuse(k: u8) {
     let mut line = [0u8; 16];
     let n = text::put_numbered(&mut line, b":N-", k as u32, b"\n");
-    io::write_all(STDERR_FILENO, &line[0..n]);
+    io::write_all(STDERR, &line[0..n]);
 }
 
 // One byte more than the longest record is read: an input that goes on is of no form's length.
 const ROOM: usize = 517;
 
-fn convert_from(input: i32) {
+fn convert_from(input: &mut Source) {
     let mut bytes = [0u8; ROOM];
     let mut result = [0u8; 308];
     let got = input::read_all(input, &mut bytes);
     if got.failed {
-        os::fail(b"the input");
+        fail(b"the input");
         return;
     }
     let given = input::least(got.n, ROOM);
@@ -34,8 +34,9 @@ fn convert_from(input: i32) {
     program::writer::write(&result[0..n]);
 }
 
-fn main() {
+fn main(rt: HostRuntime) {
     let given = program::arguments::read(
+        &rt,
         b"plconvert reads a saved record and writes the same settings in the other form, for older or newer cards.
 
 usage: plconvert [FILE]     with no FILE it reads standard input
@@ -47,7 +48,8 @@ Where the record cannot be converted, nothing is written, and :N- and a number o
 ",
         0,
     );
-    if given.input != NOTHING {
-        convert_from(given.input);
+    if has_input(&given) {
+        let mut source = given.input;
+        convert_from(&mut source);
     }
 }

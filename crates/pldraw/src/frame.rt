@@ -10,7 +10,7 @@ use trace::notes::{Form, has_refused, has_rest, put_refused, put_rest};
 
 // What a picture shows: n ticks, those before them, all ticks that ran, and the rows as a set, in
 // the order in which they are drawn.
-#[derive(Drop)]
+#[derive(Clone, Copy)]
 pub struct Shape {
     pub n: usize,
     pub before: u64,

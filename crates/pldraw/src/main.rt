@@ -18,6 +18,7 @@ ghost use Rattle.session.specs.Feed.{Ready};
 use card::card::Card;
 use diagram::kept::{KEPT, Ticks, WORDS, keep, waves_of};
 use frame::Shape;
+use input::system::Source;
 use input::{BUFFER, LINE};
 use program::arguments;
 use program::writer::{ROOM, empty};
@@ -25,7 +26,7 @@ use session::feed::{Feed, STORE};
 use std::num::wrapping_add_u64;
 
 // Ticks that were passed over: how many, and what the last of them showed.
-#[derive(Drop)]
+#[derive(Clone, Copy)]
 pub struct Passed {
     pub feed: Feed,
     pub count: u64,
@@ -36,7 +37,7 @@ pub struct Passed {
 fn pass(
     feed: Feed,
     most: u64,
-    input: i32,
+    input: &mut Source,
     block: &mut [u8; BUFFER],
     line: &mut [u8; LINE],
     store: &mut [u8; STORE],
@@ -65,7 +66,7 @@ fn pass(
 }
 
 // The ticks that were kept: the card at the last of them, how many, and who has a row.
-#[derive(Drop)]
+#[derive(Clone, Copy)]
 pub struct Gathered {
     pub feed: Feed,
     pub card: Card,
@@ -76,7 +77,7 @@ pub struct Gathered {
 fn gather(
     start: Feed,
     ticks: &mut Ticks,
-    input: i32,
+    input: &mut Source,
     block: &mut [u8; BUFFER],
     line: &mut [u8; LINE],
     store: &mut [u8; STORE],
@@ -133,7 +134,7 @@ fn shape_of(before: u64, drawn: Gathered, behind: u64) -> Shape
 
 // The run of an input to a card of 16 or 32 cells, from tick `from` on. Where a read fails, that is
 // reported, and nothing is drawn.
-fn draw(input: i32, cells: u8, from: u64) {
+fn draw(input: &mut Source, cells: u8, from: u64) {
     let mut block = [0u8; BUFFER];
     let mut line = [0u8; LINE];
     let mut store = [0u8; STORE];
@@ -171,8 +172,9 @@ fn draw(input: i32, cells: u8, from: u64) {
     program::report::say(report);
 }
 
-fn main() {
+fn main(rt: HostRuntime) {
     let o = arguments::read(
+        &rt,
         b"pldraw reads lines of a card and ticks, and draws a timing diagram of the ticks that ran, as an SVG picture.
 
 usage: pldraw [--cells 32] [--from N] [FILE]     with no FILE it reads standard input
@@ -184,7 +186,8 @@ refused are reported in the picture and on the error output. --cells 32 is for a
 ",
         arguments::CELLS | arguments::FROM,
     );
-    if o.input != arguments::NOTHING {
-        draw(o.input, o.cells, o.from);
+    if arguments::has_input(&o) {
+        let mut source = o.input;
+        draw(&mut source, o.cells, o.from);
     }
 }

@@ -6,6 +6,7 @@ ghost use Rattle.std.specs.Prelude.{length, ◌≤◌};
 
 use explain::facts::{Run, more};
 use explain::line::{Style, explain, put_unended};
+use input::system::{Source, fail};
 use input::{BUFFER, LINE, Reader, least, next_line};
 use phrases::out::Page;
 use program::arguments;
@@ -16,7 +17,7 @@ use saved::record::record_length;
 const LONGEST_RECORD: usize = 516;
 
 // The run after a line, and whether it goes on: all that was said could be written.
-#[derive(Drop)]
+#[derive(Clone, Copy)]
 struct Said {
     run: Run,
     wrote: bool,
@@ -88,7 +89,7 @@ fn take_given(
         return end_line(run, text, &mut store[0..room], out, style);
     }
     if r.failed {
-        os::fail(b"the input");
+        fail(b"the input");
     }
     let n = put_unended(out, 0, style.rows, text, more(run.lines));
     write_front(out, n);
@@ -96,7 +97,7 @@ fn take_given(
 }
 
 // The run ends with the input, and where a write fails.
-fn run_from(input: i32, size: u8, style: Style) {
+fn run_from(input: &mut Source, size: u8, style: Style) {
     let mut block = [0u8; BUFFER];
     let mut line = [0u8; LINE];
     let mut store = [0u8; LONGEST_RECORD];
@@ -114,8 +115,9 @@ fn run_from(input: i32, size: u8, style: Style) {
     }
 }
 
-fn main() {
+fn main(rt: HostRuntime) {
     let a = arguments::read(
+        &rt,
         b"plexplain reads lines of a card and ticks, and says of each what it did and why.
 
 usage: plexplain [--cells 32] [--rows] [--asleep] [FILE]     with no FILE it reads standard input
@@ -136,7 +138,8 @@ hints on a wiring that is legal and surprising or of no use.
         rows: a.rows,
         asleep: a.asleep,
     };
-    if a.input != arguments::NOTHING {
-        run_from(a.input, a.cells, style);
+    if arguments::has_input(&a) {
+        let mut source = a.input;
+        run_from(&mut source, a.cells, style);
     }
 }

@@ -3,21 +3,21 @@
 #![tactic(auto)]
 
 use input::least;
-use libc::STDERR_FILENO;
-use program::arguments::{Arguments, CELLS, NOTHING};
+use input::system::{STDERR, fail};
+use program::arguments::{Arguments, CELLS, has_input};
 use wiring::parts::TEXT_MOST;
 
 // One byte more than the longest record has: an input that goes on is of no record's length.
 const ROOM: usize = 517;
 
 fn say(text: &[u8]) {
-    io::write_all(STDERR_FILENO, text);
+    io::write_all(STDERR, text);
 }
 
 // `:N-k` and the rule.
 fn refuse(k: u8, cells: u8) {
     say(b":N-");
-    io::print_decimal(STDERR_FILENO, k as u64);
+    io::print_decimal(STDERR, k as u64);
     if k != 14 {
         say(b": the record holds settings that no lines could set\n");
         return;
@@ -50,17 +50,19 @@ fn load(bytes: &[u8], cells: u8) {
 
 fn load_from(given: Arguments) {
     let mut bytes = [0u8; ROOM];
-    let got = input::read_all(given.input, &mut bytes);
+    let mut source = given.input;
+    let got = input::read_all(&mut source, &mut bytes);
     if got.failed {
-        os::fail(b"the input");
+        fail(b"the input");
         return;
     }
     let len = least(got.n, ROOM);
     load(&bytes[0..len], given.cells);
 }
 
-fn main() {
+fn main(rt: HostRuntime) {
     let given = program::arguments::read(
+        &rt,
         b"plload reads a record of a card, 276 or 308 bytes, and prints its wiring as lines, which set it again.
 
 usage: plload [--cells 32] [FILE]     with no FILE it reads standard input
@@ -72,7 +74,7 @@ Where a card would refuse the record, nothing is printed, and :N-14 or :N-15 on 
 ",
         CELLS,
     );
-    if given.input != NOTHING {
+    if has_input(&given) {
         load_from(given);
     }
 }

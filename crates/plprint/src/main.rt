@@ -2,7 +2,7 @@
 // of the card. It is the program of document 02, "Print the wiring as lines".
 #![tactic(auto)]
 
-use program::arguments::{ANYWAY, Arguments, CELLS, NOTHING};
+use program::arguments::{ANYWAY, Arguments, CELLS, has_input};
 use wiring::parts::TEXT_MOST;
 
 fn print_from(given: Arguments) {
@@ -17,8 +17,9 @@ fn print_from(given: Arguments) {
     program::writer::write(&text[0..len]);
 }
 
-fn main() {
+fn main(rt: HostRuntime) {
     let given = program::arguments::read(
+        &rt,
         b"plprint reads lines of a card and ticks, and prints the wiring that they leave, as lines that set it again.
 
 usage: plprint [--cells 32] [--anyway] [FILE]     with no FILE it reads standard input
@@ -33,7 +34,7 @@ To compare two wirings, compare what it prints of each by diff.
 ",
         CELLS | ANYWAY,
     );
-    if given.input != NOTHING {
+    if has_input(&given) {
         print_from(given);
     }
 }

@@ -24,21 +24,21 @@ const MOST: usize = 4;
 const NONE: u8 = 16;
 
 // A byte in two digits.
-#[derive(Drop)]
+#[derive(Clone, Copy)]
 struct Byte {
     ok: bool,
     value: u8,
 }
 
 // A sample and what is attached, of the backplane or of a front.
-#[derive(Drop)]
+#[derive(Clone, Copy)]
 pub struct Pair {
     pub ok: bool,
     pub front: Front,
 }
 
 // The fronts of a tick: how many the line has, and the first four.
-#[derive(Drop)]
+#[derive(Clone, Copy)]
 pub struct Fronts {
     pub ok: bool,
     pub count: u8,
@@ -46,7 +46,7 @@ pub struct Fronts {
 }
 
 // A number, and the place after the blank that ends it.
-#[derive(Drop)]
+#[derive(Clone, Copy)]
 pub struct Word {
     pub ok: bool,
     pub value: usize,
@@ -54,7 +54,7 @@ pub struct Word {
 }
 
 // The bytes of a record.
-#[derive(Drop)]
+#[derive(Clone, Copy)]
 pub struct Record {
     pub ok: bool,
     pub len: usize,

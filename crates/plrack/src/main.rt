@@ -23,8 +23,8 @@ ghost use Rattle.std.specs.Prelude.{◌≤◌, length};
 use card::card::Card;
 use card::limits::{LARGE, SMALL};
 use fields::{RECORD, REPLY, at, digit, fronts_in, number_at, pair_at, record_at, starts};
+use input::system::{STDERR, STDOUT, Source};
 use input::{BLOCK, Reader, least, next_line};
-use libc::{STDERR_FILENO, STDOUT_FILENO};
 use rack::held::{HELD, Held, on_row};
 use rack::job::{Taken, line_in, load_in, place_of, taken_by};
 use rack::pass::{Pass, RackInput, look_order, start_card, start_order, tick_order};
@@ -42,7 +42,7 @@ const LONGEST: usize = 640;
 const BUFFER: usize = KEPT + BLOCK;
 
 // The cards, how many of them are the row, and whether each answer could be written.
-#[derive(Drop)]
+#[derive(Clone, Copy)]
 struct Rig {
     cards: [Card; ROOM],
     n: usize,
@@ -50,11 +50,11 @@ struct Rig {
 }
 
 fn put(text: &[u8]) {
-    io::write_all(STDOUT_FILENO, text);
+    io::write_all(STDOUT, text);
 }
 
 fn put_number(v: u64) {
-    io::print_decimal(STDOUT_FILENO, v);
+    io::print_decimal(STDOUT, v);
 }
 
 // ---- the row
@@ -114,9 +114,9 @@ fn answered_by(cards: [Card; ROOM], n: usize, text: &[u8]) -> Rig {
 
 // A line of another form: what was expected is said on the error output.
 fn refused(rig: Rig, form: &[u8]) -> Rig {
-    io::write_all(STDERR_FILENO, b"plrack: a line is refused: ");
-    io::write_all(STDERR_FILENO, form);
-    io::write_all(STDERR_FILENO, b"\n");
+    io::write_all(STDERR, b"plrack: a line is refused: ");
+    io::write_all(STDERR, form);
+    io::write_all(STDERR, b"\n");
     let cards = rig.cards;
     answered_by(cards, rig.n, b"?\n")
 }
@@ -153,7 +153,7 @@ fn start(rig: Rig, line: &[u8]) -> Rig {
 
 fn put_word(v: u32) {
     put(b" ");
-    io::print_hex(STDOUT_FILENO, v as u64, 4);
+    io::print_hex(STDOUT, v as u64, 4);
 }
 
 fn put_answer(a: Answer) {
@@ -314,7 +314,7 @@ fn taken(rig: Rig, r: Reader, block: &[u8]) -> Rig
     if !r.going {
         if r.start < r.end {
             io::write_all(
-                STDERR_FILENO,
+                STDERR,
                 b"plrack: the last line has no LF, and is not taken\n",
             );
         }
@@ -326,7 +326,7 @@ fn taken(rig: Rig, r: Reader, block: &[u8]) -> Rig
 }
 
 // The calls of an input. A write that fails ends them.
-fn run(input: i32) {
+fn run(input: &mut Source) {
     let mut block = [0u8; BUFFER];
     let mut line = [0u8; KEPT];
     let fresh = start_card();
@@ -343,8 +343,9 @@ fn run(input: i32) {
     }
 }
 
-fn main() {
+fn main(rt: HostRuntime) {
     let given = program::arguments::read(
+        &rt,
         b"plrack reads calls on up to four cards that share a backplane, and prints an answer for each.
 
 usage: plrack [FILE]     with no FILE it reads standard input
@@ -361,7 +362,8 @@ A call prints its number, 0 where it is accepted, and what it answers; a line of
 ",
         0,
     );
-    if given.input != program::arguments::NOTHING {
-        run(given.input);
+    if program::arguments::has_input(&given) {
+        let mut source = given.input;
+        run(&mut source);
     }
 }

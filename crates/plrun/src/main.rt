@@ -1,8 +1,11 @@
 // Runs the lines of an input through one card, and prints the answers: document 01, "One run".
 #![tactic(auto)]
 
-fn main() {
+use input::system::STDOUT;
+
+fn main(rt: HostRuntime) {
     let given = program::arguments::read(
+        &rt,
         b"plrun reads lines of a card and ticks, and prints an answer for each.
 
 usage: plrun [FILE]     with no FILE it reads standard input
@@ -17,7 +20,8 @@ docs/MANUAL.md says what each line, word and number means; plexplain says why ea
 ",
         0,
     );
-    if given.input != program::arguments::NOTHING {
-        session::run::run_from(given.input, libc::STDOUT_FILENO);
+    if program::arguments::has_input(&given) {
+        let mut source = given.input;
+        session::run::run_from(&mut source, STDOUT);
     }
 }

@@ -5,7 +5,7 @@
 ghost use Rattle.std.specs.Prelude.{◌≤◌};
 
 use card::limits::LARGE;
-use program::arguments::{ANYWAY, Arguments, CELLS, NOTHING};
+use program::arguments::{ANYWAY, Arguments, CELLS, has_input};
 use saved::record::RECORD_LENGTH;
 use session::feed::STORE;
 
@@ -28,8 +28,9 @@ fn save_from(given: Arguments) {
     program::writer::write(&store[0..len]);
 }
 
-fn main() {
+fn main(rt: HostRuntime) {
     let given = program::arguments::read(
+        &rt,
         b"plsave reads lines of a card and ticks, and writes the record of the card that they leave: 308 bytes.
 
 usage: plsave [--cells 32] [--anyway] [FILE] > RECORD     with no FILE it reads standard input
@@ -42,7 +43,7 @@ record is written; --anyway writes it all the same. With --cells 32 the record h
 ",
         CELLS | ANYWAY,
     );
-    if given.input != NOTHING {
+    if has_input(&given) {
         save_from(given);
     }
 }

@@ -9,6 +9,7 @@ ghost use Rattle.std.specs.Prelude.{◌<◌};
 ghost use Rattle.session.specs.Feed.{Ready};
 
 use card::card::Card;
+use input::system::Source;
 use input::{BUFFER, LINE};
 use program::arguments;
 use program::writer::{ROOM, Room, Writer, empty, flush, put_with};
@@ -21,7 +22,7 @@ use ticks::view::Input;
 
 // Between two lines: the input of the last tick that ran, and for how many ticks more with it the
 // card is steady, unless a line has come since.
-#[derive(Drop)]
+#[derive(Clone, Copy)]
 struct Run {
     input: Input,
     known: bool,
@@ -31,7 +32,7 @@ struct Run {
 
 // Ticks that ran, those of them that were slept through, those with another input than the tick
 // before, and lines of the card and loads.
-#[derive(Drop)]
+#[derive(Clone, Copy)]
 struct Counts {
     ticks: u64,
     slept: u64,
@@ -128,7 +129,7 @@ fn fresh_run() -> Run {
 }
 
 // The run of an input. What was refused is reported, and where a read fails nothing is printed.
-fn run_from(file: i32, cells: u8) {
+fn run_from(file: &mut Source, cells: u8) {
     let mut block = [0u8; BUFFER];
     let mut line = [0u8; LINE];
     let mut store = [0u8; STORE];
@@ -178,8 +179,9 @@ fn print(c: Counts) {
     put_counts(&mut out, c);
 }
 
-fn main() {
+fn main(rt: HostRuntime) {
     let o = arguments::read(
+        &rt,
         b"plskip reads lines of a card and ticks, and prints how many of the ticks a processor may sleep through.
 
 usage: plskip [--cells 32] [FILE]     with no FILE it reads standard input
@@ -193,7 +195,8 @@ error output. --cells 32 is for a card of thirty-two cells.
 ",
         arguments::CELLS,
     );
-    if o.input != arguments::NOTHING {
-        run_from(o.input, o.cells);
+    if arguments::has_input(&o) {
+        let mut source = o.input;
+        run_from(&mut source, o.cells);
     }
 }

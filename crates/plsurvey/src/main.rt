@@ -8,8 +8,8 @@ ghost use Rattle.std.specs.Prelude.{◌≤◌, ◌<◌};
 
 use card::card::Card;
 use card::limits::Number;
-use libc::STDOUT_FILENO;
-use program::arguments::{ANYWAY, CELLS, NOTHING};
+use input::system::STDOUT;
+use program::arguments::{ANYWAY, CELLS, has_input};
 use ticks::view::sees;
 
 // Cells and connectors are known by their bases: the first of the cells, that of the connectors,
@@ -26,11 +26,11 @@ const CELL_BASES: u64 = 0x1_ffff_fffe;
 const LINE_BASES: u64 = 0x1_fffe_0000_0000;
 
 fn put(text: &[u8]) {
-    io::write_all(STDOUT_FILENO, text);
+    io::write_all(STDOUT, text);
 }
 
 fn put_number(n: u32) {
-    io::print_decimal(STDOUT_FILENO, n as u64);
+    io::print_decimal(STDOUT, n as u64);
 }
 
 // A cell by its number, a connector by its name.
@@ -155,8 +155,9 @@ fn survey_of(card: Card) {
     program::writer::write(b"\n");
 }
 
-fn main() {
+fn main(rt: HostRuntime) {
     let given = program::arguments::read(
+        &rt,
         b"plsurvey reads lines of a card and ticks, and prints what depends on each line of the rig.
 
 usage: plsurvey [--cells 32] [--anyway] [FILE]     with no FILE it reads standard input
@@ -170,7 +171,7 @@ thirty-two cells.
 ",
         CELLS | ANYWAY,
     );
-    if given.input == NOTHING {
+    if !has_input(&given) {
         return;
     }
     let wiring = wiring_input::wiring_from(given);

@@ -17,6 +17,7 @@ ghost use Rattle.session.specs.Feed.{Ready};
 ghost use Rattle.plwave.specs.Dump.{code_of, digit_of, change_of, changes, most_wires};
 
 use card::place::cells_for;
+use input::system::Source;
 use input::{BUFFER, LINE};
 use phrases::names::CONNECTOR_NAME;
 use program::arguments;
@@ -204,7 +205,7 @@ fn put_time(out: &mut Room, s: Writer, t: u64) -> Writer {
 }
 
 // The wires of a tick: those but the last n, and the last n, those of the cells that woke.
-#[derive(Drop)]
+#[derive(Clone, Copy)]
 struct Values {
     waves: u64,
     woken: u64,
@@ -284,7 +285,7 @@ fn finish(out: &mut Room, s: Writer, report: Report, t: u64) -> Writer {
 
 // The wave file of an input, of a card of 16 or 32 cells. Time has 64 bits, and the ticks after so
 // many are left out. A write that fails ends the program.
-fn write_wave(input: i32, cells: u8) {
+fn write_wave(input: &mut Source, cells: u8) {
     let mut block = [0u8; BUFFER];
     let mut line = [0u8; LINE];
     let mut store = [0u8; STORE];
@@ -313,8 +314,9 @@ fn write_wave(input: i32, cells: u8) {
     program::report::say(report);
 }
 
-fn main() {
+fn main(rt: HostRuntime) {
     let o = arguments::read(
+        &rt,
         b"plwave reads lines of a card and ticks, and writes a wave file (Value Change Dump) of the ticks that ran.
 
 usage: plwave [--cells 32] [FILE]     with no FILE it reads standard input
@@ -327,7 +329,8 @@ Each tick that ran is one unit of time; tick 1 is at time 0. Lines that were ref
 ",
         arguments::CELLS,
     );
-    if o.input != arguments::NOTHING {
-        write_wave(o.input, o.cells);
+    if arguments::has_input(&o) {
+        let mut source = o.input;
+        write_wave(&mut source, o.cells);
     }
 }

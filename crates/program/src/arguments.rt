@@ -2,17 +2,17 @@
 // `-`, it reads standard input. A word that is not understood is reported, never passed over.
 //
 // A page that runs a program (clients/web) has no words, no terminal and no files. So with no word
-// at most isatty is asked before standard input is read.
+// at most whether there is a terminal is asked before standard input is read. Nothing is allocated:
+// a word is copied to a buffer of its own.
 ghost use Rattle.std.specs.Prelude.{◌≡◌, ◌<◌, ◌≤◌};
 ghost use Rattle.program.specs.Words.{whole_number, most_from};
 
 use check::same;
 use input::line_end;
-use libc::{STDERR_FILENO, STDIN_FILENO};
+use input::system::{STDERR, Source, fail, open_read};
+use std::env::{Env, FillError};
+use std::io::{IsTerminal, Read};
 use text::Number;
-
-// There is nothing to read: the help was written, or why nothing can be read.
-pub const NOTHING: i32 = -1;
 
 // The options, as bits of a set. A program says which it takes.
 pub const CELLS: u8 = 1;
@@ -28,11 +28,12 @@ pub const ASLEEP: u8 = 16;
 // Not an option: the program reads nothing, and takes no file's name.
 pub const NO_INPUT: u8 = 32;
 
-// What is read, or NOTHING; the number of cells, 16 or 32; the number of `--from`, 0 where it was
-// not given; and whether each of the other options was given.
+// What is read, `Nothing` where the help was written, or why nothing can be read; the number of
+// cells, 16 or 32; the number of `--from`, 0 where it was not given; and whether each of the other
+// options was given.
 #[derive(Drop)]
 pub struct Arguments {
-    pub input: i32,
+    pub input: Source,
     pub cells: u8,
     pub from: u64,
     pub anyway: bool,
@@ -41,7 +42,7 @@ pub struct Arguments {
 }
 
 // The words so far.
-#[derive(Drop)]
+#[derive(Clone, Copy)]
 struct Words {
     // the options that were given
     given: u8,
@@ -56,7 +57,7 @@ struct Words {
 }
 
 fn say(text: &[u8]) {
-    io::write_all(STDERR_FILENO, text);
+    io::write_all(STDERR, text);
 }
 
 // A word that cannot be taken, why, and where to look.
@@ -74,29 +75,33 @@ fn refuse(w: Words, word: &[u8], why: &[u8]) -> Words
 
 // Standard input. A person at a terminal reads what is expected, which is the first line of the
 // help, and how to end it.
-fn standard(help: &[u8]) -> i32 {
-    if libc::isatty(STDIN_FILENO) == 1 {
+fn standard(rt: &HostRuntime, help: &[u8]) -> Source {
+    let input = rt.stdin();
+    if input.is_terminal() {
         let end = line_end(help, 0, help.len());
         say(&help[0..end]);
         say(b"\nType its input here; Ctrl-D at the start of a line ends it. --help tells more.\n");
     }
-    STDIN_FILENO
+    Source::Standard(input)
 }
 
 // A file. A folder opens as one and cannot be read, so a read of no bytes is tried.
-fn named(name: &[u8]) -> i32 {
-    let file = os::open_read(name);
-    if file < 0 {
-        os::fail(name);
-        return NOTHING;
+fn named(rt: &HostRuntime, name: &[u8]) -> Source {
+    if std::str::from_utf8(name).is_err() {
+        say(name);
+        say(b": the name of a file is UTF-8\n");
+        return Source::Nothing;
     }
+    let Some(mut file) = open_read(rt, name) else {
+        fail(name);
+        return Source::Nothing;
+    };
     let mut none = [0u8; 1];
-    if libc::read(file, &mut none[0..0]) < 0 {
-        os::fail(name);
-        libc::close(file);
-        return NOTHING;
+    if file.read(&mut none[0..0]).is_err() {
+        fail(name);
+        return Source::Nothing;
     }
-    file
+    Source::Named(file)
 }
 
 // ---- a word
@@ -252,7 +257,7 @@ fn with_word(w: Words, help: &[u8], word: &[u8], takes: u8, place: usize) -> Wor
 }
 
 // The same, of the word at a place. After a word that was refused no other is looked at.
-fn word_at(w: Words, help: &[u8], takes: u8, place: usize) -> Words
+fn word_at(rt: &HostRuntime, w: Words, help: &[u8], takes: u8, place: usize) -> Words
     requires { w.from < most_from }
     ensures { result.from < most_from }
 {
@@ -260,20 +265,32 @@ fn word_at(w: Words, help: &[u8], takes: u8, place: usize) -> Words
         return w;
     }
     let mut word = io::buffer();
-    let len = os::arg(place, &mut word);
-    if os::errno() != 0 {
-        os::fail(b"a word");
-        let mut next = w;
-        next.over = true;
-        return next;
+    match rt.arg(place, &mut word) {
+        Ok(len) => with_word(w, help, &word[0..len], takes, place),
+        Err(_) => {
+            fail(b"a word");
+            let mut next = w;
+            next.over = true;
+            next
+        }
     }
-    with_word(w, help, &word[0..len], takes, place)
 }
 
 // ---- all words
 
+// How many words there are, with the program's own name.
+fn count_words(rt: &HostRuntime) -> usize {
+    let mut none = [0u8; 1];
+    for place in 0..usize::MAX {
+        if let Err(FillError::NotPresent) = rt.arg(place, &mut none[0..0]) {
+            return place;
+        }
+    }
+    usize::MAX
+}
+
 // The program's own name is at place 0.
-fn all_words(help: &[u8], takes: u8) -> Words
+fn all_words(rt: &HostRuntime, help: &[u8], takes: u8) -> Words
     ensures { result.from < most_from }
 {
     let mut w = Words {
@@ -284,8 +301,8 @@ fn all_words(help: &[u8], takes: u8) -> Words
         from: 0,
         over: false,
     };
-    for place in 1..os::arg_count() {
-        w = word_at(w, help, takes, place);
+    for place in 1..count_words(rt) {
+        w = word_at(rt, w, help, takes, place);
     }
     if w.due != 0 {
         return refuse(w, b"the last option", b" wants a number after it");
@@ -294,36 +311,52 @@ fn all_words(help: &[u8], takes: u8) -> Words
 }
 
 // The file at a place of the words, or standard input.
-fn open_at(help: &[u8], place: usize) -> i32 {
+fn open_at(rt: &HostRuntime, help: &[u8], place: usize) -> Source {
     if place == 0 {
-        return standard(help);
+        return standard(rt, help);
     }
     let mut name = io::buffer();
-    let len = os::arg(place, &mut name);
-    let word = &name[0..len];
-    if same(word, b"-") {
-        return standard(help);
+    match rt.arg(place, &mut name) {
+        Ok(len) => open_word(rt, help, &name[0..len]),
+        Err(_) => {
+            fail(b"a word");
+            Source::Nothing
+        }
     }
-    named(word)
+}
+
+fn open_word(rt: &HostRuntime, help: &[u8], word: &[u8]) -> Source {
+    if same(word, b"-") {
+        return standard(rt, help);
+    }
+    named(rt, word)
 }
 
 // What a program reads, by the words that it was started with.
-fn opened(w: Words, help: &[u8], takes: u8) -> i32 {
+fn opened(rt: &HostRuntime, w: Words, help: &[u8], takes: u8) -> Source {
     if w.over {
-        return NOTHING;
+        return Source::Nothing;
     }
     if (takes & NO_INPUT) != 0 {
-        return STDIN_FILENO;
+        return Source::Standard(rt.stdin());
     }
-    open_at(help, w.file)
+    open_at(rt, help, w.file)
+}
+
+// Whether there is something to read.
+pub fn has_input(given: &Arguments) -> bool {
+    if let Source::Nothing = given.input {
+        return false;
+    }
+    true
 }
 
 // The words of a program that takes these options.
-pub fn read(help: &[u8], takes: u8) -> Arguments
+pub fn read(rt: &HostRuntime, help: &[u8], takes: u8) -> Arguments
     ensures { result.from < most_from }
 {
-    let w = all_words(help, takes);
-    let input = opened(w, help, takes);
+    let w = all_words(rt, help, takes);
+    let input = opened(rt, w, help, takes);
     Arguments {
         input: input,
         cells: w.cells,

@@ -1,9 +1,9 @@
 // Inputs of a form that no program but plrun takes: text with another line end than LF, with a byte
 // order mark, of two bytes a character, or with blanks at the end of a line. Its lines would all be
 // refused, so a program says what the file is and what to do, and stops.
-use libc::STDERR_FILENO;
+use input::system::STDERR;
 
-#[derive(Drop)]
+#[derive(Clone, Copy)]
 pub enum Form {
     // lines as the card takes them, as far as this shows
     Plain,
@@ -63,12 +63,12 @@ pub fn form_of(line: &[u8], number: u64) -> Form {
 }
 
 fn say(text: &[u8]) {
-    io::write_all(STDERR_FILENO, text);
+    io::write_all(STDERR, text);
 }
 
 fn say_line(number: u64, text: &[u8]) {
     say(b"line ");
-    io::print_decimal(STDERR_FILENO, number);
+    io::print_decimal(STDERR, number);
     say(text);
 }
 

@@ -5,18 +5,18 @@
 ghost use Rattle.std.specs.Prelude.{◌≡◌, length};
 ghost use Rattle.program.specs.Report.{text_of, one_more, after_line, after_first, at_end};
 
+use input::system::STDERR;
 use input::{LINE, least};
-use libc::STDERR_FILENO;
 
 // The first bytes of a line, all of one that a card takes.
-#[derive(Drop)]
+#[derive(Clone, Copy)]
 pub struct Text {
     pub bytes: [u8; LINE],
     pub len: usize,
 }
 
 // What is reported of the lines so far. Lines are counted from 1.
-#[derive(Drop)]
+#[derive(Clone, Copy)]
 pub struct Report {
     pub lines: u64,
     pub refused: u64,
@@ -143,7 +143,7 @@ fn show(bytes: &mut [u8])
 }
 
 fn say_bytes(bytes: &[u8]) {
-    io::write_all(STDERR_FILENO, bytes);
+    io::write_all(STDERR, bytes);
 }
 
 fn say_front(bytes: &[u8], len: usize) {
@@ -163,14 +163,14 @@ fn say_refused(report: Report) {
     if report.refused == 1 {
         say_bytes(b"1 line was refused; it is line ");
     } else {
-        io::print_decimal(STDERR_FILENO, report.refused);
+        io::print_decimal(STDERR, report.refused);
         say_bytes(b" lines were refused; the first is line ");
     }
-    io::print_decimal(STDERR_FILENO, report.number);
+    io::print_decimal(STDERR, report.number);
     say_bytes(b": ");
     say_text(line);
     say_bytes(b" (:N-");
-    io::print_decimal(STDERR_FILENO, report.k as u64);
+    io::print_decimal(STDERR, report.k as u64);
     say_bytes(b")\n");
 }
 

@@ -6,7 +6,7 @@
 ghost use Rattle.std.specs.Prelude.{true, false, ◌≡◌, ◌≤◌};
 ghost use Rattle.program.specs.Writer.{room_length};
 
-use libc::STDOUT_FILENO;
+use input::system::{STDOUT, fail};
 
 // `room_length`: the length of the buffer.
 pub const ROOM: usize = 65536;
@@ -15,15 +15,15 @@ pub type Room = [u8; ROOM];
 
 // Whether a whole text went to standard output, in one write. Where it did not, that is reported.
 pub fn write(text: &[u8]) -> bool {
-    if io::write_all(STDOUT_FILENO, text) {
+    if io::write_all(STDOUT, text) {
         return true;
     }
-    os::fail(b"standard output");
+    fail(b"standard output");
     false
 }
 
 // How many bytes wait at the front of the buffer, and whether all that was given to write went.
-#[derive(Drop)]
+#[derive(Clone, Copy)]
 pub struct Writer {
     pub used: usize,
     pub ok: bool,

@@ -11,6 +11,7 @@ ghost use Rattle.session.specs.Feed.{Ready, Given, Fed, FedFrom, buffer_length, 
 use crate::{Entered, Event, LONGEST_PRINT, refusal_of};
 use card::card::Card;
 use card::limits::LARGE;
+use input::system::{Source, fail};
 use input::{BUFFER, LINE, Reader, next_line};
 use program::report::Report;
 use saved::record::RECORD_LENGTH;
@@ -20,7 +21,7 @@ use saved::record::RECORD_LENGTH;
 pub const STORE: usize = 516;
 
 // Between two lines.
-#[derive(Drop)]
+#[derive(Clone, Copy)]
 pub struct Feed {
     // the card that the last line met, and the one that it left
     pub before: Card,
@@ -115,7 +116,7 @@ fn given(feed: Feed, r: Reader, block: &[u8], store: &mut [u8; STORE]) -> Feed
         return taken(feed, r, text, store);
     }
     if r.failed {
-        os::fail(b"the input");
+        fail(b"the input");
     }
     past(feed, r, text)
 }
@@ -125,7 +126,7 @@ fn given(feed: Feed, r: Reader, block: &[u8], store: &mut [u8; STORE]) -> Feed
 // buffers.
 pub fn next(
     feed: Feed,
-    input: i32,
+    input: &mut Source,
     block: &mut [u8; BUFFER],
     line: &mut [u8; LINE],
     store: &mut [u8; STORE],

@@ -23,7 +23,7 @@ use ticks::view::Input;
 pub const LONGEST_PRINT: usize = 36;
 
 // A line that asks for a tick: its kind, and what comes in with it.
-#[derive(Drop)]
+#[derive(Clone, Copy)]
 pub struct TickLine {
     pub ok: bool,
     pub full: bool,
@@ -31,7 +31,7 @@ pub struct TickLine {
 }
 
 // A tick that a line asked for: its kind, what came in with it, and the card's answer.
-#[derive(Drop)]
+#[derive(Clone, Copy)]
 pub struct TickDone {
     pub full: bool,
     pub input: Input,
@@ -39,7 +39,7 @@ pub struct TickDone {
 }
 
 // What a line of input did: a tick; a load or a card line with 0 or the number of its refusal.
-#[derive(Drop)]
+#[derive(Clone, Copy)]
 pub enum Event {
     Tick(TickDone),
     Load(u8),
@@ -47,7 +47,7 @@ pub enum Event {
 }
 
 // The card after a line of input, what the line did, and how many bytes it prints.
-#[derive(Drop)]
+#[derive(Clone, Copy)]
 pub struct Entered {
     pub card: Card,
     pub event: Event,

@@ -21,6 +21,7 @@ ghost use Rattle.session.specs.Run.{Stopped, RanOver, Counted, Ran, Turned, Ende
 
 use crate::LONGEST_PRINT;
 use card::card::Card;
+use input::system::{Source, fail};
 use input::{BLOCK, BUFFER, LINE, READS, keep, line_end, read_behind};
 use program::report::{say_rest, text_of};
 use saved::record::RECORD_LENGTH;
@@ -33,7 +34,7 @@ const OUTPUT: usize = LONGEST_PRINT * BLOCK;
 
 // Between two bytes of the input: the card, the bytes of the line that has not ended yet, and the
 // bytes of the output that are printed.
-#[derive(Drop)]
+#[derive(Clone, Copy)]
 pub struct State {
     pub card: Card,
     pub len: usize,
@@ -41,7 +42,7 @@ pub struct State {
 }
 
 // Between two reads.
-#[derive(Drop)]
+#[derive(Clone, Copy)]
 pub struct Run {
     pub card: Card,
     // bytes of the line that has not ended yet
@@ -65,7 +66,7 @@ pub struct Run {
 
 // Where the lines of a block stop: the line from `start` to `end` has not ended, or there is no
 // room for what it prints.
-#[derive(Drop)]
+#[derive(Clone, Copy)]
 pub struct Lines {
     pub card: Card,
     pub start: usize,
@@ -75,7 +76,7 @@ pub struct Lines {
 
 // A run over the bytes of a buffer: the card that it leaves, the bytes that it took, and those that
 // it printed.
-#[derive(Drop)]
+#[derive(Clone, Copy)]
 pub struct Over {
     pub card: Card,
     pub taken: usize,
@@ -83,7 +84,7 @@ pub struct Over {
 }
 
 // How many bytes were printed, and what write answered.
-#[derive(Drop)]
+#[derive(Clone, Copy)]
 pub struct Written {
     pub used: usize,
     pub wrote: bool,
@@ -210,7 +211,7 @@ fn write_front(output: i32, out: &[u8], used: usize) -> Written
 // what came out is never without its middle.
 fn turn(
     run: Run,
-    input: i32,
+    input: &mut Source,
     output: i32,
     block: &mut [u8; BUFFER],
     line: &mut [u8; LINE],
@@ -273,7 +274,7 @@ fn start() -> Run
 
 // A fresh card and a store of zeros, fed with the lines of an input to its end; what they print is
 // written. The line that has not ended is left at the front of `line`.
-fn run_with(input: i32, output: i32, line: &mut [u8; LINE]) -> Run
+fn run_with(input: &mut Source, output: i32, line: &mut [u8; LINE]) -> Run
     requires { length line.old ≡ kept }
     ensures by_index { (bytes : List ℕ) × Ran cell_count result bytes }
     ensures ended { Ended result }
@@ -297,16 +298,16 @@ fn say_front(line: &[u8], len: usize) {
 // What a run has to report, on the error output: a call that failed, and a line that has not ended.
 fn say(run: Run, line: &[u8; LINE]) {
     if !run.wrote {
-        os::fail(b"the output");
+        fail(b"the output");
     }
     if run.failed {
-        os::fail(b"the input");
+        fail(b"the input");
     }
     say_front(line, run.len);
 }
 
 // The run of plrun: what the lines of an input print goes to an output.
-pub fn run_from(input: i32, output: i32) -> Run
+pub fn run_from(input: &mut Source, output: i32) -> Run
     ensures by_index { (bytes : List ℕ) × Ran cell_count result bytes }
     ensures ended { Ended result }
 {

@@ -12,6 +12,7 @@ ghost use Rattle.trace.specs.Shows;
 ghost use Rattle.trace.specs.Shows.{shown_in};
 
 use card::card::Card;
+use input::system::Source;
 use input::{BUFFER, LINE};
 use session::feed::{Feed, STORE};
 use session::{Event, TickDone};
@@ -20,7 +21,7 @@ use ticks::view::Input;
 
 // What a line showed: the tick that it was, with the levels that the card read in it, BNC1 first. A
 // line that is no tick shows one that did not run.
-#[derive(Drop)]
+#[derive(Clone, Copy)]
 pub struct Shown {
     pub tick: TickDone,
     pub levels: u16,
@@ -83,7 +84,7 @@ pub fn packed(s: Shown) -> u64
 }
 
 // The lines so far, and what the last of them showed.
-#[derive(Drop)]
+#[derive(Clone, Copy)]
 pub struct Trace {
     pub feed: Feed,
     pub shown: Shown,
@@ -93,7 +94,7 @@ pub struct Trace {
 // `session::feed::start` or this function gave, with the same input and buffers.
 pub fn next(
     feed: Feed,
-    input: i32,
+    input: &mut Source,
     block: &mut [u8; BUFFER],
     line: &mut [u8; LINE],
     store: &mut [u8; STORE],

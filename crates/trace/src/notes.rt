@@ -8,7 +8,7 @@ use program::report::{Report, Text, shown};
 use program::writer::{Room, Writer, put, put_byte, put_with};
 
 // Where a line is shown: in XML, or in a comment of a wave file.
-#[derive(Drop)]
+#[derive(Clone, Copy)]
 pub enum Form {
     Picture,
     Wave,

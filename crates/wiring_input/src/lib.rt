@@ -11,8 +11,8 @@ ghost use Rattle.std.specs.Prelude.{◌<◌};
 ghost use Rattle.session.specs.Feed.{Ready};
 
 use card::card::Card;
+use input::system::{STDERR, Source};
 use input::{BUFFER, LINE, least};
-use libc::STDERR_FILENO;
 use program::arguments::Arguments;
 use program::form::{form_of, say_form};
 use session::feed::{Feed, STORE, next, start};
@@ -20,14 +20,14 @@ use session::refusal_of;
 
 // The card that the lines leave, and whether it is the one that was written, or is taken all the
 // same.
-#[derive(Drop)]
+#[derive(Clone, Copy)]
 pub struct Wiring {
     pub card: Card,
     pub ok: bool,
 }
 
 // Between two lines: whether the input is of a form that no card takes.
-#[derive(Drop)]
+#[derive(Clone, Copy)]
 struct Reading {
     feed: Feed,
     wrong: bool,
@@ -57,7 +57,7 @@ fn looked_at(f: Feed, block: &[u8]) -> bool {
 
 fn turn(
     s: Reading,
-    input: i32,
+    input: &mut Source,
     block: &mut [u8; BUFFER],
     line: &mut [u8; LINE],
     store: &mut [u8; STORE],
@@ -76,7 +76,7 @@ fn turn(
 }
 
 // The lines of an input to a fresh card of so many cells.
-fn read_from(input: i32, cells: u8) -> Reading {
+fn read_from(input: &mut Source, cells: u8) -> Reading {
     let mut block = [0u8; BUFFER];
     let mut line = [0u8; LINE];
     let mut store = [0u8; STORE];
@@ -95,7 +95,8 @@ fn read_from(input: i32, cells: u8) -> Reading {
 
 // The wiring in the input of a program, reported where it is none.
 pub fn wiring_from(given: Arguments) -> Wiring {
-    let s = read_from(given.input, given.cells);
+    let mut source = given.input;
+    let s = read_from(&mut source, given.cells);
     let feed = s.feed;
     let card = feed.card;
     let report = feed.report;
@@ -109,7 +110,7 @@ pub fn wiring_from(given: Arguments) -> Wiring {
     }
     if (report.refused != 0) & !given.anyway {
         io::write_all(
-            STDERR_FILENO,
+            STDERR,
             b"A wiring with a refused line is not the one that was written, so nothing is answered. --anyway takes it all the same.\n",
         );
         return Wiring {

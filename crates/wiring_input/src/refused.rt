@@ -2,7 +2,7 @@
 use card::card::Card;
 use card::context::context_of;
 use grammar::grammar::parse_line;
-use libc::STDERR_FILENO;
+use input::system::STDERR;
 use phrases::out::{Page, put, put_text};
 use phrases::refused::{put_refused, put_unloaded};
 use session::Event;
@@ -21,7 +21,7 @@ fn put_rule(out: &mut Page, at: usize, text: &[u8], event: Event, card: Card) ->
 
 fn say_front(out: &[u8], n: usize) {
     let end = input::least(n, out.len());
-    io::write_all(STDERR_FILENO, &out[0..end]);
+    io::write_all(STDERR, &out[0..end]);
 }
 
 // The line itself, and the rule.
@@ -35,8 +35,8 @@ fn say_rule(out: &mut Page, text: &[u8], event: Event, card: Card) {
 
 // A refused line: its number, itself, and the rule. The card is as it was before the line.
 pub fn say_refused(number: u64, text: &[u8], event: Event, card: Card) {
-    io::write_all(STDERR_FILENO, b"line ");
-    io::print_decimal(STDERR_FILENO, number);
+    io::write_all(STDERR, b"line ");
+    io::print_decimal(STDERR, number);
     let mut out = io::large_buffer();
     say_rule(&mut out, text, event, card);
 }
