@@ -1,5 +1,5 @@
 -- What the words say that a program is started with.
-use Rattle.std.specs.Prelude.{ℕ, ◌^◌, Bool, ◌&&◌, List, eqb, length}
+use Rattle.std.specs.Prelude.{ℕ, ◌^◌, ◌&&◌, List, eqb, length}
 use Rattle.text.specs.Decimal.{max_digits, number_at}
 use Rattle.text.specs.declared.Number.{Number}
 
