@@ -89,7 +89,7 @@ fn standard(rt: &HostRuntime, help: &[u8]) -> Source {
 fn named(rt: &HostRuntime, name: &[u8]) -> Source {
     if std::str::from_utf8(name).is_err() {
         say(name);
-        say(b": the name of a file is UTF-8\n");
+        say(b": this name is no UTF-8, and no file is opened by such a name\n");
         return Source::Nothing;
     }
     let Some(mut file) = open_read(rt, name) else {
@@ -278,10 +278,10 @@ fn word_at(rt: &HostRuntime, w: Words, help: &[u8], takes: u8, place: usize) -> 
 
 // ---- all words
 
-// How many words there are, with the program's own name.
+// How many words there are, with the program's own name at place 0, which a page does not have.
 fn count_words(rt: &HostRuntime) -> usize {
     let mut none = [0u8; 1];
-    for place in 0..usize::MAX {
+    for place in 1..usize::MAX {
         if let Err(FillError::NotPresent) = rt.arg(place, &mut none[0..0]) {
             return place;
         }
@@ -289,7 +289,6 @@ fn count_words(rt: &HostRuntime) -> usize {
     usize::MAX
 }
 
-// The program's own name is at place 0.
 fn all_words(rt: &HostRuntime, help: &[u8], takes: u8) -> Words
     ensures { result.from < most_from }
 {
