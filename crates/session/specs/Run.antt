@@ -1,7 +1,6 @@
 -- Document 01, "One run": the lines of an input (`takes_all` says which they are) are entered to one
 -- card, one after the other.
 use Rattle.std.specs.Prelude.{ℕ, ◌+◌, ◌-◌, ◌*◌, ◌≤◌, ◌<◌, ◌≡◌, true, ◌&&◌, List, [], ◌++◌, ltb, length, get_or, take, drop, replicate}
-use Rattle.card.specs.declared.card.Card.{Card}
 use Rattle.card.specs.Address.{cells_for}
 use Rattle.card.specs.Fresh.{fresh_of}
 use Rattle.saved.specs.Record.{config_width, record_length}

@@ -10,42 +10,25 @@ use Rattle.card.specs.Address.{cells_for}
 use Rattle.lines.specs.Line.{LineResult, shortest_reply, line_reply, store_after}
 use Rattle.session.specs.Session.{plain_reply}
 use Rattle.session.specs.declared.Event.TheVariants.{Line}
-use borrow.Author.Rules.{rules}
-use Rattle.session.proofs.enter_line.Statement.{statement}
-use Rattle.session.proofs.enter_line.Tie as tie
+use Rattle.session.proofs.enter_line.Goals as goal
 
-returns : tie.Need-returns
+pub returns : goal.returns
 unfolding line_reply store_after
 returns c =
-    let l = c.before.before.before.before.before.before.before.before.before.before in
-    let a = l.before.before.before.before.before.before.args in
-    let d = l.line.ensures.0 in
+    let a = c.args in
+    let d = c.line-a.ensures.store_after in
     let reply = line_reply (cells_for a.card.size) a.card a.text.now shortest_reply (length a.store.now) in
     let len = ap (λ (r : LineResult). r.len) d in
-    let short = l.line.ensures.1 in
+    let short = c.line-a.ensures.len_le_shortest_reply in
     let buffer = ap (λ (r : LineResult). r.reply) d in
-    let part : ℕ = l.line.result.len - 0 in
+    let part : ℕ = c.line-a.result.len - 0 in
     let slice = ap (take part) buffer ∙ front (replicate shortest_reply 0) reply part (omega (arith, len)) (omega (arith, len, short)) in
-    let put = c.before.before.put-plain.ensures in
+    let put = c.put_plain-len.ensures in
     record {
       card = ap (λ (r : LineResult). r.card) d;
       event = ap (λ (r : LineResult). Line r.k) d;
       store = ap (λ (r : LineResult). r.store) d;
-      output = put.0 ∙ ap (λ (r : List ℕ). sets a.out.now 0 (plain_reply r)) slice;
-      len = put.1.0 ∙ ap (λ (r : List ℕ). length (plain_reply r)) slice;
-      fits = put.1.1;
+      output = put.out_after ∙ ap (λ (r : List ℕ). sets a.out.now 0 (plain_reply r)) slice;
+      len = put.value ∙ ap (λ (r : List ℕ). length (plain_reply r)) slice;
+      fits = put.upper_bound;
     }
-
-pub enter_line_spec : {M : Type 1} → statement M
-enter_line_spec =
-    tie.close
-    (tie.spec
-    (λ c. search rules)
-    (λ c κs. search rules)
-    (λ c. search rules)
-    (λ c. search rules)
-    (λ c. search rules)
-    (λ c κs. search rules)
-    (λ c. search rules)
-    (λ c. search rules)
-    returns)

@@ -12,9 +12,7 @@ use Rattle.text.proofs.Stores.{sets-append}
 use Rattle.card.specs.Address.{cell_room, cells_for}
 use Rattle.session.specs.Session.{cell_digits}
 use Rattle.session.proofs.Chains.{four_low, eight}
-use borrow.Author.Rules.{rules}
-use Rattle.session.proofs.put_cells.Statement.{statement}
-use Rattle.session.proofs.put_cells.Tie as tie
+use Rattle.session.proofs.put_cells.Goals as goal
 
 -- the digits of a card of a size
 large_is : (size w : ℕ) → size ≡ cell_room → cell_digits (cells_for size) w ≡ hex_digits 8 w
@@ -49,35 +47,17 @@ module _ (out byte : List ℕ) (at w size : ℕ) (one : length byte ≡ 1) where
       let fours = ap length (small_is size w e) ∙ hex-length 4 w in
       ((el ∙ ap (sets out at) digits, omega (arith, long, fours, er, one)), omega (arith, er))
 
-returns : tie.Need-returns
+pub returns-then-size-eq-LARGE : goal.returns-then-size-eq-LARGE
+returns-then-size-eq-LARGE c =
+    let a = c.args in
+    let put = c.put_word in
+    let s = large a.out.now a.byte.now a.at a.w a.size c.requires.byte_len c.if-size-eq-LARGE.true _ _ c.put_hex4-next.result put.result
+    c.put_hex4-next.ensures.out_after c.put_hex4-next.ensures.value put.ensures.0 put.ensures.1 in
+    record { out_after = s.0; upper_bound = s.1 }
+
+pub returns : goal.returns
 returns c =
-    let d = c.before.before.before.before.before.before in
-    let i = c.before.before.before.before.before.before.before.before in
-    let start = c.before.before.before.before.before.before.before.before.before.before.before in
-    let a = start.args in
-    let put = c.before.before.put_word in
-    large a.out.now a.byte.now a.at a.w a.size start.requires.1 i.if1.true _ _ d.put-hex4.result put.result
-    d.put-hex4.ensures.0 d.put-hex4.ensures.1 put.ensures.0 put.ensures.1
-
-returns-2 : tie.Need-returns-2
-returns-2 c =
-    let i = c.before.before.before.before in
-    let start = c.before.before.before.before.before.before.before in
-    let a = start.args in
-    let put = c.before.before.put-word2 in
-    small a.out.now a.byte.now a.at a.w a.size start.requires.1 i.if1.false _ put.result put.ensures.0 put.ensures.1
-
-pub put_cells_spec : {M : Type 1} → statement M
-put_cells_spec =
-    tie.close
-    (tie.spec
-    (λ c. search rules)
-    (λ c κs. search rules)
-    (λ c. search rules)
-    (λ c κs. search rules)
-    (λ c. search rules)
-    returns
-    (λ c. search rules)
-    (λ c κs. search rules)
-    (λ c. search rules)
-    returns-2)
+    let a = c.args in
+    let put = c.put_word-2 in
+    let s = small a.out.now a.byte.now a.at a.w a.size c.requires.byte_len c.if-size-eq-LARGE.false _ put.result put.ensures.0 put.ensures.1 in
+    record { out_after = s.0; upper_bound = s.1 }
