@@ -11,11 +11,11 @@ use Rattle.plchart.proofs.print_chart.Statement.{statement}
 use Rattle.plchart.proofs.print_chart.Tie as tie
 
 -- the room is as it was
-whole : (c : tie.After-put-chart) → length c.put-chart.new.0 ≡ text_most
-whole c = ap length c.put-chart.ensures.0 ∙ length-sets _ 0 (chart_text cell_count) ∙ length-replicate {A = ℕ} text_most 0
+whole : (c : tie.After-put_chart-n) → length c.put_chart-n.new.0 ≡ text_most
+whole c = ap length c.put_chart-n.ensures.0 ∙ length-sets _ 0 (chart_text cell_count) ∙ length-replicate {A = ℕ} text_most 0
 
-part-write-end : tie.Need-slice-bounds-write-end
-part-write-end c = omega (arith, whole c.before, c.before.put-chart.ensures.1.1)
+part-write-end : tie.Need-slice_bounds-write-end
+part-write-end c = omega (arith, whole c.before, c.put_chart-n.ensures.1.1)
 
 pub print_chart_spec : {M : Type 1} → statement M
 print_chart_spec =
