@@ -1,7 +1,7 @@
 -- Document 02, "Counter cells", said of a list: which of the ticks a counter counts, by what its
 -- slots read in each of them and a low reset. Another view of specs/Work; a law says that they
 -- agree.
-use Rattle.std.specs.Prelude.{ℕ, ◌+◌, Bool, true, false, not, ◌&&◌, ◌||◌, cond, List, [], ◌∷◌, ltb}
+use Rattle.std.specs.Prelude.{ℕ, ◌+◌, Bool, not, ◌&&◌, ◌||◌, cond, List, [], ◌∷◌, ltb}
 use Rattle.words.specs.Bits.{bit_number}
 use Rattle.cells.specs.declared.table.Slots.{Slots}
 use Rattle.cells.specs.declared.table.CounterKind.{CounterKind}

@@ -1,6 +1,6 @@
 -- The lowest bit that is set: the kit's count of trailing zeros gives its place.
 use mathlib.Core.Path.{◌≡◌, refl, sym, ap, subst, ◌∙◌}
-use mathlib.Core.Bool.{Bool, true, false, false≢true}
+use mathlib.Core.Bool.{false, false≢true}
 use Prim.Native.Nat.{ℕ, zero, suc, ◌/◌, ◌%◌, ◌^◌, ◌<◌}
 use native.Mathlib.Nat.{div-one, le_of_suc-le-suc, not-suc-le-zero, mod-lt, zero-lt-suc, div-add-mod', lt_of_not-le}
 use native.Mathlib.Numerals.{add-one, one-add}

@@ -11,7 +11,7 @@ use Rattle.plchart.proofs.print_chart.Statement.{statement}
 use Rattle.plchart.proofs.print_chart.Tie as tie
 
 -- the room is as it was
-whole : (c : tie.After-put_chart-n) → length c.put_chart-n.new.0 ≡ text_most
+whole : (c : tie.After-put_chart-n) → length c.put_chart-n.new.out ≡ text_most
 whole c = ap length c.put_chart-n.ensures.0 ∙ length-sets _ 0 (chart_text cell_count) ∙ length-replicate {A = ℕ} text_most 0
 
 part-write-end : tie.Need-slice_bounds-write-end

@@ -3,9 +3,8 @@ use mathlib.Core.Path.{◌≡◌, sym, ap, ◌∙◌}
 use mathlib.Core.List.{List, [], ◌∷◌}
 use native.Mathlib.Nat.{add-zero}
 use native.Mathlib.Omega.{arith}
-use lib.ListN.{length, length-append, length-set}
-use lib.Seq.{sets, length-sets}
-use borrow.Author.Rules.{rules}
+use lib.ListN.{length, length-append}
+use lib.Seq.{sets}
 use Rattle.text.proofs.Stores.{sets-append}
 use Rattle.text.proofs.DecimalLaws.{upper, upper-none, upper-more, upper-length, decimal-last}
 use Prim.Native.Nat.{ℕ, ◌+◌, ◌%◌, ◌<◌}
@@ -18,13 +17,14 @@ so_far : (t : ℕ) (c : Joined-n-ge10 t)
 so_far t c =
     let a = c.args in
     elim c.if-n-ge10.branch [
-      then-n-ge10 w ↦
-        let u = sym (upper-more a.n w.if-n-ge10.true) in
-        (w.out-is ∙ w.put_decimal-place.ensures.out_after ∙ ap (sets a.out.now a.at) u,
-        w.place-is ∙ w.put_decimal-place.ensures.value ∙ ap (λ (ds : List ℕ). a.at + length ds) u)
+      | then-n-ge10 w ↦
+          let u = sym (upper-more a.n w.if-n-ge10.true) in (
+            w.out-is ∙ w.put_decimal-place.ensures.out_after ∙ ap (sets a.out.now a.at) u,
+            w.place-is ∙ w.put_decimal-place.ensures.value ∙ ap (λ (ds : List ℕ). a.at + length ds) u,
+          )
       | else-n-ge10 w ↦
-        let u = sym (upper-none a.n w.if-n-ge10.false) in
-        (w.out-is ∙ ap (sets a.out.now a.at) u, w.place-is ∙ sym (add-zero a.at) ∙ ap (λ (ds : List ℕ). a.at + length ds) u)
+          let u = sym (upper-none a.n w.if-n-ge10.false) in
+          (w.out-is ∙ ap (sets a.out.now a.at) u, w.place-is ∙ sym (add-zero a.at) ∙ ap (λ (ds : List ℕ). a.at + length ds) u)
     ]
 
 -- and the last has its place

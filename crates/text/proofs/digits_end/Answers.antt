@@ -1,12 +1,10 @@
 -- `text::digits_end` meets its contract. The invariant: the digits from i on end where those from `at` on do.
-use Prim.Native.Nat.{◌+◌, ◌-◌, ◌≤◌}
-use mathlib.Core.Path.{◌≡◌, sym, ap, ◌∙◌}
+use mathlib.Core.Path.{sym, ap, ◌∙◌}
 use native.Mathlib.Omega.{arith}
 use Rattle.text.proofs.DecimalLaws.{digits-next, digits-end, digits-past}
 use borrow.Author.Rules.{rules}
 use borrow.Author.Tests.{not-true, not-false}
-use lib.ListN.{length, drop}
-use Rattle.text.specs.Decimal.{digits_of}
+use lib.ListN.{length}
 use Rattle.text.proofs.digits_end.Goals as goal
 
 pub returns-then-not-is_digit : goal.returns-then-not-is_digit

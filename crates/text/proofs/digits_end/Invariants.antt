@@ -1,10 +1,6 @@
 -- `text::digits_end` meets its contract. The invariant: the digits from i on end where those from `at` on do.
 use Prim.Native.Nat.{◌+◌, ◌-◌, ◌≤◌}
-use mathlib.Core.Path.{◌≡◌, sym, ap, ◌∙◌}
-use native.Mathlib.Omega.{arith}
-use Rattle.text.proofs.DecimalLaws.{digits-next, digits-end, digits-past}
-use borrow.Author.Rules.{rules}
-use borrow.Author.Tests.{not-true, not-false}
+use mathlib.Core.Path.{◌≡◌}
 use lib.ListN.{length, drop}
 use Rattle.text.specs.Decimal.{digits_of}
 use Rattle.text.proofs.digits_end.Given as goal

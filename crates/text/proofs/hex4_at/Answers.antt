@@ -1,13 +1,13 @@
 -- `text::hex4_at` meets its contract. The invariant: the bytes passed are digits, and value and then those from i on say what all of them say.
-use Prim.Native.Nat.{ℕ, ◌+◌, ◌-◌, ◌*◌, ◌^◌, ◌≤◌, ◌<◌}
+use Prim.Native.Nat.{ℕ, ◌+◌, ◌*◌, ◌^◌, ◌<◌}
 use mathlib.Core.Path.{◌≡◌, refl, sym, ◌∙◌}
 use mathlib.Core.Bool.{true}
 use native.Mathlib.Omega.{arith}
 use borrow.Author.Rules.{rules}
 use borrow.Author.Tests.{not-true, not-false}
-use lib.ListN.{get_or, drop}
+use lib.ListN.{get_or}
 use Rattle.text.specs.Digits.{every, value_by}
-use Rattle.text.specs.Hex.{is_hex, hex_value, four_at, hex_in, hex_at}
+use Rattle.text.specs.Hex.{is_hex, hex_in, hex_at}
 use Rattle.text.proofs.DigitLaws.{grows, fits}
 use Rattle.text.proofs.HexLaws.{hex-small, four-stop, four-next, four-value, four-done}
 use Rattle.text.proofs.hex4_at.Goals as goal

@@ -6,7 +6,6 @@ use Rattle.text.specs.Decimal.{is_digit}
 use Rattle.text.specs.Hex.{hex_value}
 use Rattle.text.proofs.DecimalLaws.{digit_low}
 use Rattle.text.proofs.HexLaws.{hex-letter}
-use borrow.Author.Rules.{rules}
 use Rattle.text.proofs.hex_value.Goals as goal
 use Rattle.text.proofs.hex_value.Goals.{Else-is_digit, Then-is_digit}
 

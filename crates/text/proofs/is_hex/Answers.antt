@@ -1,7 +1,6 @@
 -- `text::is_hex` meets its contract: its tests are the definition's.
 use borrow.Author.Tests.{le-leb, lt-leb}
 use Rattle.text.specs.Hex.{is_hex}
-use borrow.Author.Rules.{rules}
 use Rattle.text.proofs.is_hex.Goals as goal
 
 pub returns-then-is_digit : goal.returns-then-is_digit

@@ -16,9 +16,9 @@ Ds c = digits_of (drop c.args.at c.args.text.now)
 
 pub digits_value-value-requires : goal.digits_value-value-requires
 digits_value-value-requires c = record {
-      n_value = search rules;
-      n_le_max_digits = omega (arith, plain-few (Ds (goal.at.digits_value-value-requires c).Start) (sym c.is_plain.ensures ∙ c.if-is_plain.true));
-    }
+  n_value = search rules;
+  n_le_max_digits = omega (arith, plain-few (Ds (goal.at.digits_value-value-requires c).Start) (sym c.is_plain.ensures ∙ c.if-is_plain.true));
+}
 
 pub returns-then-is_plain : goal.returns-then-is_plain
 unfolding number_at number_in

@@ -3,7 +3,6 @@ use mathlib.Core.Path.{◌≡◌, ap, ◌∙◌}
 use mathlib.Core.List.{[], ◌∷◌}
 use lib.Seq.{sets}
 use Rattle.text.specs.Hex.{hex_digits, hex4}
-use borrow.Author.Rules.{rules}
 use Rattle.text.proofs.put_hex4.Goals as goal
 
 pub returns : goal.returns

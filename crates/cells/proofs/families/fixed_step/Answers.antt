@@ -1,7 +1,6 @@
 -- `cells::families::fixed_step` meets its contract: only an edit names it.
 use mathlib.Core.Path.{refl}
 use Rattle.cells.proofs.Steps.{step-worked, step-slept}
-use borrow.Author.Rules.{rules}
 use Rattle.cells.proofs.families.fixed_step.Goals as goal
 
 pub returns-then-full-edited : goal.returns-then-full-edited

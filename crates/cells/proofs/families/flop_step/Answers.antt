@@ -6,7 +6,6 @@ use Rattle.cells.specs.Reading.{read_from}
 use Rattle.cells.specs.State.{state}
 use Rattle.cells.specs.Work.{holding, work_as}
 use Rattle.cells.proofs.Steps.{gated-on, step-worked, step-slept}
-use borrow.Author.Rules.{rules}
 use Rattle.cells.proofs.families.flop_step.Goals as goal
 
 pub returns-then-full-named : goal.returns-then-full-named

@@ -7,7 +7,6 @@ use Rattle.cells.specs.State.{state}
 use Rattle.cells.specs.Wake.{stirred_as}
 use Rattle.cells.specs.Work.{holding, work_as}
 use Rattle.cells.proofs.Steps.{pair-on, step-worked, step-slept}
-use borrow.Author.Rules.{rules}
 use Rattle.cells.proofs.families.jk_step.Goals as goal
 
 pub returns-then-full-named : goal.returns-then-full-named

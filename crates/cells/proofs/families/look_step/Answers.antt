@@ -3,7 +3,6 @@ use mathlib.Core.Path.{refl, ap}
 use Rattle.cells.specs.declared.work.Looked.{Looked}
 use Rattle.cells.specs.Work.{keeping}
 use Rattle.cells.proofs.Steps.{step-worked, step-slept}
-use borrow.Author.Rules.{rules}
 use Rattle.cells.proofs.families.look_step.Goals as goal
 
 pub returns-then-full-named : goal.returns-then-full-named

@@ -1,11 +1,10 @@
 -- `cells::families::lookup3_step` meets its contract: what is asked is what the definition asks, and
 -- the work is its callee's.
-use mathlib.Core.Path.{◌≡◌, refl, ap, ◌∙◌}
+use mathlib.Core.Path.{refl, ap, ◌∙◌}
 use mathlib.Core.Bool.{Bool, ◌||◌}
 use Rattle.cells.specs.Reading.{read_from}
-use Rattle.cells.specs.Work.{keeping, gate_out, lookup_out, work_as}
+use Rattle.cells.specs.Work.{keeping, lookup_out, work_as}
 use Rattle.cells.proofs.Steps.{three-on, step-worked, step-slept}
-use borrow.Author.Rules.{rules}
 use Rattle.cells.proofs.families.lookup3_step.Goals as goal
 
 pub returns-then-full-named : goal.returns-then-full-named

@@ -1,10 +1,9 @@
 -- `cells::families::lookup4_step` meets its contract: what is asked is what the definition asks, and
 -- the work is its callee's.
-use mathlib.Core.Path.{◌≡◌, refl, ap, ◌∙◌}
+use mathlib.Core.Path.{refl, ap, ◌∙◌}
 use mathlib.Core.Bool.{Bool, ◌||◌}
-use Rattle.cells.specs.Work.{keeping, gate_out, lookup_out, work_as}
+use Rattle.cells.specs.Work.{keeping, lookup_out, work_as}
 use Rattle.cells.proofs.Steps.{step-worked, step-slept}
-use borrow.Author.Rules.{rules}
 use Rattle.cells.proofs.families.lookup4_step.Goals as goal
 
 pub returns-then-full-named : goal.returns-then-full-named

@@ -1,12 +1,11 @@
 -- `cells::families::started_step` meets its contract: what is asked is what the definition asks, and
 -- the work is its callee's.
-use mathlib.Core.Path.{◌≡◌, refl, ap, ◌∙◌}
+use mathlib.Core.Path.{refl, ap, ◌∙◌}
 use mathlib.Core.Bool.{Bool, ◌||◌}
 use Rattle.cells.specs.Reading.{read_from}
 use Rattle.cells.specs.State.{state}
 use Rattle.cells.specs.Wake.{counter_stirred, stirred_as}
 use Rattle.cells.proofs.Steps.{reset-on, step-worked, step-slept}
-use borrow.Author.Rules.{rules}
 use Rattle.cells.proofs.families.started_step.Goals as goal
 
 pub returns-then-full-named : goal.returns-then-full-named

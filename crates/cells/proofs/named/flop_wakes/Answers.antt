@@ -1,6 +1,5 @@
 -- `cells::named::flop_wakes` meets its contract: the first test, or else the second.
 use Rattle.cells.proofs.Tests.{or-taken, or-passed}
-use borrow.Author.Rules.{rules}
 use Rattle.cells.proofs.named.flop_wakes.Goals as goal
 
 pub returns-then-read : goal.returns-then-read

@@ -1,6 +1,5 @@
 -- `cells::named::gated_wakes` meets its contract: the first test, or else the second.
 use Rattle.cells.proofs.Tests.{or-taken, or-passed}
-use borrow.Author.Rules.{rules}
 use Rattle.cells.proofs.named.gated_wakes.Goals as goal
 
 pub returns-then-counter_stirred : goal.returns-then-counter_stirred

@@ -1,6 +1,5 @@
 -- `cells::named::moved2` meets its contract: the first test, or else the second.
 use Rattle.cells.proofs.Tests.{or-taken, or-passed}
-use borrow.Author.Rules.{rules}
 use Rattle.cells.proofs.named.moved2.Goals as goal
 
 pub returns-then-read : goal.returns-then-read

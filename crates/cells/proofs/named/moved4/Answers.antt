@@ -1,6 +1,5 @@
 -- `cells::named::moved4` meets its contract: the first test, or else the second.
 use Rattle.cells.proofs.Tests.{or-taken, or-passed}
-use borrow.Author.Rules.{rules}
 use Rattle.cells.proofs.named.moved4.Goals as goal
 
 pub returns-then-moved2 : goal.returns-then-moved2

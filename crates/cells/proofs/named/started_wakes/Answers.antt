@@ -1,6 +1,5 @@
 -- `cells::named::started_wakes` meets its contract: the first test, or else the second.
 use Rattle.cells.proofs.Tests.{or-taken, or-passed}
-use borrow.Author.Rules.{rules}
 use Rattle.cells.proofs.named.started_wakes.Goals as goal
 
 pub returns-then-counter_stirred : goal.returns-then-counter_stirred

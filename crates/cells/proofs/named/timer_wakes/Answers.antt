@@ -1,6 +1,5 @@
 -- `cells::named::timer_wakes` meets its contract: the first test, or else the second.
 use Rattle.cells.proofs.Tests.{or-taken, or-passed}
-use borrow.Author.Rules.{rules}
 use Rattle.cells.proofs.named.timer_wakes.Goals as goal
 
 pub returns-then-timer_stirred : goal.returns-then-timer_stirred

@@ -1,5 +1,4 @@
 -- `cells::reading::four` meets its contract.
-use borrow.Author.Rules.{rules}
 use Rattle.cells.proofs.reading.four.Goals as goal
 
 pub returns : goal.returns

@@ -1,6 +1,5 @@
 -- `cells::reading::read` meets its contract.
 use Rattle.cells.specs.Reading.{read_from}
-use borrow.Author.Rules.{rules}
 use Rattle.cells.proofs.reading.read.Goals as goal
 
 pub returns : goal.returns

@@ -1,5 +1,4 @@
 -- `cells::reading::three` meets its contract.
-use borrow.Author.Rules.{rules}
 use Rattle.cells.proofs.reading.three.Goals as goal
 
 pub returns : goal.returns

@@ -23,7 +23,6 @@ use Rattle.cells.specs.Effect.{StepsTo, flop_of}
 use Rattle.cells.proofs.Gates.{looked-and, looked-or}
 use Rattle.cells.proofs.Rows.{past-table}
 use native.Mathlib.Omega.{arith}
-use borrow.Author.Rules.{rules}
 use borrow.Author.Tests.{ne_eqb}
 use Rattle.cells.proofs.step.step.Goals as goal
 

@@ -6,7 +6,6 @@ use lib.Dec.{ltb}
 use Rattle.cells.specs.Table.{kept_by}
 use Rattle.cells.proofs.Rows.{row_keeps, row-configured}
 use Rattle.cells.proofs.Packed.{set-of}
-use borrow.Author.Rules.{rules}
 use Rattle.cells.proofs.table.row_of.Goals as goal
 
 pub returns : goal.returns

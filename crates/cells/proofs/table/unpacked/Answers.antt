@@ -1,7 +1,6 @@
 -- `cells::table::unpacked` meets its contract: each slot is its bit.
 use Rattle.cells.specs.Table.{slots}
 use Rattle.cells.specs.Work.{slots_of}
-use borrow.Author.Rules.{rules}
 use Rattle.cells.proofs.table.unpacked.Goals as goal
 
 pub returns : goal.returns

@@ -1,6 +1,5 @@
 -- `cells::wake::counter_clock` meets its contract: in each arm the counter is known, and the code
 -- tests what the definition says of it.
-use borrow.Author.Rules.{rules}
 use Rattle.cells.proofs.wake.counter_clock.Goals as goal
 
 pub returns-in-WhileBoth : goal.returns-in-WhileBoth

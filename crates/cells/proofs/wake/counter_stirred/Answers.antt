@@ -2,7 +2,6 @@
 -- clock.
 use mathlib.Core.Path.{ap₂}
 use mathlib.Core.Bool.{Bool, ◌&&◌, ◌||◌}
-use borrow.Author.Rules.{rules}
 use Rattle.cells.proofs.wake.counter_stirred.Goals as goal
 
 pub returns : goal.returns

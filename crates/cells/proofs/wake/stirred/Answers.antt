@@ -8,7 +8,6 @@ use Rattle.cells.specs.State.{state}
 use Rattle.cells.specs.Wake
 use Rattle.cells.specs.Wake.{stirred_as}
 use Rattle.cells.proofs.Packed.{set-of}
-use borrow.Author.Rules.{rules}
 use Rattle.cells.proofs.wake.stirred.Goals as goal
 
 pub returns : goal.returns

@@ -1,7 +1,6 @@
 -- `cells::wake::stirred_as` meets its contract: in each arm the family is known, and the definition
 -- answers by it.
 use Rattle.cells.specs.Wake.{stirred_as}
-use borrow.Author.Rules.{rules}
 use Rattle.cells.proofs.wake.stirred_as.Goals as goal
 
 pub returns-in-Nothing : goal.returns-in-Nothing

@@ -1,7 +1,6 @@
 -- `cells::wake::timer_stirred` meets its contract: a trigger, or the clock.
 use mathlib.Core.Path.{ap}
 use mathlib.Core.Bool.{Bool, ◌||◌}
-use borrow.Author.Rules.{rules}
 use Rattle.cells.proofs.wake.timer_stirred.Goals as goal
 
 pub returns : goal.returns

@@ -1,6 +1,5 @@
 -- `cells::work::active_after` meets its contract: in each arm the counter is known, and the code
 -- computes what the definition says of it.
-use borrow.Author.Rules.{rules}
 use Rattle.cells.proofs.work.active_after.Goals as goal
 
 pub returns-in-WhileBoth : goal.returns-in-WhileBoth

@@ -1,5 +1,4 @@
 -- `cells::work::counted_up` meets its contract: branch by branch.
-use borrow.Author.Rules.{rules}
 use Rattle.cells.proofs.work.counted_up.Goals as goal
 
 pub returns-then-reset : goal.returns-then-reset

@@ -1,6 +1,5 @@
 -- `cells::work::counter` meets its contract: what is new is its callees' answers.
 use Rattle.cells.specs.Work.{work_as}
-use borrow.Author.Rules.{rules}
 use Rattle.cells.proofs.work.counter.Goals as goal
 
 pub returns : goal.returns

@@ -1,6 +1,5 @@
 -- `cells::work::d_flop` meets its contract: it reads and decides in the order of the definition.
 use mathlib.Core.Path.{sym, ◌∙◌}
-use borrow.Author.Rules.{rules}
 use Rattle.cells.proofs.work.d_flop.Goals as goal
 
 pub returns-then-read : goal.returns-then-read

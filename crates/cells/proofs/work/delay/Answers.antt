@@ -1,6 +1,5 @@
 -- `cells::work::delay` meets its contract: what is new is its callees' answers.
 use Rattle.cells.specs.Work.{work_as}
-use borrow.Author.Rules.{rules}
 use Rattle.cells.proofs.work.delay.Goals as goal
 
 pub returns : goal.returns

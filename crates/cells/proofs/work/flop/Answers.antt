@@ -1,6 +1,5 @@
 -- `cells::work::flop` meets its contract: in each arm the type is known, and the others are neither
 -- 1 nor 12.
-use borrow.Author.Rules.{rules}
 use borrow.Author.Tests.{ne_eqb}
 use Rattle.cells.proofs.work.flop.Goals as goal
 

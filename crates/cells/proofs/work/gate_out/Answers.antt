@@ -1,6 +1,5 @@
 -- `cells::work::gate_out` meets its contract: in each arm the gate is known, and the code answers
 -- what the definition says of it.
-use borrow.Author.Rules.{rules}
 use Rattle.cells.proofs.work.gate_out.Goals as goal
 
 pub returns-in-Lookup : goal.returns-in-Lookup

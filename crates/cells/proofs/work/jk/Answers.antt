@@ -1,6 +1,5 @@
 -- `cells::work::jk` meets its contract: it reads and decides in the order of the definition.
 use mathlib.Core.Path.{sym, ◌∙◌}
-use borrow.Author.Rules.{rules}
 use Rattle.cells.proofs.work.jk.Goals as goal
 
 pub returns-then-read-3 : goal.returns-then-read-3

@@ -1,9 +1,8 @@
 -- `cells::work::look` meets its contract: it stops where the definition does.
 use mathlib.Core.Path.{◌≡◌, sym, ap, ◌∙◌}
 use mathlib.Core.Bool.{Bool, beq}
-use Rattle.cells.specs.Reading.{read_from, slots_from}
+use Rattle.cells.specs.Reading.{slots_from}
 use Rattle.cells.proofs.Gates.{seen, stops-at-f, stops-at-z, stops-at-y, goes-to-x}
-use borrow.Author.Rules.{rules}
 use Rattle.cells.proofs.work.look.Goals as goal
 
 -- what the code read is what is in the slot

@@ -3,7 +3,6 @@
 use mathlib.Core.Path.{ap}
 use native.Mathlib.Omega.{arith}
 use Rattle.cells.specs.Work.{pulses}
-use borrow.Author.Rules.{rules}
 use Rattle.cells.proofs.work.next_count.Goals as goal
 
 pub returns-then-reset : goal.returns-then-reset

@@ -1,6 +1,5 @@
 -- `cells::work::next_pulse` meets its contract, branch by branch.
 use borrow.Author.Tests.{lt-ltb, le-ltb}
-use borrow.Author.Rules.{rules}
 use Rattle.cells.proofs.work.next_pulse.Goals as goal
 
 pub returns-then-taken : goal.returns-then-taken

@@ -1,6 +1,5 @@
 -- `cells::work::one_shot` meets its contract: what is new is its callees' answers.
 use Rattle.cells.specs.Work.{work_as}
-use borrow.Author.Rules.{rules}
 use Rattle.cells.proofs.work.one_shot.Goals as goal
 
 pub returns : goal.returns

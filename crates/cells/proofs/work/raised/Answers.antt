@@ -1,7 +1,6 @@
 -- `cells::work::raised` meets its contract: on either side of the largest count.
 use borrow.Author.Tests.{lt-ltb, le-ltb}
 use Rattle.cells.specs.Work
-use borrow.Author.Rules.{rules}
 use Rattle.cells.proofs.work.raised.Goals as goal
 
 pub returns-then-count-lt-LARGEST_COUNT : goal.returns-then-count-lt-LARGEST_COUNT

@@ -1,7 +1,6 @@
 -- `cells::work::sync_d_flop` meets its contract: it reads and decides in the order of the
 -- definition.
 use mathlib.Core.Path.{sym, ◌∙◌}
-use borrow.Author.Rules.{rules}
 use Rattle.cells.proofs.work.sync_d_flop.Goals as goal
 
 pub returns-then-read-2 : goal.returns-then-read-2
