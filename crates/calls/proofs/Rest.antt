@@ -1,6 +1,6 @@
 -- A card at rest stays so under every list of ticks with its input: on a settled card quick and full ticks do the same, and a quick one only counts.
 use Prim.Native.Nat.{ℕ}
-use mathlib.Core.Path.{◌≡◌, refl, sym, ap, ◌∙◌, subst}
+use mathlib.Core.Path.{◌≡◌, sym, ap, ◌∙◌, subst}
 use mathlib.Core.Bool.{Bool, false}
 use mathlib.Core.List.Forall₂
 use mathlib.Core.List.{List, [], ◌∷◌, map}

@@ -1,5 +1,5 @@
 -- The tallies of the card that a list of calls reaches are what the list says.
-use Prim.Native.Nat.{ℕ, zero, suc, ◌+◌, ◌-◌, ◌^◌, ◌≤◌, ◌<◌, zero-le}
+use Prim.Native.Nat.{ℕ, zero, suc, ◌+◌, ◌≤◌, ◌<◌, zero-le}
 use mathlib.Core.Path.{◌≡◌, refl, sym, ap, ap₂, subst, ◌∙◌}
 use mathlib.Core.Bool.{Bool, true, false, ◌&&◌, cond}
 use mathlib.Core.List.{List}
@@ -8,7 +8,7 @@ use native.Mathlib.Omega.{arith}
 use lib.Dec.{eqb, ltb}
 use lib.ListN.{length, get_or, replicate}
 use borrow.Author.Tests.{eqb-true, ltb-true, lt-ltb}
-use Rattle.words.specs.Bits.{bit_at, bit_number, count_of}
+use Rattle.words.specs.Bits.{bit_number, count_of}
 use Rattle.cells.specs.declared.table.Slots.{Slots}
 use Rattle.cells.specs.State.{state_of}
 use Rattle.cells.specs.Wake.{wakes}
@@ -20,7 +20,7 @@ use Rattle.card.specs.Tally.{ticks, standstill, no_tallies, tally_of, tallied_by
 use Rattle.card.proofs.TallyLaws.{tallied-total, tallied-at, tallied-off, counted-below}
 use Rattle.ticks.specs.declared.connectors.Lines.{Lines}
 use Rattle.ticks.specs.Tick
-use Rattle.ticks.specs.Exact.{due_at, cell_named}
+use Rattle.ticks.specs.Exact.{cell_named}
 use Rattle.ticks.specs.Rest.{total_of}
 use Rattle.ticks.proofs.Cases.{by-tick-on}
 use Rattle.ticks.proofs.Exact.{works-exactly}
@@ -30,7 +30,7 @@ use Rattle.calls.specs.Runs.{since}
 use Rattle.calls.specs.Calls.{Call, after_call, end}
 use Rattle.calls.specs.Calls.Call.{line, load, tick}
 use Rattle.calls.specs.History.{Readings}
-use Rattle.calls.specs.Tallies.{sum_of, Summed, nothing, PerTick, sum_next, summed, Tallied, EveryListTallied, WhoIsNamed, GrowsAsAnswered}
+use Rattle.calls.specs.Tallies.{sum_of, Summed, nothing, PerTick, sum_next, summed, EveryListTallied, WhoIsNamed, GrowsAsAnswered}
 use Rattle.calls.proofs.MemoryIsHistory.{edited-from-fresh, read-from-fresh}
 use Rattle.calls.proofs.Lists.{line-edit}
 use Rattle.calls.proofs.Runs.{invariant, tracked-under}

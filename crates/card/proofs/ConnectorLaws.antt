@@ -3,8 +3,7 @@
 use Rattle.std.proofs.Common.{◌≡◌, ℕ, zero, suc, ◌^◌, ◌<◌, ◌≤◌, Bool, true, false, cond, ◌&&◌, ◌||◌, eqb, List, length, get_or, set, sym, refl, ap, ◌∙◌, arith, length-set, take_all, get_or-set_other, get_or-set_same, ltb-false, eq-eqb, eqb-true}
 use native.Mathlib.Decide.{ℕ_discrete}
 use lib.Seq.{set-get_or}
-use Rattle.words.specs.Bits.{bit_at, word_of, with_bit}
-use Rattle.words.specs.Listed.{listed}
+use Rattle.words.specs.Bits.{bit_at, with_bit}
 use Rattle.words.proofs.Bools.{and_left, and_right}
 use Rattle.words.proofs.Laws.{built-lt, built-of-bits, built-same, bit-built, bit-with-same, bit-with-other, with-lt}
 use Rattle.words.proofs.Listed.{length-listed, listed_at, listed_same, listed-take}

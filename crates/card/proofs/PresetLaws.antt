@@ -1,5 +1,5 @@
 -- What presets leave alone.
-use Rattle.std.proofs.Common.{◌≡◌, ℕ, ◌^◌, ◌<◌, ◌≤◌, true, false, List, ◌++◌, length, get_or, drop, refl, ap, ◌∙◌, true≢false, arith, take-append-drop}
+use Rattle.std.proofs.Common.{◌≡◌, ℕ, ◌^◌, ◌<◌, ◌≤◌, true, false, List, ◌++◌, length, get_or, drop, refl, ap, ◌∙◌, true≢false, take-append-drop}
 use mathlib.Core.Bool.{or-false}
 use mathlib.Core.Option.{Option, none, some}
 use Rattle.words.specs.Bits.{bit_at}

@@ -12,7 +12,7 @@ use Rattle.words.proofs.Bools.{or_left, or_right, and_left, and_right, and_both}
 use Rattle.card.specs.declared.card.Card.{Card}
 use Rattle.card.specs.declared.card.Connector.{Connector}
 use Rattle.card.specs.Address.{cell_count, cell_room, connector_count, first_cell, first_connector, among, base_of, edge_address}
-use Rattle.card.specs.Connectors.{connector_at, each, no_connector, from_each, well_formed}
+use Rattle.card.specs.Connectors.{connector_at, no_connector, from_each, well_formed}
 use Rattle.card.specs.Fresh.{no_cell}
 use Rattle.card.specs.Valid.{largest_address, front_trigger, permitted_base, bad_cell_type, bad_connector_type, bad_address, front_driven}
 use Rattle.text.specs.Digits.{every}

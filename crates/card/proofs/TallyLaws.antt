@@ -1,7 +1,6 @@
 -- The tallies, from one named cell to the next: the cells between them are not named, and their tallies stay.
 use Rattle.std.proofs.Common.{◌≡◌, ℕ, ◌+◌, ◌-◌, ◌/◌, ◌^◌, ◌<◌, ◌≤◌, Bool, true, false, cond, ltb, List, ◌++◌, length, get_or, drop, set, sym, refl, ap, ◌∙◌, subst, lt_of_not-le, arith, take-append-drop, shr-shr, ltb-false, ltb-true, lt-ltb}
 use mathlib.Core.Bool.{false≢true}
-use native.Mathlib.Nat.{zero-div}
 use Rattle.words.specs.Bits.{bit_at, bit_number, IsLowest}
 use Rattle.words.specs.Listed.{listed}
 use Rattle.words.proofs.Laws.{bit-above, bit-shr, bit-zero}

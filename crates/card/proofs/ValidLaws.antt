@@ -1,5 +1,5 @@
 -- A fresh card is valid, and every accepted edit keeps a card valid: one law for each. Of presets, see PresetValid.
-use Rattle.std.proofs.Common.{◌≡◌, ℕ, ◌+◌, ◌-◌, ◌%◌, ◌<◌, ◌≤◌, Bool, true, false, cond, not, ◌&&◌, ◌||◌, eqb, ltb, leb, List, [], ◌∷◌, ◌++◌, map, length, get_or, take, drop, set, replicate, sym, refl, ap, ◌∙◌, true≢false, zero-le, arith, length-set, length-take-le, take_all, get_or-set_other, get_or-take, get_or-set_same, take_at, ltb-false, ltb-true, le-ltb, eq-eqb, ne_eqb, le-leb}
+use Rattle.std.proofs.Common.{◌≡◌, ℕ, ◌+◌, ◌-◌, ◌%◌, ◌<◌, ◌≤◌, Bool, true, false, cond, not, ◌&&◌, ◌||◌, eqb, ltb, leb, List, [], ◌∷◌, ◌++◌, map, length, get_or, take, drop, set, replicate, sym, refl, ap, ◌∙◌, true≢false, zero-le, arith, length-set, length-take-le, get_or-set_other, get_or-take, get_or-set_same, take_at, ltb-false, ltb-true, le-ltb, eq-eqb, ne_eqb, le-leb}
 use mathlib.Core.Bool.{and-false}
 use native.Mathlib.Decide.{ℕ_discrete}
 use lib.ListN.{length-map, length-replicate, get_or-append, get_or-map}

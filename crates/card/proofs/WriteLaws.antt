@@ -20,15 +20,15 @@ use Rattle.card.specs.Connectors.{well_formed}
 use Rattle.cells.specs.State.{cell_of}
 use Rattle.card.specs.Fresh.{clear_state, no_cell}
 use Rattle.card.specs.Valid.{largest_address, front_trigger, front_driven, bad_place, bad_connector_type, bad_config, unused_slot, bad_address, valid_slot}
-use Rattle.card.specs.Valid.{valid_slots, valid_cell, valid_connector}
-use Rattle.card.specs.Edits.{is_at_cell, is_at_connector, with_connectors, blank_slot, cleared_cell, stored_address, wired_slot, configured_state, current_cell}
+use Rattle.card.specs.Valid.{valid_slots, valid_cell}
+use Rattle.card.specs.Edits.{is_at_cell, is_at_connector, blank_slot, cleared_cell, stored_address, wired_slot, configured_state, current_cell}
 use Rattle.card.specs.Edits.{put_cell, put_connectors, move, set_trigger, typed, set_type, configured, set_config, wired, set_slots, set_connector_type}
 use Rattle.card.specs.Edits.{set_source}
 use Rattle.card.specs.Written.{configured_as, written}
 use Rattle.card.proofs.ConnectorLaws.{length-each, each_at, each-kind, kind-formed, each-source, source-formed, type-known, each-unique}
 use Rattle.card.proofs.Slots.{four}
 use Rattle.card.proofs.Settings.{cell-slots, config-most, Sound}
-use Rattle.card.proofs.ValidLaws.{slots-pass, all-four, none-four, bad_given, kind-good}
+use Rattle.card.proofs.ValidLaws.{slots-pass, all-four, none-four, bad_given}
 use Rattle.card.proofs.Places.{among_in, among-above}
 
 -- ---- a valid cell is what lines make of its settings

@@ -1,7 +1,7 @@
 -- Document 01, "Lines": what an accepted line does to the card. No line alters the memory, which
 -- has the outputs, the levels and the driven word. "Edited" is document 01's term for a cell that a
 -- write has touched since the last tick that ran.
-use Rattle.std.specs.Prelude.{ℕ, ◌+◌, ◌-◌, ◌^◌, Bool, true, false, cond, not, ◌&&◌, List, [], ◌∷◌, ◌++◌, map, take, drop, set, ◌==◌, nat_lt, slice_index, slice_index_or, slice_set}
+use Rattle.std.specs.Prelude.{ℕ, ◌+◌, ◌-◌, ◌^◌, Bool, true, false, cond, not, ◌&&◌, List, [], ◌∷◌, ◌++◌, map, take, drop, ◌==◌, nat_lt, slice_index, slice_index_or, slice_set}
 use Rattle.words.specs.Bits.{with_bit}
 use Rattle.cells.specs.declared.table.Slots.{Slots}
 use Rattle.cells.specs.declared.table.Kept.{Kept}

@@ -1,6 +1,6 @@
 -- Document 02, "Wake tallies": what the card keeps of its ticks, and what a tick that ran adds to
 -- it.
-use Rattle.std.specs.Prelude.{ℕ, ◌+◌, Bool, cond, ◌&&◌, List, ◌++◌, get_or, drop, replicate, nat_lt, slice_index_or}
+use Rattle.std.specs.Prelude.{ℕ, ◌+◌, Bool, cond, ◌&&◌, ◌++◌, get_or, drop, replicate, nat_lt, slice_index_or}
 use Rattle.words.specs.Listed.{listed}
 use Rattle.cells.specs.declared.cell.Ticks.{Ticks}
 use Rattle.card.specs.declared.tallies.Tallies.{Tallies}

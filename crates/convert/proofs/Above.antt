@@ -17,15 +17,15 @@ use Rattle.card.specs.declared.card.Card.{Card}
 use Rattle.card.specs.declared.card.Connector.{Connector}
 use Rattle.card.specs.Address.{cell_room, connector_count, first_cell, first_connector, among, base_of, is_edge}
 use Rattle.card.specs.Fresh.{no_cell}
-use Rattle.card.specs.Valid.{permitted_base, bad_cell_type, bad_connector_type, bad_address, valid_slot, valid_slots}
+use Rattle.card.specs.Valid.{permitted_base, bad_cell_type, bad_address, valid_slot, valid_slots}
 use Rattle.text.specs.Digits.{every}
 use Rattle.card.specs.Valid.{valid_cell, valid_connector, valid, valid_card}
 use Rattle.card.specs.Valid.{largest_address}
 use Rattle.card.proofs.Places.{among_in, among_below, among-above}
-use Rattle.card.proofs.Settings.{first-at, first-pass, taken-room, Sound, split, cell-slots}
+use Rattle.card.proofs.Settings.{first-at, first-pass, taken-room, split, cell-slots}
 use Rattle.card.proofs.Slots.{four}
 use Rattle.card.specs.Connectors.{each}
-use Rattle.card.proofs.ValidLaws.{all-four, slots-pass, kind-known, source-good, kind-good, formed, settings-valid}
+use Rattle.card.proofs.ValidLaws.{all-four, slots-pass, source-good, kind-good, formed, settings-valid}
 use Rattle.saved.proofs.Forms.{each_in}
 use Rattle.saved.specs.Record.{encode, record_of, width_of, load_number, loaded}
 use Rattle.saved.proofs.Records.{load-powers, loaded-valid, loaded-cells}

@@ -1,11 +1,11 @@
 -- The demands are met, at both sizes of a card. What the laws ask of the number of cells is discharged here, so that no paper has to repeat it.
-use Prim.Native.Nat.{ℕ, zero, suc, ◌+◌, ◌^◌, ◌≤◌, ◌<◌}
-use mathlib.Core.Path.{◌≡◌, refl, sym, ap, ap₂, ◌∙◌}
-use mathlib.Core.Bool.{Bool, true, false, not, ◌&&◌, cond}
+use Prim.Native.Nat.{ℕ, ◌≤◌, ◌<◌}
+use mathlib.Core.Path.{◌≡◌, refl, sym, ap, ◌∙◌}
+use mathlib.Core.Bool.{Bool, true, false, ◌&&◌, cond}
 use mathlib.Core.List.{List, [], ◌++◌}
 use native.Mathlib.Omega.{arith}
 use native.Mathlib.Nat.{zero-add, le_refl}
-use borrow.Author.Tests.{eqb-true, le-ltb, lt-ltb, ltb-true, ltb-false}
+use borrow.Author.Tests.{eqb-true, ltb-false}
 use lib.Dec.{eqb, ltb, lit≤, lit<}
 use lib.ListN.{length, take, drop, length-append, length-drop}
 use lib.Seq.{sets, sets-eq, take-append_seam, drop_at}
@@ -21,18 +21,17 @@ use Rattle.ticks.proofs.Quarters.{reads-entry}
 use Rattle.ticks.proofs.Timing.{timer-promise, ignores-all}
 use Rattle.ticks.proofs.Views.{sees_cell, sees_line}
 use Rattle.survey.proofs.Ticks.{unreached}
-use Rattle.saved.specs.Record.{config_width, record_length, record_of, saved_to, load_number, loaded}
+use Rattle.saved.specs.Record.{config_width, record_of, saved_to}
 use Rattle.saved.proofs.Headers.{load-fourteen}
 use Rattle.saved.proofs.Records.{load-refused, valid-length, saved-front}
-use Rattle.convert.specs.Convert.{convert_number, convert_length, other_form, converted_to}
+use Rattle.convert.specs.Convert.{convert_number, other_form}
 use Rattle.convert.proofs.Conversion.{fitting, conversion}
 use Rattle.convert.proofs.Laws.{converted_as, refused_as}
 use Rattle.grammar.proofs.Texts.{texts}
 use Rattle.lines.specs.declared.line.Outcome.{Outcome}
 use Rattle.lines.specs.Line.{shortest_reply, reply_with, reply_of, line_outcome, line_reply, line_result}
-use Rattle.calls.specs.Calls.{Call, saved_bytes, end}
+use Rattle.calls.specs.Calls.{saved_bytes}
 use Rattle.calls.specs.RequiredExamples.{one_table}
-use Rattle.calls.specs.SaveLoad.{Saves}
 use Rattle.calls.proofs.MemoryIsHistory.{who_wakes}
 use Rattle.calls.proofs.Lists.{refused-kept, demand3}
 use Rattle.calls.proofs.Reached.{fresh-reached-valid}
@@ -40,7 +39,7 @@ use Rattle.calls.proofs.Rest.{rest-lasts}
 use Rattle.calls.proofs.SaveLoad.{save-room, save_load}
 use Rattle.calls.proofs.Sizes.{size-kept}
 use Rattle.calls.proofs.Tallied.{every-list-tallied, who-is-named, grows-as-answered}
-use Rattle.wiring.specs.Print.{wiring_text, too_long, print_number, print_length, printed_to}
+use Rattle.wiring.specs.Print.{wiring_text, too_long}
 use Rattle.wiring.proofs.Feeds.{feeds_back}
 use Rattle.wiring.proofs.Longest.{longest-text}
 use Rattle.wiring.proofs.Settable.{valid-is-settable}
@@ -51,8 +50,8 @@ use Rattle.rack.proofs.Racks.{rack-demand3}
 use Rattle.rack.proofs.Supplies.{within_supply, share-guaranteed}
 use Rattle.steady.proofs.Laws.{keeps_all, rests_forever, makes_all, makes_some}
 use Rattle.steady.proofs.Lists.{stands-for-ticks, answers-for-ticks}
-use Rattle.demands.specs.Demands.{Holds, if_accepted, PrintLeaves, ConvertLeaves, Demand1, Demand2, Demand3}
-use Rattle.demands.specs.Demands.{FourSlots, Racks, WakeTallies, Requests, Added, Size, Demands}
+use Rattle.demands.specs.Demands.{Holds, PrintLeaves, ConvertLeaves, Demand1, Demand2, Demand3}
+use Rattle.demands.specs.Demands.{Racks, Requests, Added, Size, Demands}
 use Rattle.demands.specs.Demands.Size.{small, large}
 
 -- ---- buffers

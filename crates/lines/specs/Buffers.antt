@@ -2,7 +2,7 @@
 -- 02's "a store of that size", 308, or 516 on thirty-two cells: lines to a fresh card, by
 -- computation. With them the longest reply, which the shortest reply buffer holds, and what a line
 -- leaves of buffers that are longer.
-use Rattle.std.specs.Prelude.{ℕ, ◌≡◌, refl, cond, List, [], ◌∷◌, ◌++◌, map, length, replicate}
+use Rattle.std.specs.Prelude.{ℕ, ◌≡◌, refl, List, [], ◌∷◌, ◌++◌, map, length, replicate}
 use Prim.Native.String.{String}
 use Rattle.words.specs.Listed.{listed}
 use Rattle.text.specs.Digits.{value_by}

@@ -40,7 +40,6 @@ use Rattle.rack.specs.Rack.{load_in, row_load_number, loaded_row}
 use Rattle.rack.specs.Rack
 use Rattle.rack.specs.Calls.{RackCall, row_reply, row_saved, after_call, answer, end}
 use Rattle.rack.specs.Calls.RackCall.{start, line, load, tick}
-use Rattle.rack.specs.Calls.RackReply.{line_reply, tick_reply}
 use Rattle.rack.specs.Demand3.{start_row}
 use Rattle.rack.specs.Cards.{Part, goes_to, answer_to, Heard, nothing, heard_more, part_of, heard_next, heard, IsCard, start_lines, calls_to, card_in}
 use Rattle.rack.specs.Cards.{Reached, RackTallied, RackValid, RackWakes}

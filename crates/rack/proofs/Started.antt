@@ -1,6 +1,5 @@
 -- A started card is one that seventeen lines leave of a fresh one, by computation.
 use mathlib.Core.Path.{◌≡◌, refl}
-use mathlib.Core.List.{map}
 use Rattle.words.specs.Bits.{with_bit, word_of, bit_at}
 use Rattle.words.specs.Listed.{listed}
 use Rattle.text.specs.Digits.{value_by}

@@ -1,5 +1,5 @@
 -- Choices at the caps, as words: those among the open cells are enough, and from the greatest of these each next one is found by one step.
-use Prim.Native.Nat.{ℕ, zero, suc, ◌+◌, ◌-◌, ◌*◌, ◌/◌, ◌%◌, ◌^◌, ◌≤◌, ◌<◌, zero-le, min}
+use Prim.Native.Nat.{ℕ, zero, suc, ◌+◌, ◌-◌, ◌*◌, ◌/◌, ◌%◌, ◌^◌, ◌≤◌, ◌<◌, min}
 use mathlib.Core.Path.{◌≡◌, refl, sym, ap, ◌∙◌, subst}
 use mathlib.Core.Bool.{Bool, true, false, cond, ◌&&◌}
 use mathlib.Core.List.{List, ◌++◌}
@@ -10,11 +10,9 @@ use native.Mathlib.Omega.{arith}
 use lib.Bits.{bit_and, and_le_l, and_le_r, and_self, and_step, and_shr, and_mod}
 use lib.ListN.{drop}
 use Rattle.words.specs.Bits.{bit_at, word_of}
-use Rattle.words.specs.Listed.{listed}
 use Rattle.words.proofs.Laws.{bit-and, bit-built, word-ext}
 use Rattle.words.proofs.Listed.{listed_same}
 use Rattle.cells.specs.declared.cell.Cell.{Cell}
-use Rattle.cells.specs.declared.cell.State.{State}
 use Rattle.cells.specs.State.{state, with_state}
 use Rattle.cells.specs.Table.{row_of}
 use Rattle.cells.specs.Work.{pulses}

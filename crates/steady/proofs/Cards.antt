@@ -1,13 +1,13 @@
 -- A steady card: the ticks after the first do what it did, and many of them come to what `card_through` says.
-use Prim.Native.Nat.{ℕ, zero, suc, ◌+◌, ◌-◌, ◌%◌, ◌^◌, ◌≤◌, ◌<◌}
-use mathlib.Core.Path.{◌≡◌, refl, sym, ap, ap₂, subst, ◌∙◌}
-use mathlib.Core.Bool.{Bool, true, false, ◌&&◌, cond, false≢true}
+use Prim.Native.Nat.{ℕ, zero, suc, ◌%◌, ◌^◌, ◌≤◌, ◌<◌}
+use mathlib.Core.Path.{◌≡◌, refl, sym, ap, subst, ◌∙◌}
+use mathlib.Core.Bool.{Bool, true, false, ◌&&◌, cond}
 use mathlib.Core.List.{List, ◌++◌}
 use mathlib.Core.Logic.{◌⊎◌, inl, inr}
-use native.Mathlib.Nat.{le_refl, le_of_lt, le_of_suc-le-suc, eq-or-lt_of_le, not-suc-le-zero, mod-eq_of_lt}
+use native.Mathlib.Nat.{le_of_suc-le-suc, eq-or-lt_of_le, not-suc-le-zero, mod-eq_of_lt}
 use native.Mathlib.Omega.{arith}
 use lib.Count.{ones}
-use lib.Dec.{eqb, ltb}
+use lib.Dec.{eqb}
 use lib.ListN.{drop, get_or, length, take-append-drop}
 use lib.Seq.{drop_at}
 use borrow.Author.Tests.{eqb-true, eqb-false}
@@ -25,18 +25,17 @@ use Rattle.card.specs.Tally.{tallied_by}
 use Rattle.card.proofs.TallyLaws.{by_less, tallied-same}
 use Rattle.ticks.specs.declared.connectors.Lines.{Lines}
 use Rattle.ticks.specs.declared.view.Input.{Input}
-use Rattle.ticks.specs.declared.view.Wires.{Wires}
 use Rattle.ticks.specs.declared.tick.Turned.{Turned}
 use Rattle.ticks.specs.declared.tick.Ticked.{Ticked}
-use Rattle.ticks.specs.Tick.{Turn, turn_by, outputs_below, turned, wires_of, lines, turned_in, ticked, idle, tick}
+use Rattle.ticks.specs.Tick.{Turn, outputs_below, turned, wires_of, lines, turned_in, ticked, idle, tick}
 use Rattle.ticks.specs.Rest.{steady_wires}
 use Rattle.ticks.proofs.Cases.{by-tick, tick-own, tick-other, all-or-named}
 use Rattle.ticks.proofs.Ticks.{outputs-built}
-use Rattle.steady.specs.Steady.{quick_ticks, cell_holds, cell_through, least, least_holds, same_words, same_outputs, same_but}
+use Rattle.steady.specs.Steady.{quick_ticks, cell_holds, cell_through, least, least_holds, same_words, same_but}
 use Rattle.steady.specs.Steady.{steady_from, steady_for, tallied_for, cells_through, card_through}
 use Rattle.steady.proofs.Cells.{turn-through, through-itself, through-zero}
 use Rattle.steady.proofs.Tallied.{tallied-zero, tallied-next}
-use Rattle.steady.proofs.Turns.{steady_reads, steady_turn, turn-steady, first-turn, first_out, steady-turned}
+use Rattle.steady.proofs.Turns.{steady_reads, steady_turn, first_out, steady-turned}
 
 -- ---- the least of all cells
 

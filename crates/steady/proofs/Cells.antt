@@ -1,12 +1,12 @@
 -- One cell in a steady stretch: worked out again with the same readings, its count goes on as it did, with the same output.
-use Prim.Native.Nat.{ℕ, zero, suc, ◌+◌, ◌-◌, ◌≤◌, ◌<◌}
-use mathlib.Core.Path.{◌≡◌, refl, sym, ap, subst, ◌∙◌}
-use mathlib.Core.Bool.{Bool, true, false, not, ◌&&◌, ◌||◌, beq, cond, true≢false, false≢true}
-use native.Mathlib.Nat.{not-suc-le-zero, le_refl}
+use Prim.Native.Nat.{ℕ, suc, ◌+◌, ◌-◌, ◌≤◌, ◌<◌}
+use mathlib.Core.Path.{◌≡◌, refl, sym, ap, ◌∙◌}
+use mathlib.Core.Bool.{Bool, true, false, not, ◌&&◌, ◌||◌, beq, cond, true≢false}
+use native.Mathlib.Nat.{not-suc-le-zero}
 use native.Mathlib.Omega.{arith}
 use lib.Dec.{eqb, ltb}
-use borrow.Author.Tests.{eqb-true, eqb-false, lt-ltb, le-ltb, ne_eqb, ltb-true, ltb-false}
-use Rattle.words.proofs.Bools.{or_left, or_right, and_left, and_right}
+use borrow.Author.Tests.{eqb-true, eqb-false, lt-ltb, le-ltb, ne_eqb}
+use Rattle.words.proofs.Bools.{and_left, and_right}
 use Rattle.cells.specs.declared.table.Slots.{Slots}
 use Rattle.cells.specs.declared.table.Class.{Class}
 use Rattle.cells.specs.declared.table.Class.TheVariants.{Nothing, Constant, Gate, Flop, OneShot, Delay, Counter}
@@ -19,9 +19,9 @@ use Rattle.cells.specs.State.{state, state_of, with_state}
 use Rattle.cells.specs.Table.{row_of, masked}
 use Rattle.cells.specs.Work.{pulses, largest_count, trigger, taken, shot_busy, delay_busy, next_count, next_pulse, raised}
 use Rattle.cells.specs.Work.{counted_up, active_after, kept_active, work_as, work_out}
-use Rattle.cells.specs.Wake.{stirred_as, stirred, wakes}
+use Rattle.cells.specs.Wake.{stirred_as, stirred}
 use Rattle.cells.proofs.Laws.{wakes-splits, disagree-self}
-use Rattle.ticks.specs.Tick.{Turn, turn_to, worked_turn, slept_turn, rules_name, turn_by}
+use Rattle.ticks.specs.Tick.{Turn, worked_turn, slept_turn, rules_name, turn_by}
 use Rattle.ticks.proofs.Cases.{by_turn}
 use Rattle.steady.specs.Steady.{count_holds, state_holds, count_through, state_through, cell_holds, cell_through}
 

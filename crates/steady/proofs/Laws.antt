@@ -1,12 +1,12 @@
 -- In steady ticks nothing but counts changes; a card at rest is steady for ever; what is asked for is made.
 use Prim.Native.Nat.{ℕ, zero, suc, ◌≤◌, ◌<◌}
 use mathlib.Core.Path.{◌≡◌, refl, sym, ap, subst, ◌∙◌}
-use mathlib.Core.Bool.{Bool, true, false, not, ◌||◌, beq, cond, false≢true}
+use mathlib.Core.Bool.{Bool, true, false, not, beq, cond, false≢true}
 use mathlib.Core.List.{List}
 use native.Mathlib.Omega.{arith}
 use lib.Dec.{eqb, ltb}
 use lib.ListN.{get_or}
-use borrow.Author.Tests.{eq-eqb, lt-ltb, le-ltb}
+use borrow.Author.Tests.{eq-eqb, le-ltb}
 use Rattle.words.proofs.Bools.{and_both}
 use Rattle.words.proofs.Listed.{front_at}
 use Rattle.cells.specs.declared.cell.Cell.{Cell}
@@ -18,7 +18,7 @@ use Rattle.card.proofs.TallyLaws.{by_less}
 use Rattle.ticks.specs.declared.view.Input.{Input}
 use Rattle.ticks.specs.declared.tick.Ticked.{Ticked}
 use Rattle.ticks.specs.Tick.{tick}
-use Rattle.ticks.specs.Rest.{AtRest, with_total, rest_total}
+use Rattle.ticks.specs.Rest.{with_total, rest_total}
 use Rattle.ticks.proofs.AtRest.{rest-card}
 use Rattle.ticks.proofs.Cases.{by-tick}
 use Rattle.steady.specs.Steady.{forever, quick_ticks, count_holds, state_holds, cell_holds, cell_through, least, least_holds, same_but, steady_from}

@@ -1,7 +1,7 @@
 -- Ticks at once among calls: on a settled card the tick calls leave the card that the quick ticks one after the other leave, and in a steady stretch each
 -- answers what the first does.
 use Prim.Native.Nat.{ℕ, zero, suc, ◌+◌, ◌≤◌, ◌<◌}
-use mathlib.Core.Path.{◌≡◌, refl, sym, ap, ap₂, subst, ◌∙◌}
+use mathlib.Core.Path.{◌≡◌, refl, sym, ap, subst, ◌∙◌}
 use mathlib.Core.Bool.{Bool, false}
 use mathlib.Core.List.Forall₂
 use mathlib.Core.List.{List, [], ◌∷◌, ◌++◌, map}
@@ -17,7 +17,7 @@ use Rattle.ticks.specs.Tick
 use Rattle.ticks.specs.Settled.{Settled}
 use Rattle.ticks.proofs.Sleep.{fresh-settled, tick-settled}
 use Rattle.calls.specs.Runs.{end_of, answers_of}
-use Rattle.calls.specs.Calls.{Call, after_call, answer, end, answers}
+use Rattle.calls.specs.Calls.{after_call, answer, end, answers}
 use Rattle.calls.specs.Calls.Reply.{tick_reply}
 use Rattle.calls.specs.Demand3.{AlikeReplies}
 use Rattle.calls.specs.Demand3.AlikeReply.{alike-tick}

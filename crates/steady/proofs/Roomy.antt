@@ -1,6 +1,6 @@
 -- A card that calls reach has room for its cells and tallies.
-use Prim.Native.Nat.{ℕ, ◌+◌, ◌-◌, ◌≤◌}
-use mathlib.Core.Path.{◌≡◌, refl, sym, ap, subst, ◌∙◌}
+use Prim.Native.Nat.{ℕ, ◌-◌, ◌≤◌}
+use mathlib.Core.Path.{sym, ap, subst}
 use mathlib.Core.Bool.{Bool, true, false, cond}
 use mathlib.Core.List.{List, ◌++◌, map}
 use native.Mathlib.Omega.{arith}
@@ -9,7 +9,6 @@ use lib.ListN.{length, take, drop, set, replicate, length-append, length-map, le
 use Rattle.words.specs.Listed.{listed}
 use Rattle.words.proofs.Listed.{length-listed}
 use Rattle.cells.specs.declared.cell.Cell.{Cell}
-use Rattle.cells.specs.declared.cell.Ticks.{Ticks}
 use Rattle.card.specs.declared.card.Card.{Card}
 use Rattle.card.specs.declared.change.Change.{Change}
 use Rattle.card.specs.declared.change.Change.TheVariants.{Nothing, Pointer, Trigger, Home, Preset, Kind, Config, State, Slots, ConnectorKind, Source}

@@ -1,7 +1,7 @@
 -- The turns of all cells in a tick whose words are those of the last two: each cell has its turn with the one view that all readers have.
 use Prim.Native.Nat.{ℕ, zero, suc, ◌+◌, ◌*◌, ◌^◌, ◌≤◌, ◌<◌}
-use mathlib.Core.Path.{◌≡◌, refl, sym, ap, ap₂, subst, ◌∙◌}
-use mathlib.Core.Bool.{Bool, true, false}
+use mathlib.Core.Path.{◌≡◌, refl, sym, ap, ap₂, ◌∙◌}
+use mathlib.Core.Bool.{Bool, false}
 use mathlib.Core.List.{List, ◌++◌}
 use native.Mathlib.Nat.{le_refl, le_of_lt, lt_of_lt_of_le}
 use lib.ListN.{drop, get_or}
@@ -12,8 +12,6 @@ use Rattle.words.proofs.Listed.{listed_same}
 use Rattle.cells.specs.declared.table.Slots.{Slots}
 use Rattle.cells.specs.declared.cell.Cell.{Cell}
 use Rattle.card.specs.Fresh.{no_cell}
-use Rattle.ticks.specs.declared.view.Wires.{Wires}
-use Rattle.ticks.specs.declared.tick.Turned.{Turned}
 use Rattle.ticks.specs.Reading.{slots_read, view}
 use Rattle.ticks.specs.Tick.{Turn, read_now, read_last, turn_by, turn_at, outputs_below, turn_of, cell_after, turn_named, woke_at, turned}
 use Rattle.ticks.specs.Rest.{steady_wires}

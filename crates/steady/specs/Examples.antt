@@ -1,9 +1,8 @@
 -- Steady cards and cards that are not, by computation.
-use Rattle.std.specs.Prelude.{ℕ, ◌≡◌, refl, Bool, true, false, cond, List, [], ◌∷◌, set, get_or}
+use Rattle.std.specs.Prelude.{ℕ, ◌≡◌, refl, Bool, true, false, cond, [], ◌∷◌, set, get_or}
 use Rattle.std.specs.Int.Count.{ones, ones_in}
 use Rattle.words.specs.Bits.{bit_at, word_of}
 use Rattle.words.specs.Listed.{listed}
-use Rattle.cells.specs.declared.cell.Cell.{Cell}
 use Rattle.cells.specs.State.{state, cell_of}
 use Rattle.cells.specs.Table.{row_of}
 use Rattle.cells.specs.Work.{pulses, taken, raised, work_as, work_out}
@@ -13,7 +12,6 @@ use Rattle.card.specs.Address.{cell_count}
 use Rattle.card.specs.Connectors.{kind_at, source_at}
 use Rattle.card.specs.Fresh.{fresh, no_cell}
 use Rattle.card.specs.Tally.{ticks, tally_of, counted, tallied_by}
-use Rattle.ticks.specs.declared.view.Input.{Input}
 use Rattle.ticks.specs.Reading.{level_at, reads_levels, reads, slots_read, mixed, view}
 use Rattle.ticks.specs.Levels.{effective_sample, driven_word, pulled_word, levels_from, lines_of}
 use Rattle.ticks.specs.Tick.{read_now, read_last, named, turn_at, outputs_below, turned, tick}

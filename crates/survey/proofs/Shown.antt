@@ -1,6 +1,6 @@
 -- What rounds find and leave is what the call gives, on any card: so the rows of the examples are rows of the call.
 use Prim.Native.Nat.{ℕ, ◌-◌, ◌≤◌}
-use mathlib.Core.Path.{◌≡◌, sym, ap, ◌∙◌}
+use mathlib.Core.Path.{◌≡◌, sym, ap}
 use mathlib.Core.Bool.{true}
 use native.Mathlib.Omega.{arith}
 use Rattle.card.specs.declared.card.Card.{Card}

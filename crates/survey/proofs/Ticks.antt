@@ -17,7 +17,7 @@ use Rattle.card.proofs.TallyLaws.{tallied-total, tallied-at, tallied-off}
 use Rattle.ticks.specs.declared.view.Input.{Input}
 use Rattle.ticks.specs.declared.view.Wires.{Wires}
 use Rattle.ticks.specs.Tick.{Turn, turn_at, outputs_below, cell_after, turn_named, woke_at, turned, wires_of, lines, ticked, idle, tick}
-use Rattle.ticks.specs.Runs.{Ticks, after_tick, cell_at, runs}
+use Rattle.ticks.specs.Runs.{Ticks, after_tick, cell_at}
 use Rattle.ticks.proofs.Cases.{by_turn, by-tick, by-ticks}
 use Rattle.ticks.proofs.Sleep.{output-bit}
 use Rattle.ticks.proofs.Trim.{cut}

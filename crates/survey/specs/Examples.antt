@@ -1,6 +1,6 @@
 -- Surveys by computation, worked out from document 02, 11: rounds find the two words, and the next
 -- round adds nothing. Law `settles-shown` makes each row a row of the call.
-use Rattle.std.specs.Prelude.{ℕ, ◌-◌, ◌≡◌, refl, false, List, [], ◌∷◌, set}
+use Rattle.std.specs.Prelude.{ℕ, ◌-◌, ◌≡◌, refl, List, [], ◌∷◌, set}
 use Rattle.words.specs.Bits.{bit_at, word_of}
 use Rattle.cells.specs.declared.cell.Cell.{Cell}
 use Rattle.words.specs.Listed.{listed}
@@ -8,7 +8,7 @@ use Rattle.cells.specs.Table.{row_of}
 use Rattle.card.specs.declared.card.Card.{Card}
 use Rattle.card.specs.declared.card.Connector.{Connector}
 use Rattle.card.specs.declared.card.Connectors.{Connectors}
-use Rattle.card.specs.Address.{cell_count, cell_room, connector_count, first_connector, among}
+use Rattle.card.specs.Address.{cell_count, cell_room, first_connector}
 use Rattle.card.specs.Connectors.{open_drain_type, push_pull_type, kind_at, source_at, with_source, from_each}
 use Rattle.card.specs.Fresh.{fresh_of, fresh_connectors}
 use Rattle.card.specs.Presets.{whole}

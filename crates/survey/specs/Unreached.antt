@@ -1,6 +1,6 @@
 -- Document 02, "How far does one line reach", its last sentence: what is promised of every cell and
 -- connector outside the set. Over the number n of cells.
-use Rattle.std.specs.Prelude.{ℕ, ◌+◌, ◌-◌, ◌<◌, ◌≡◌, Bool, true, false, List, [], ◌∷◌}
+use Rattle.std.specs.Prelude.{ℕ, ◌+◌, ◌-◌, ◌<◌, ◌≡◌, Bool, true, false, [], ◌∷◌}
 use Rattle.words.specs.Bits.{bit_at}
 use Rattle.card.specs.declared.card.Card.{Card}
 use Rattle.card.specs.Address.{connector_count, first_cell, first_connector, among}

@@ -1,8 +1,7 @@
 -- Printed wirings written out from document 02, as one table by computation.
-use Rattle.std.specs.Prelude.{ℕ, ◌+◌, ◌≡◌, refl, true, List, [], ◌∷◌, ◌++◌, map, length, take, drop, replicate}
+use Rattle.std.specs.Prelude.{ℕ, ◌≡◌, refl, true, List, [], ◌∷◌, ◌++◌, map, length, take, drop, replicate}
 use Rattle.text.specs.Decimal.{decimal_from, decimal}
 use Rattle.text.specs.Written.{bytes_of}
-use Rattle.cells.specs.declared.cell.Cell.{Cell}
 use Rattle.cells.specs.Table.{row_of}
 use Rattle.card.specs.Connectors.{kind_at, source_at, with_kind, with_source, each, from_each, well_formed}
 use Rattle.words.specs.Bits.{bit_at, word_of}

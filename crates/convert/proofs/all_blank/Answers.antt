@@ -1,5 +1,5 @@
 -- `convert::all_blank` meets its contract: after i turns the first i cells above those of a small card are tested.
-use Prim.Native.Nat.{ℕ, ◌+◌, ◌-◌, ◌<◌, zero-le}
+use Prim.Native.Nat.{ℕ, ◌+◌, ◌<◌, zero-le}
 use mathlib.Core.Path.{◌≡◌, refl, sym, ap, ◌∙◌}
 use native.Mathlib.Omega.{arith}
 use lib.ListN.{length, take, drop, length-drop}
@@ -8,7 +8,7 @@ use borrow.Author.Rules.{rules}
 use Rattle.card.specs.Address.{cell_count}
 use Rattle.card.specs.Fresh.{no_cell}
 use Rattle.text.specs.Digits.{every}
-use Rattle.card.proofs.Settings.{Tested, tested-next}
+use Rattle.card.proofs.Settings.{tested-next}
 use Rattle.convert.specs.Convert.{is_blank}
 use Rattle.convert.proofs.all_blank.Goals as goal
 

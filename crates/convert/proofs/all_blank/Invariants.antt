@@ -1,14 +1,8 @@
 -- `convert::all_blank` meets its contract: after i turns the first i cells above those of a small card are tested.
-use Prim.Native.Nat.{ℕ, ◌+◌, ◌-◌, ◌<◌, zero-le}
-use mathlib.Core.Path.{◌≡◌, refl, sym, ap, ◌∙◌}
-use native.Mathlib.Omega.{arith}
-use lib.ListN.{length, take, drop, length-drop}
-use lib.Seq.{get_or-drop}
-use borrow.Author.Rules.{rules}
+use Prim.Native.Nat.{◌-◌}
+use lib.ListN.{drop}
 use Rattle.card.specs.Address.{cell_count}
-use Rattle.card.specs.Fresh.{no_cell}
-use Rattle.text.specs.Digits.{every}
-use Rattle.card.proofs.Settings.{Tested, tested-next}
+use Rattle.card.proofs.Settings.{Tested}
 use Rattle.convert.specs.Convert.{is_blank}
 use Rattle.convert.proofs.all_blank.Given as goal
 

@@ -1,12 +1,6 @@
 -- `convert::all_narrow` meets its contract: after i turns the first i cells are tested.
-use Prim.Native.Nat.{ℕ, ◌-◌, zero-le}
-use mathlib.Core.Path.{◌≡◌, refl, ap, ◌∙◌}
-use native.Mathlib.Omega.{arith}
-use lib.ListN.{take}
-use borrow.Author.Rules.{rules}
-use Rattle.card.specs.Fresh.{no_cell}
-use Rattle.text.specs.Digits.{every}
-use Rattle.card.proofs.Settings.{Tested, tested-next}
+use Prim.Native.Nat.{◌-◌}
+use Rattle.card.proofs.Settings.{Tested}
 use Rattle.convert.specs.Convert.{narrow_cell}
 use Rattle.convert.proofs.all_narrow.Given as goal
 

@@ -1,17 +1,14 @@
 -- `reasons::each` meets its contract: after i turns the first i entries are the reasons of the first i cells.
-use Prim.Native.Nat.{ℕ, ◌-◌, ◌≤◌, zero-le}
-use mathlib.Core.Path.{◌≡◌, refl}
+use Prim.Native.Nat.{ℕ, ◌-◌, ◌≤◌}
+use mathlib.Core.Path.{◌≡◌}
 use mathlib.Core.List.{List, ◌++◌}
-use native.Mathlib.Omega.{arith}
 use lib.ListN.{drop, get_or}
-use borrow.Author.Rules.{rules}
 use Rattle.words.specs.Listed.{listed}
-use Rattle.words.proofs.Listed.{listed_next}
 use Rattle.cells.specs.declared.cell.Cell.{Cell}
 use Rattle.reasons.specs.declared.cell.Reasons.{Reasons}
 use Rattle.card.specs.Fresh.{no_cell}
 use Rattle.ticks.specs.declared.view.Wires.{Wires}
-use Rattle.reasons.specs.Reasons.{reasons_at, no_reasons}
+use Rattle.reasons.specs.Reasons.{reasons_at}
 use Rattle.reasons.proofs.each.Given as goal
 
 abbrev pub at : ℕ → List Cell → ℕ → Wires → ℕ → ℕ → Reasons

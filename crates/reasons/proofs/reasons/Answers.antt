@@ -9,12 +9,11 @@ use Rattle.reasons.specs.declared.cell.Reasons.{Reasons}
 use Rattle.card.specs.declared.card.Memory.{Memory}
 use Rattle.card.specs.Address.{cell_count, cell_room, cells_for}
 use Rattle.ticks.specs.declared.view.Wires.{Wires}
-use Rattle.ticks.specs.Tick.{tick, wires_of}
+use Rattle.ticks.specs.Tick.{tick}
 use Rattle.ticks.specs.Words.{Fits, FitsMemory}
 use Rattle.ticks.proofs.Trim.{trim-fits}
 use Rattle.reasons.specs.Reasons.{no_reasons, tick_reasons}
 use Rattle.reasons.proofs.Laws.{idle-none, ran-trimmed, ran-fits}
-use borrow.Author.Rules.{rules}
 use Rattle.reasons.proofs.reasons.Goals as goal
 
 -- the room is filled, whichever size

@@ -1,8 +1,5 @@
 -- `reasons::reasons_at` meets its contract: the slots read from the words what they read by the views of the two ticks.
-use Prim.Native.Nat.{ℕ}
-use mathlib.Core.Path.{ap, ap₂, ◌∙◌}
-use mathlib.Core.Bool.{Bool}
-use Rattle.cells.specs.declared.table.Slots.{Slots}
+use mathlib.Core.Path.{◌∙◌}
 use Rattle.reasons.specs.CellReasons.{reasons_of}
 use Rattle.ticks.specs.Tick.{sees_now, saw_last, saw_earlier, read_now, read_last}
 use Rattle.ticks.proofs.Words.{Holds, slots-as}

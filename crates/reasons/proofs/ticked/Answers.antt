@@ -3,7 +3,6 @@ use mathlib.Core.Path.{sym, ap, ◌∙◌}
 use mathlib.Core.Bool.{Bool}
 use Rattle.card.specs.Address.{cells_for}
 use Rattle.ticks.specs.Tick.{tick}
-use borrow.Author.Rules.{rules}
 use Rattle.reasons.proofs.ticked.Goals as goal
 
 pub returns-then-full : goal.returns-then-full

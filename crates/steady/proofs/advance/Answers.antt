@@ -9,13 +9,6 @@ use Rattle.ticks.specs.declared.tick.Ticked.{Ticked}
 use Rattle.ticks.proofs.Turns.{as_long}
 use Rattle.steady.specs.Steady.{steady_from, steady_for, card_through, made_of}
 use Rattle.steady.proofs.Made.{made_none, made-first, made-many, made-within, holds-all}
-use Rattle.steady.proofs.advance.Reads as reads
-use Rattle.card.proofs.place.cells_for.Reads as cells-for-reads
-use Rattle.steady.proofs.card_through.Reads as card-through-reads
-use Rattle.steady.proofs.made_of.Reads as made-of-reads
-use Rattle.steady.proofs.steady_from.Reads as steady-from-reads
-use Rattle.ticks.proofs.tick.idle.Reads as idle-reads
-use Rattle.ticks.proofs.tick.quick_tick.Reads as quick-tick-reads
 use Rattle.steady.proofs.advance.Goals as goal
 use Rattle.steady.proofs.advance.Goals.{After-made_of-m, Start}
 

@@ -1,9 +1,5 @@
 -- `steady::card_through` meets its contract.
-use borrow.Author.Rules.{rules}
 use Rattle.steady.proofs.Made.{ran-through, idle-through}
-use Rattle.steady.proofs.card_through.Reads as reads
-use Rattle.steady.proofs.cells_through.Reads as cells-through-reads
-use Rattle.steady.proofs.tallies_through.Reads as tallies-through-reads
 use Rattle.steady.proofs.card_through.Goals as goal
 
 pub returns-then-answer : goal.returns-then-answer

@@ -1,6 +1,4 @@
 -- `steady::cell_holds` meets its contract.
-use mathlib.Core.Path.{◌∙◌}
-use borrow.Author.Rules.{rules}
 use Rattle.steady.specs.Steady.{state_holds}
 use Rattle.steady.proofs.cell_holds.Goals as goal
 

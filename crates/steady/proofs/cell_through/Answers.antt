@@ -4,8 +4,6 @@ use mathlib.Core.Path.{ap}
 use Rattle.cells.specs.State.{state_of, with_state}
 use Rattle.steady.proofs.Cells.{at}
 use Rattle.steady.proofs.Cases.{room-cell}
-use Rattle.steady.proofs.cell_through.Reads as reads
-use Rattle.steady.proofs.count_through.Reads as count-through-reads
 use Rattle.steady.proofs.cell_through.Goals as goal
 
 pub count_through-count-requires : goal.count_through-count-requires

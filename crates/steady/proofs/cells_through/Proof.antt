@@ -1,7 +1,7 @@
 -- `steady::cells_through` meets its contract: after i turns the first i cells are those after the ticks.
 use Prim.Native.Nat.{ℕ, ◌-◌, ◌≤◌, zero-le}
 use mathlib.Core.Path.{◌≡◌, refl}
-use mathlib.Core.List.{List, ◌++◌}
+use mathlib.Core.List.{◌++◌}
 use native.Mathlib.Omega.{arith}
 use lib.ListN.{drop, get_or}
 use borrow.Author.Rules.{rules}
@@ -13,9 +13,6 @@ use Rattle.steady.specs.Steady.{cell_through}
 use Rattle.steady.proofs.Cards.{least_at}
 use Rattle.steady.proofs.cells_through.Statement.{statement}
 use Rattle.steady.proofs.cells_through.Tie as tie
-use Rattle.steady.proofs.cells_through.Reads as reads
-use Rattle.steady.proofs.cells_through.Lts as lts
-use Rattle.steady.proofs.cell_through.Reads as cell-through-reads
 
 abbrev invariant-loop : tie.invariant-loop-i
 invariant-loop m n before after next₀ i₀ i-end next i = (i ≤ n) × (next ≡ listed (λ i. cell_through (get_or before i no_cell) (get_or after i no_cell) m) i ++ drop i before)

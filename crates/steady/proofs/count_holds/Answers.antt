@@ -1,6 +1,5 @@
 -- `steady::count_holds` meets its contract: test by test.
 use mathlib.Core.Path.{◌∙◌}
-use native.Mathlib.Omega.{arith}
 use borrow.Author.Rules.{rules}
 use Rattle.steady.proofs.Cases.{holds-1, holds-2, holds-3, holds-4, holds-5}
 use Rattle.steady.proofs.count_holds.Goals as goal

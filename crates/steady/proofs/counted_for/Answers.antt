@@ -1,6 +1,5 @@
 -- `steady::counted_for` meets its contract.
 use mathlib.Core.Path.{ap}
-use borrow.Author.Rules.{rules}
 use Rattle.card.specs.Tally.{ticks}
 use Rattle.steady.specs.Steady.{counted_for}
 use Rattle.steady.proofs.counted_for.Goals as goal

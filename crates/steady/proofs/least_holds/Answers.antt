@@ -1,8 +1,7 @@
 -- `steady::least_holds` meets its contract: after i turns it is the least of the first i cells.
-use Prim.Native.Nat.{◌-◌, ◌≤◌, zero-le}
+use Prim.Native.Nat.{zero-le}
 use mathlib.Core.Path.{◌≡◌, refl, ◌∙◌}
 use native.Mathlib.Omega.{arith}
-use borrow.Author.Rules.{rules}
 use Rattle.steady.specs.Steady.{least_holds}
 use Rattle.steady.proofs.Cases.{least-next}
 use Rattle.steady.proofs.least_holds.Goals as goal

@@ -1,10 +1,7 @@
 -- `steady::least_holds` meets its contract: after i turns it is the least of the first i cells.
-use Prim.Native.Nat.{◌-◌, ◌≤◌, zero-le}
-use mathlib.Core.Path.{◌≡◌, refl, ◌∙◌}
-use native.Mathlib.Omega.{arith}
-use borrow.Author.Rules.{rules}
+use Prim.Native.Nat.{◌-◌, ◌≤◌}
+use mathlib.Core.Path.{◌≡◌}
 use Rattle.steady.specs.Steady.{least_holds}
-use Rattle.steady.proofs.Cases.{least-next}
 use Rattle.steady.proofs.least_holds.Given as goal
 
 abbrev pub invariant-loop-i : goal.invariant-loop-i

@@ -2,8 +2,6 @@
 use borrow.Author.Rules.{rules}
 use mathlib.Core.Path.{◌∙◌}
 use Rattle.steady.proofs.Cases.{made_one, made_more}
-use Rattle.steady.proofs.made_of.Reads as reads
-use Rattle.steady.proofs.least.Reads as least-reads
 use Rattle.steady.proofs.made_of.Goals as goal
 
 pub returns-then-steady-lt1 : goal.returns-then-steady-lt1

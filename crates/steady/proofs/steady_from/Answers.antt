@@ -1,13 +1,9 @@
 -- `steady::steady_from` meets its contract.
-use borrow.Author.Rules.{rules}
 use mathlib.Core.Path.{◌≡◌, sym, ap, ◌∙◌}
 use mathlib.Core.Bool.{Bool, true, false, ◌&&◌}
 use lib.Dec.{eqb}
 use Rattle.steady.specs.Steady.{same_but}
 use Rattle.steady.proofs.Cases.{steady_then, steady-else}
-use Rattle.steady.proofs.steady_from.Reads as reads
-use Rattle.steady.proofs.least_holds.Reads as least-holds-reads
-use Rattle.steady.proofs.same_memory.Reads as same-memory-reads
 use Rattle.steady.proofs.steady_from.Goals as goal
 use Rattle.steady.proofs.steady_from.Goals.{After-same_memory}
 

@@ -1,9 +1,9 @@
 -- `steady::tallies_through` meets its contract: after i turns the first i tallies are those after the ticks.
 use Prim.Native.Nat.{ℕ, ◌-◌, ◌≤◌, ◌<◌, zero-le}
-use mathlib.Core.Path.{◌≡◌, refl, sym, ap, ap₂, subst, ◌∙◌}
-use mathlib.Core.List.{List, ◌++◌, map}
+use mathlib.Core.Path.{◌≡◌, refl, sym, ap, subst, ◌∙◌}
+use mathlib.Core.List.{◌++◌}
 use native.Mathlib.Omega.{arith}
-use lib.ListN.{drop, get_or, length, length-map}
+use lib.ListN.{drop, get_or, length}
 use borrow.Author.Rules.{rules}
 use Rattle.words.specs.Bits.{bit_at}
 use Rattle.words.specs.Listed.{listed}
@@ -16,11 +16,6 @@ use Rattle.steady.specs.Steady.{counted_for, tallies_on, tallied_for}
 use Rattle.steady.proofs.Tallied.{after-least}
 use Rattle.steady.proofs.tallies_through.Statement.{statement}
 use Rattle.steady.proofs.tallies_through.Tie as tie
-use Rattle.steady.proofs.tallies_through.Reads as reads
-use Rattle.steady.proofs.tallies_through.Lts as lts
-use Rattle.steady.proofs.counted_for.Reads as counted-for-reads
-use Rattle.steady.proofs.total_after.Reads as total-after-reads
-use Rattle.words.proofs.bit.Reads as bit-reads
 
 abbrev invariant-loop : tie.invariant-loop-i
 invariant-loop named m n total d next₀ i₀ i-end next i = (i ≤ n)

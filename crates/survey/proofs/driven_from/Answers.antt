@@ -3,7 +3,6 @@ use mathlib.Core.Path.{ap}
 use mathlib.Core.Bool.{Bool, ◌&&◌}
 use Rattle.card.specs.Connectors.{is_output}
 use Rattle.survey.specs.Survey.{driven_from}
-use borrow.Author.Rules.{rules}
 use Rattle.survey.proofs.driven_from.Goals as goal
 
 pub returns : goal.returns

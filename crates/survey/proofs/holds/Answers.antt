@@ -1,6 +1,5 @@
 -- `survey::holds` meets its contract.
 use mathlib.Core.Path.{ap, ◌∙◌}
-use borrow.Author.Rules.{rules}
 use Rattle.words.specs.Bits.{bit_at}
 use Rattle.survey.proofs.holds.Goals as goal
 

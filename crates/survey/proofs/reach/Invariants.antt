@@ -1,21 +1,10 @@
 -- `survey::reach` meets its contract: after each turn the two words are those of some number of rounds, and the loop ends where a round adds nothing.
-use Prim.Native.Nat.{ℕ, zero, suc, ◌+◌, ◌-◌, ◌^◌, ◌≤◌, ◌<◌}
-use mathlib.Core.Path.{◌≡◌, refl, sym, ap, ◌∙◌}
-use mathlib.Core.Bool.{Bool, true, false, ◌&&◌}
+use Prim.Native.Nat.{ℕ, ◌+◌, ◌-◌}
+use mathlib.Core.Path.{◌≡◌}
 use mathlib.Core.List.{List}
-use native.Mathlib.Nat.{lt_of_lt_of_le}
-use native.Mathlib.Omega.{arith}
-use lib.Bits.{bit_or}
-use lib.Dec.{eqb}
-use lib.Pow.{pow_mono}
-use borrow.Author.Rules.{rules}
-use borrow.Author.Tests.{eqb-true, eqb-false}
 use Rattle.cells.specs.declared.cell.Cell.{Cell}
-use Rattle.words.proofs.Bools.{and_left, and_right}
 use Rattle.card.specs.declared.card.Connectors.{Connectors}
-use Rattle.card.specs.Address.{cell_room, connector_count}
 use Rattle.survey.specs.Rounds.{rounds}
-use Rattle.survey.proofs.Smallest.{or-ge, rounds-fit, round-cells, round-lines, settled-smallest, readers-seen, followers-seen}
 use Rattle.survey.proofs.reach.Given as goal
 
 -- words only grow, and none is longer than 32 bits and 16

@@ -3,7 +3,6 @@ use mathlib.Core.Path.{◌∙◌}
 use Rattle.cells.specs.Table.{slots, masked, any_slot, row_of}
 use Rattle.cells.proofs.Packed.{set-of}
 use Rattle.survey.specs.Survey.{reads_set}
-use borrow.Author.Rules.{rules}
 use Rattle.survey.proofs.reads_set.Goals as goal
 
 pub returns : goal.returns

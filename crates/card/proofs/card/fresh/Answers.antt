@@ -1,5 +1,4 @@
 -- `card::card::fresh` meets its contract: a small card.
-use Rattle.std.proofs.Common.{rules}
 use Rattle.card.specs.Address.{cells_for}
 use Rattle.card.specs.Fresh
 use Rattle.card.proofs.card.fresh.Goals as goal

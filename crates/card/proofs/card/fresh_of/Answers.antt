@@ -1,5 +1,5 @@
 -- `card::card::fresh_of` meets its contract: a card that powers up with the fresh settings, all its room filled with constants 0.
-use Rattle.std.proofs.Common.{◌≡◌, ℕ, ◌-◌, Bool, true, false, cond, eqb, List, ◌++◌, replicate, sym, refl, ap, ◌∙◌, ap₂, rules}
+use Rattle.std.proofs.Common.{◌≡◌, ℕ, ◌-◌, Bool, true, false, cond, eqb, List, ◌++◌, replicate, refl, ◌∙◌, ap₂}
 use Rattle.cells.specs.declared.cell.Cell.{Cell}
 use Rattle.card.specs.Address.{cell_count, cell_room, cells_for}
 use Rattle.card.specs.Fresh

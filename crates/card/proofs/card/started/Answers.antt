@@ -1,5 +1,4 @@
 -- `card::card::started` meets its contract: no tick is counted.
-use Rattle.std.proofs.Common.{rules}
 use Rattle.card.proofs.card.started.Goals as goal
 
 pub returns : goal.returns

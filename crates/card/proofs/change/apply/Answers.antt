@@ -1,6 +1,5 @@
 -- `card::change::apply` meets its contract: each arm is the change that it names.
 use Rattle.card.specs.Change.{changed}
-use Rattle.std.proofs.Common.{rules}
 use Rattle.card.proofs.change.apply.Goals as goal
 
 pub returns-in-Nothing : goal.returns-in-Nothing

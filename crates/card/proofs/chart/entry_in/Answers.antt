@@ -1,7 +1,5 @@
 -- `card::chart::entry_in` meets its contract: the base is the highest byte, and each of the others is a bit.
-use Rattle.card.specs.declared.chart.Entry.{Entry}
 use Rattle.card.specs.Chart.{entry_in}
-use Rattle.std.proofs.Common.{rules}
 use Rattle.card.proofs.chart.entry_in.Goals as goal
 
 pub returns : goal.returns

@@ -1,5 +1,5 @@
 -- `card::chart::entry_of` meets its contract: the rule at each entry, from the test over the whole table.
-use Rattle.std.proofs.Common.{◌≡◌, ℕ, ◌%◌, ◌<◌, ◌&&◌, ◌||◌, eqb, ltb, leb, ap, ◌∙◌, ap₂, rules}
+use Rattle.std.proofs.Common.{ℕ, ◌&&◌, ◌||◌, eqb, ltb, leb, ap, ◌∙◌, ap₂, rules}
 use Rattle.card.specs.declared.chart.Entry.{Entry}
 use Rattle.card.specs.Address.{cell_count, cell_room, base_of}
 use Rattle.card.proofs.ChartLaws.{entry_at, bases-for}

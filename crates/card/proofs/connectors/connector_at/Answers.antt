@@ -1,6 +1,5 @@
 -- `card::connectors::connector_at` meets its contract: the type by its call, the source at its place.
 use Rattle.card.specs.Connectors.{source_at}
-use Rattle.std.proofs.Common.{rules}
 use Rattle.card.proofs.connectors.connector_at.Goals as goal
 
 pub returns : goal.returns

@@ -1,5 +1,5 @@
 -- `card::connectors::each_of` meets its contract: after k turns the first k are there.
-use Rattle.std.proofs.Common.{◌≡◌, ◌-◌, ◌<◌, ◌≤◌, ◌++◌, drop, replicate, refl, zero-le, le_refl, arith, rules}
+use Rattle.std.proofs.Common.{◌≡◌, ◌<◌, replicate, refl, zero-le, le_refl, arith, rules}
 use Rattle.words.specs.Listed.{listed}
 use Rattle.words.proofs.Listed.{listed_next, listed-done}
 use Rattle.card.specs.Address.{connector_count}

@@ -1,9 +1,8 @@
 -- `card::connectors::each_of` meets its contract: after k turns the first k are there.
-use Rattle.std.proofs.Common.{◌≡◌, ◌-◌, ◌<◌, ◌≤◌, ◌++◌, drop, replicate, refl, zero-le, le_refl, arith, rules}
+use Rattle.std.proofs.Common.{◌≡◌, ◌-◌, ◌≤◌, ◌++◌, drop, replicate}
 use Rattle.words.specs.Listed.{listed}
-use Rattle.words.proofs.Listed.{listed_next, listed-done}
 use Rattle.card.specs.Address.{connector_count}
-use Rattle.card.specs.Connectors.{connector_at, each, no_connector}
+use Rattle.card.specs.Connectors.{connector_at, no_connector}
 use Rattle.card.proofs.connectors.each_of.Given as goal
 
 abbrev pub invariant-loop-k : goal.invariant-loop-k

@@ -1,12 +1,11 @@
 -- `card::connectors::from_each` meets its contract: after k turns the sources and both words have the first k.
-use Rattle.std.proofs.Common.{◌≡◌, ℕ, ◌-◌, ◌^◌, ◌<◌, ◌≤◌, Bool, eqb, List, ◌++◌, get_or, drop, replicate, refl, zero-le, le_refl, arith, rules}
+use Rattle.std.proofs.Common.{◌≡◌, ◌<◌, replicate, refl, zero-le, le_refl, arith, rules}
 use Rattle.words.specs.Bits.{word_of}
 use Rattle.words.specs.Listed.{listed}
 use Rattle.words.proofs.Laws.{built-next, built-fits, built-lt}
 use Rattle.words.proofs.Listed.{listed_next, listed-done}
-use Rattle.card.specs.declared.card.Connector.{Connector}
 use Rattle.card.specs.Address.{connector_count}
-use Rattle.card.specs.Connectors.{open_drain_type, push_pull_type, no_connector, from_each}
+use Rattle.card.specs.Connectors.{open_drain_type, push_pull_type, from_each}
 use Rattle.card.proofs.connectors.from_each.Goals as goal
 use Rattle.card.proofs.connectors.from_each.Invariants.{source_in, is_kind}
 
@@ -16,15 +15,15 @@ loop-k-init c = (zero-le, refl, refl, refl)
 
 pub pushed-push-requires : goal.pushed-push-requires
 pushed-push-requires c = record {
-      i_bound = search rules;
-      w_bound = built-fits _ _ _ c.loop-k.invariant.2;
-    }
+  i_bound = search rules;
+  w_bound = built-fits _ _ _ c.loop-k.invariant.2;
+}
 
 pub pushed-drain-requires : goal.pushed-drain-requires
 pushed-drain-requires c = record {
-      i_bound = search rules;
-      w_bound = built-fits _ _ _ c.loop-k.invariant.3;
-    }
+  i_bound = search rules;
+  w_bound = built-fits _ _ _ c.loop-k.invariant.3;
+}
 
 pub loop-k-preserved : goal.loop-k-preserved
 loop-k-preserved c =

@@ -1,12 +1,10 @@
 -- `card::connectors::from_each` meets its contract: after k turns the sources and both words have the first k.
-use Rattle.std.proofs.Common.{◌≡◌, ℕ, ◌-◌, ◌^◌, ◌<◌, ◌≤◌, Bool, eqb, List, ◌++◌, get_or, drop, replicate, refl, zero-le, le_refl, arith, rules}
+use Rattle.std.proofs.Common.{◌≡◌, ℕ, ◌-◌, ◌≤◌, Bool, eqb, List, ◌++◌, get_or, drop, replicate}
 use Rattle.words.specs.Bits.{word_of}
 use Rattle.words.specs.Listed.{listed}
-use Rattle.words.proofs.Laws.{built-next, built-fits, built-lt}
-use Rattle.words.proofs.Listed.{listed_next, listed-done}
 use Rattle.card.specs.declared.card.Connector.{Connector}
 use Rattle.card.specs.Address.{connector_count}
-use Rattle.card.specs.Connectors.{open_drain_type, push_pull_type, no_connector, from_each}
+use Rattle.card.specs.Connectors.{open_drain_type, push_pull_type, no_connector}
 use Rattle.card.proofs.connectors.from_each.Given as goal
 
 abbrev pub is_kind : ℕ → List Connector → ℕ → Bool

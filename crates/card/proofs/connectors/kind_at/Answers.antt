@@ -1,6 +1,5 @@
 -- `card::connectors::kind_at` meets its contract: the bits are those of the two words.
 use Rattle.card.specs.Connectors.{kind_at}
-use Rattle.std.proofs.Common.{rules}
 use Rattle.card.proofs.connectors.kind_at.Goals as goal
 
 pub returns-then-bit : goal.returns-then-bit

@@ -1,6 +1,5 @@
 -- `card::connectors::with_kind` meets its contract: a bit of each word is made.
 use Rattle.card.specs.Connectors.{with_kind}
-use Rattle.std.proofs.Common.{rules}
 use Rattle.card.proofs.connectors.with_kind.Goals as goal
 
 pub returns : goal.returns

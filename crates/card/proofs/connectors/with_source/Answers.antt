@@ -1,5 +1,5 @@
 -- `card::connectors::with_source` meets its contract: one source is replaced.
-use Rattle.std.proofs.Common.{refl, rules}
+use Rattle.std.proofs.Common.{refl}
 use Rattle.card.specs.Connectors.{with_source}
 use Rattle.card.proofs.connectors.with_source.Goals as goal
 

@@ -1,5 +1,5 @@
 -- `card::context::config_shown` meets its contract: by what the table's row keeps.
-use Rattle.std.proofs.Common.{◌≡◌, true, false, rules}
+use Rattle.std.proofs.Common.{◌≡◌, true, false}
 use Rattle.cells.specs.Table.{row_of}
 use Rattle.card.specs.Valid.{is_counted}
 use Rattle.card.specs.Context.{config_shown}

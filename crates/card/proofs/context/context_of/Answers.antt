@@ -1,5 +1,4 @@
 -- `card::context::context_of` meets its contract: each part by the call that gives it.
-use Rattle.std.proofs.Common.{rules}
 use Rattle.card.proofs.context.context_of.Goals as goal
 
 pub returns : goal.returns

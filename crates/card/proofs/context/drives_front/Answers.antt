@@ -1,5 +1,4 @@
 -- `card::context::drives_front` meets its contract: the place and the type.
-use Rattle.std.proofs.Common.{rules}
 use Rattle.card.proofs.context.drives_front.Goals as goal
 
 pub returns : goal.returns

@@ -1,5 +1,4 @@
 -- `card::context::preset_drives` meets its contract: what the preset sets and the trigger.
-use Rattle.std.proofs.Common.{rules}
 use Rattle.card.proofs.context.preset_drives.Goals as goal
 
 pub returns : goal.returns

@@ -1,5 +1,4 @@
 -- `card::context::read_config` meets its contract: by where the pointer is.
-use Rattle.std.proofs.Common.{rules}
 use Rattle.card.proofs.context.read_config.Goals as goal
 
 pub returns-then-x : goal.returns-then-x

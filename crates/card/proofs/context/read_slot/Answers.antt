@@ -1,5 +1,5 @@
 -- `card::context::read_slot` meets its contract: the test is whether there is such a slot.
-use Rattle.std.proofs.Common.{rules, le-ltb, lt-ltb}
+use Rattle.std.proofs.Common.{le-ltb, lt-ltb}
 use Rattle.card.proofs.context.read_slot.Goals as goal
 
 pub returns-then-i-lt4 : goal.returns-then-i-lt4

@@ -1,5 +1,4 @@
 -- `card::context::read_state` meets its contract: what is kept is said by the type.
-use Rattle.std.proofs.Common.{rules}
 use Rattle.card.proofs.context.read_state.Goals as goal
 
 pub returns : goal.returns

@@ -1,6 +1,5 @@
 -- `card::context::state_as` meets its contract: each arm is a case of the definition.
 use Rattle.card.specs.Context.{state_as}
-use Rattle.std.proofs.Common.{rules}
 use Rattle.card.proofs.context.state_as.Goals as goal
 
 pub returns-in-Stateless : goal.returns-in-Stateless

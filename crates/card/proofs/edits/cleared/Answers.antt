@@ -1,6 +1,5 @@
 -- `card::edits::cleared` meets its contract: after i turns the first i cells are cleared.
-use Rattle.std.proofs.Common.{◌≡◌, ℕ, ◌+◌, ◌-◌, ◌<◌, ◌≤◌, List, ◌++◌, length, get_or, drop, set, sym, refl, ap, ◌∙◌, zero-le, arith, rules}
-use Rattle.words.specs.Listed.{listed}
+use Rattle.std.proofs.Common.{◌≡◌, ℕ, ◌+◌, ◌<◌, List, ◌++◌, length, get_or, drop, set, sym, refl, ap, ◌∙◌, zero-le, arith, rules}
 use Rattle.words.proofs.Listed.{listed_next, listed-mapped}
 use Rattle.cells.specs.declared.cell.Cell.{Cell}
 use Rattle.card.specs.Fresh.{no_cell}

@@ -1,10 +1,6 @@
 -- `card::edits::cleared` meets its contract: after i turns the first i cells are cleared.
-use Rattle.std.proofs.Common.{◌≡◌, ℕ, ◌+◌, ◌-◌, ◌<◌, ◌≤◌, List, ◌++◌, length, get_or, drop, set, sym, refl, ap, ◌∙◌, zero-le, arith, rules}
-use Rattle.words.specs.Listed.{listed}
-use Rattle.words.proofs.Listed.{listed_next, listed-mapped}
-use Rattle.cells.specs.declared.cell.Cell.{Cell}
-use Rattle.card.specs.Fresh.{no_cell}
-use Rattle.card.specs.Edits.{cleared_cell, cleared_cells}
+use Rattle.std.proofs.Common.{◌≡◌, ◌-◌, ◌≤◌}
+use Rattle.card.specs.Edits.{cleared_cells}
 use Rattle.card.proofs.edits.cleared.Given as goal
 
 abbrev pub invariant-loop-i : goal.invariant-loop-i

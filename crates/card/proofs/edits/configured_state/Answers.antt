@@ -1,6 +1,5 @@
 -- `card::edits::configured_state` meets its contract: each arm is a case of the definition.
 use Rattle.card.specs.Edits.{configured_state}
-use Rattle.std.proofs.Common.{rules}
 use Rattle.card.proofs.edits.configured_state.Goals as goal
 
 pub returns-in-Stateless : goal.returns-in-Stateless

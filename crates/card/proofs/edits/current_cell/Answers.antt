@@ -1,5 +1,5 @@
 -- `card::edits::current_cell` meets its contract: the test is whether the pointer is at one.
-use Rattle.std.proofs.Common.{sym, ◌∙◌, arith, rules}
+use Rattle.std.proofs.Common.{sym, ◌∙◌, arith}
 use Rattle.card.specs.Address.{first_cell}
 use Rattle.card.specs.Edits.{current_cell}
 use Rattle.card.proofs.Places.{among-bounds, cells-most}

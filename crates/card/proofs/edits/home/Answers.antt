@@ -1,7 +1,5 @@
 -- `card::edits::home` meets its contract: the cells by `cleared`, and every cell edited.
-use Rattle.std.proofs.Common.{arith, rules}
 use Rattle.card.specs.Edits.{home}
-use Rattle.card.proofs.Places.{cells-most}
 use Rattle.card.proofs.edits.home.Goals as goal
 
 pub returns : goal.returns

@@ -1,5 +1,5 @@
 -- `card::edits::put_cell` meets its contract: one element is replaced, and its bit of the edits set, where the pointer is at a cell.
-use Rattle.std.proofs.Common.{sym, ◌∙◌, arith, rules}
+use Rattle.std.proofs.Common.{sym, ◌∙◌, arith}
 use Rattle.card.specs.Address.{first_cell}
 use Rattle.card.specs.Edits.{put_cell}
 use Rattle.card.proofs.Places.{among-bounds, cells-most}

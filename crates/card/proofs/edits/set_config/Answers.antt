@@ -1,6 +1,5 @@
 -- `card::edits::set_config` meets its contract: by those of its calls.
 use Rattle.card.specs.Edits.{configured, set_config}
-use Rattle.std.proofs.Common.{rules}
 use Rattle.card.proofs.edits.set_config.Goals as goal
 
 pub returns : goal.returns

@@ -1,5 +1,5 @@
 -- `card::edits::set_source` meets its contract: one connector is changed where the pointer is at it.
-use Rattle.std.proofs.Common.{sym, ◌∙◌, arith, rules}
+use Rattle.std.proofs.Common.{sym, ◌∙◌, arith}
 use Rattle.card.specs.Address.{connector_count, first_connector}
 use Rattle.card.specs.Edits.{put_connectors, set_source}
 use Rattle.card.proofs.Places.{among-bounds}

@@ -1,6 +1,5 @@
 -- `card::edits::set_state` meets its contract: by those of its calls.
 use Rattle.card.specs.Edits.{stated, set_state}
-use Rattle.std.proofs.Common.{rules}
 use Rattle.card.proofs.edits.set_state.Goals as goal
 
 pub returns : goal.returns

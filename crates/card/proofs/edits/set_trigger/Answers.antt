@@ -1,5 +1,5 @@
 -- `card::edits::set_trigger` meets its contract: clock 4 makes the first connector an input, and no other clock does.
-use Rattle.std.proofs.Common.{rules, eq-eqb, ne_eqb}
+use Rattle.std.proofs.Common.{eq-eqb, ne_eqb}
 use Rattle.card.specs.Edits.{set_trigger}
 use Rattle.card.proofs.edits.set_trigger.Goals as goal
 

@@ -1,6 +1,5 @@
 -- `card::edits::set_type` meets its contract: by those of its two calls.
 use Rattle.card.specs.Edits.{set_type}
-use Rattle.std.proofs.Common.{rules}
 use Rattle.card.proofs.edits.set_type.Goals as goal
 
 pub returns : goal.returns

@@ -1,6 +1,5 @@
 -- `card::edits::stated_as` meets its contract: each arm is a case of the definition.
 use Rattle.card.specs.Edits.{stated_as}
-use Rattle.std.proofs.Common.{rules}
 use Rattle.card.proofs.edits.stated_as.Goals as goal
 
 pub returns-in-Stateless : goal.returns-in-Stateless

@@ -1,6 +1,5 @@
 -- `card::edits::typed` meets its contract: each slot by `blank_slot`.
 use Rattle.card.specs.Edits.{typed}
-use Rattle.std.proofs.Common.{rules}
 use Rattle.card.proofs.edits.typed.Goals as goal
 
 pub returns : goal.returns

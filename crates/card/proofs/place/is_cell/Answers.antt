@@ -1,5 +1,4 @@
 -- `card::place::is_cell` meets its contract.
-use Rattle.std.proofs.Common.{rules}
 use Rattle.card.proofs.place.is_cell.Goals as goal
 
 pub returns : goal.returns

@@ -1,5 +1,5 @@
 -- `card::presets::apply_preset` meets its contract: the rows say of each cell and connector what the definition says.
-use Rattle.std.proofs.Common.{ℕ, ◌<◌, ◌≤◌, Bool, ◌||◌, List, ◌++◌, get_or, drop, sym, ap, ◌∙◌, arith, rules}
+use Rattle.std.proofs.Common.{ℕ, Bool, ◌||◌, List, ◌++◌, get_or, drop, sym, ap, ◌∙◌, arith}
 use mathlib.Core.Option
 use mathlib.Core.Option.{Option}
 use Rattle.words.specs.Bits.{bit_at}

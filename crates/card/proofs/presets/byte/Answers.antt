@@ -1,5 +1,5 @@
 -- `card::presets::byte` meets its contract: the shift is a quotient.
-use Rattle.std.proofs.Common.{refl, rules}
+use Rattle.std.proofs.Common.{refl}
 use Rattle.card.specs.PresetRows.{row_byte}
 use Rattle.card.proofs.presets.byte.Goals as goal
 

@@ -1,5 +1,4 @@
 -- `card::presets::cell_under` meets its contract: the rows set the cell where they cover it.
-use Rattle.std.proofs.Common.{rules}
 use Rattle.card.specs.PresetRows.{cell_under}
 use Rattle.card.proofs.presets.cell_under.Goals as goal
 

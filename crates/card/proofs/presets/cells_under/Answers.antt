@@ -1,11 +1,8 @@
 -- `card::presets::cells_under` meets its contract: after i turns the first i cells are those under the row.
-use Rattle.std.proofs.Common.{◌≡◌, ℕ, ◌-◌, ◌≤◌, List, ◌++◌, get_or, drop, refl, zero-le, arith, rules}
-use mathlib.Core.Option
+use Rattle.std.proofs.Common.{◌≡◌, refl, zero-le, arith, rules}
 use Rattle.words.specs.Listed.{listed}
 use Rattle.words.proofs.Listed.{listed_next}
-use Rattle.cells.specs.declared.cell.Cell.{Cell}
 use Rattle.card.specs.Fresh.{no_cell}
-use Rattle.card.specs.PresetRows.{cell_under}
 use Rattle.card.proofs.presets.cells_under.Goals as goal
 use Rattle.card.proofs.presets.cells_under.Invariants.{under}
 

@@ -1,5 +1,4 @@
 -- `card::presets::connector_under` meets its contract: the bits and the bytes of the row are those of the definition.
-use Rattle.std.proofs.Common.{rules}
 use Rattle.card.specs.PresetRows.{source_under}
 use Rattle.card.proofs.presets.connector_under.Goals as goal
 

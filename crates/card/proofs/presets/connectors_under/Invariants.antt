@@ -1,7 +1,6 @@
 -- `card::presets::connectors_under` meets its contract: after k turns the first k connectors are those under the row.
-use Rattle.std.proofs.Common.{◌≡◌, ℕ, ◌-◌, ◌≤◌, List, ◌++◌, get_or, drop, refl, zero-le, arith, rules}
+use Rattle.std.proofs.Common.{◌≡◌, ℕ, ◌-◌, ◌≤◌, List, ◌++◌, get_or, drop}
 use Rattle.words.specs.Listed.{listed}
-use Rattle.words.proofs.Listed.{listed_next, listed-done}
 use Rattle.card.specs.declared.card.Connector.{Connector}
 use Rattle.card.specs.Address.{connector_count}
 use Rattle.card.specs.Connectors.{no_connector}

@@ -1,5 +1,4 @@
 -- `card::presets::covers` meets its contract: the two bytes are those of the definition.
-use Rattle.std.proofs.Common.{rules}
 use Rattle.card.specs.PresetRows.{covers}
 use Rattle.card.proofs.presets.covers.Goals as goal
 

@@ -1,5 +1,5 @@
 -- `card::presets::edited_under` meets its contract: after i turns the word holds the first i bits.
-use Rattle.std.proofs.Common.{◌≡◌, ◌-◌, ◌≤◌, ◌||◌, refl, ap₂, zero-le, arith, rules}
+use Rattle.std.proofs.Common.{◌≡◌, ◌||◌, refl, ap₂, zero-le, arith, rules}
 use Rattle.words.specs.Bits.{bit_at, word_of}
 use Rattle.words.proofs.Laws.{built-next, built-fits}
 use Rattle.card.specs.PresetRows.{covers}
@@ -11,9 +11,9 @@ loop-i-init c = (zero-le, refl)
 
 pub pushed-next-requires : goal.pushed-next-requires
 pushed-next-requires c = record {
-      i_bound = search rules;
-      w_bound = built-fits _ _ _ c.loop-i.invariant.1;
-    }
+  i_bound = search rules;
+  w_bound = built-fits _ _ _ c.loop-i.invariant.1;
+}
 
 pub loop-i-preserved : goal.loop-i-preserved
 loop-i-preserved c =

@@ -1,7 +1,6 @@
 -- `card::presets::edited_under` meets its contract: after i turns the word holds the first i bits.
-use Rattle.std.proofs.Common.{◌≡◌, ◌-◌, ◌≤◌, ◌||◌, refl, ap₂, zero-le, arith, rules}
+use Rattle.std.proofs.Common.{◌≡◌, ◌-◌, ◌≤◌, ◌||◌}
 use Rattle.words.specs.Bits.{bit_at, word_of}
-use Rattle.words.proofs.Laws.{built-next, built-fits}
 use Rattle.card.specs.PresetRows.{covers}
 use Rattle.card.proofs.presets.edited_under.Given as goal
 

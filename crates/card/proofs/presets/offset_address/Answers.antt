@@ -1,5 +1,4 @@
 -- `card::presets::offset_address` meets its contract: each arm is a case of the definition.
-use Rattle.std.proofs.Common.{rules}
 use Rattle.card.proofs.presets.offset_address.Goals as goal
 
 pub returns-then-step : goal.returns-then-step

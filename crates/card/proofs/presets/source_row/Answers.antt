@@ -1,5 +1,5 @@
 -- `card::presets::source_row` meets its contract: the row of the preset that only a large card has, or a row of the table.
-use Rattle.std.proofs.Common.{sym, ◌∙◌, rules}
+use Rattle.std.proofs.Common.{sym, ◌∙◌}
 use Rattle.card.specs.Address.{cell_room, cells_for, connector_count}
 use Rattle.card.specs.Presets.{large_preset, preset_source}
 use Rattle.card.specs.PresetRows.{source_under, LargeRow}

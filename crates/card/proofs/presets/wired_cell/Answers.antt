@@ -1,5 +1,4 @@
 -- `card::presets::wired_cell` meets its contract: each byte, and each step, is that of the definition.
-use Rattle.std.proofs.Common.{rules}
 use Rattle.card.specs.PresetRows.{wired_cell}
 use Rattle.card.proofs.presets.wired_cell.Goals as goal
 

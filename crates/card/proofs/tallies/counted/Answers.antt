@@ -1,5 +1,5 @@
 -- `card::tallies::counted` meets its contract: it tests what the definition tests.
-use Rattle.std.proofs.Common.{arith, rules, le-ltb, lt-ltb}
+use Rattle.std.proofs.Common.{arith, le-ltb, lt-ltb}
 use Rattle.card.specs.Tally
 use Rattle.card.specs.Tally.{standstill}
 use Rattle.card.proofs.tallies.counted.Goals as goal

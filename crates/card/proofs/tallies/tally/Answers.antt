@@ -1,9 +1,7 @@
 -- `card::tallies::tally` meets its contract: before each turn the cells below i are counted, and `left` is what is left of the word of those that may.
-use Rattle.std.proofs.Common.{◌≡◌, ℕ, ◌+◌, ◌-◌, ◌^◌, ◌<◌, List, map, length, sym, refl, ◌∙◌, subst, zero-le, div-one, rules}
+use Rattle.std.proofs.Common.{◌≡◌, ℕ, ◌+◌, ◌^◌, ◌<◌, List, map, length, sym, refl, ◌∙◌, subst, zero-le, div-one, rules}
 use lib.ListN.{length-map}
 use Rattle.words.specs.Listed.{listed}
-use Rattle.cells.specs.declared.cell.Ticks.{Ticks}
-use Rattle.card.specs.declared.tallies.Tallies.{Tallies}
 use Rattle.card.specs.Address.{cell_room}
 use Rattle.card.proofs.TallyLaws.{CountedTo, next-within, next-counted, all-tallied}
 use Rattle.card.proofs.tallies.tally.Goals as goal

@@ -1,5 +1,4 @@
 -- `card::valid::bad_address` meets its contract, by the chart.
-use Rattle.std.proofs.Common.{rules}
 use Rattle.card.proofs.valid.bad_address.Goals as goal
 
 pub returns : goal.returns

@@ -1,6 +1,5 @@
 -- `card::valid::bad_addresses` meets its contract: each by the chart.
 use Rattle.cells.specs.Table.{slots}
-use Rattle.std.proofs.Common.{rules}
 use Rattle.card.proofs.valid.bad_addresses.Goals as goal
 
 pub returns : goal.returns

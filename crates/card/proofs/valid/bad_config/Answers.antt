@@ -1,5 +1,4 @@
 -- `card::valid::bad_config` meets its contract: the code is the definition written out, over the row of the table.
-use Rattle.std.proofs.Common.{rules}
 use Rattle.card.specs.Valid.{bad_config}
 use Rattle.card.proofs.valid.bad_config.Goals as goal
 

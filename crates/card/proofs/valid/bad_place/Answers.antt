@@ -1,5 +1,4 @@
 -- `card::valid::bad_place` meets its contract: the place is one of neither kind.
-use Rattle.std.proofs.Common.{rules}
 use Rattle.card.specs.Valid.{bad_place}
 use Rattle.card.proofs.valid.bad_place.Goals as goal
 

@@ -1,6 +1,5 @@
 -- `card::valid::bad_state` meets its contract: by the table's row.
 use Rattle.card.specs.Valid.{bad_state}
-use Rattle.std.proofs.Common.{rules}
 use Rattle.card.proofs.valid.bad_state.Goals as goal
 
 pub returns : goal.returns

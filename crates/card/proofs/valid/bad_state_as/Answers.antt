@@ -1,6 +1,5 @@
 -- `card::valid::bad_state_as` meets its contract: each arm is a case of the definition.
 use Rattle.card.specs.Valid.{bad_state_as}
-use Rattle.std.proofs.Common.{rules}
 use Rattle.card.proofs.valid.bad_state_as.Goals as goal
 
 pub returns-in-Stateless : goal.returns-in-Stateless

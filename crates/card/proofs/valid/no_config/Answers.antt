@@ -1,6 +1,5 @@
 -- `card::valid::no_config` meets its contract: by the table's row.
 use Rattle.card.specs.Valid.{no_config}
-use Rattle.std.proofs.Common.{rules}
 use Rattle.card.proofs.valid.no_config.Goals as goal
 
 pub returns : goal.returns

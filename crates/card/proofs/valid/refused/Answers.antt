@@ -1,5 +1,5 @@
 -- `card::valid::refused` meets its contract: over 255 there is no address, and up to there the entry says it.
-use Rattle.std.proofs.Common.{◌≡◌, not, sym, ap, ◌∙◌, arith, rules, lt-ltb}
+use Rattle.std.proofs.Common.{not, sym, ap, ◌∙◌, arith, lt-ltb}
 use Rattle.card.specs.declared.chart.Entry.{Entry}
 use Rattle.card.specs.Address.{cells_for}
 use Rattle.card.specs.Valid.{largest_address, bad_address}

@@ -1,5 +1,4 @@
 -- `card::valid::unused_slot` meets its contract: the code is the definition written out, over the row of the table.
-use Rattle.std.proofs.Common.{rules}
 use Rattle.card.specs.Valid.{unused_slot}
 use Rattle.card.proofs.valid.unused_slot.Goals as goal
 

@@ -1,5 +1,4 @@
 -- `card::valid::valid_cell` meets its contract.
-use Rattle.std.proofs.Common.{rules}
 use Rattle.card.specs.Valid.{valid_cell}
 use Rattle.card.proofs.valid.valid_cell.Goals as goal
 

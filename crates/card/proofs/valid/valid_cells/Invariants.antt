@@ -1,10 +1,8 @@
 -- `card::valid::valid_cells` meets its contract: after i turns the first i cells are tested.
-use Rattle.std.proofs.Common.{◌≡◌, ◌-◌, ◌≤◌, take, refl, ap, ◌∙◌, zero-le, arith, rules}
+use Rattle.std.proofs.Common.{◌-◌, ◌≤◌}
 use Rattle.card.specs.Address.{cell_room, cells_for}
-use Rattle.card.specs.Fresh.{no_cell}
-use Rattle.text.specs.Digits.{every}
 use Rattle.card.specs.Valid.{valid_cell}
-use Rattle.card.proofs.Settings.{Tested, tested-next}
+use Rattle.card.proofs.Settings.{Tested}
 use Rattle.card.proofs.valid.valid_cells.Given as goal
 
 abbrev pub invariant-loop-i : goal.invariant-loop-i

@@ -1,10 +1,10 @@
 -- `card::valid::valid_connectors` meets its contract: after k turns the first k entries are tested.
-use Rattle.std.proofs.Common.{◌≡◌, ◌-◌, refl, ap, ◌∙◌, zero-le, arith, take_all, rules}
+use Rattle.std.proofs.Common.{◌≡◌, refl, ap, ◌∙◌, zero-le, arith, take_all, rules}
 use Rattle.card.specs.Address.{cells_for, connector_count}
 use Rattle.text.specs.Digits.{every}
 use Rattle.card.specs.Valid.{valid_connector}
 use Rattle.card.specs.Connectors.{no_connector}
-use Rattle.card.proofs.Settings.{Tested, tested-next}
+use Rattle.card.proofs.Settings.{tested-next}
 use Rattle.card.proofs.valid.valid_connectors.Goals as goal
 
 pub loop-k-init : goal.loop-k-init

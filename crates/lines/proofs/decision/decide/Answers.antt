@@ -6,7 +6,6 @@ use Rattle.card.specs.Address.{cells_for}
 use Rattle.card.specs.declared.change.Change.TheVariants.{Nothing}
 use Rattle.saved.specs.Record.{config_width, record_length}
 use Rattle.lines.proofs.Decisions.{either_same}
-use borrow.Author.Rules.{rules}
 use Rattle.lines.proofs.decision.decide.Goals as goal
 
 pub returns-in-Move : goal.returns-in-Move

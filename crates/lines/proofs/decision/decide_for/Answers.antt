@@ -1,6 +1,5 @@
 -- `lines::decision::decide_for` meets its contract: each arm is a case of the definition.
 use Rattle.lines.specs.Line.{decision_for}
-use borrow.Author.Rules.{rules}
 use Rattle.lines.proofs.decision.decide_for.Goals as goal
 
 pub returns-in-Malformed : goal.returns-in-Malformed

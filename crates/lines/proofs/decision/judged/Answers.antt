@@ -1,5 +1,4 @@
 -- `lines::decision::judged` meets its contract: each part by the call that gives it.
-use borrow.Author.Rules.{rules}
 use Rattle.lines.proofs.decision.judged.Goals as goal
 
 pub returns : goal.returns

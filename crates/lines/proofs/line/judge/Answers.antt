@@ -5,7 +5,6 @@ use Rattle.card.specs.Address.{cells_for}
 use Rattle.card.specs.declared.context.Context.{Context}
 use Rattle.grammar.specs.declared.grammar.Parsed.{Parsed}
 use Rattle.lines.specs.Line.{shortest_reply, decision_for, line_decision}
-use borrow.Author.Rules.{rules}
 use Rattle.lines.proofs.line.judge.Goals as goal
 
 pub returns-then-reply-lt-SHORTEST_REPLY : goal.returns-then-reply-lt-SHORTEST_REPLY

@@ -3,7 +3,6 @@ use mathlib.Core.Path.{ap, ◌∙◌}
 use Rattle.card.specs.Address.{cells_for}
 use Rattle.lines.specs.declared.decision.Decision.{Decision}
 use Rattle.lines.specs.Line.{outcome_of, result_for, line_outcome}
-use borrow.Author.Rules.{rules}
 use Rattle.lines.proofs.line.line.Goals as goal
 
 pub returns : goal.returns

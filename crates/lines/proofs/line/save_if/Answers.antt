@@ -1,5 +1,4 @@
 -- `lines::line::save_if` meets its contract: the record by `save`, or nothing.
-use borrow.Author.Rules.{rules}
 use Rattle.lines.proofs.line.save_if.Goals as goal
 
 pub returns-then-asked : goal.returns-then-asked

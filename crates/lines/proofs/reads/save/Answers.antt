@@ -1,5 +1,4 @@
 -- `lines::reads::save` meets its contract: the test is of the record's length.
-use borrow.Author.Rules.{rules}
 use Rattle.lines.proofs.reads.save.Goals as goal
 
 pub returns : goal.returns

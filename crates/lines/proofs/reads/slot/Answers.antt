@@ -4,7 +4,6 @@ use Rattle.card.specs.declared.change.Change.TheVariants.{Nothing}
 use Rattle.lines.specs.Refusal.{refusal}
 use Rattle.lines.specs.Line.{change_for, response_to, decision}
 use Rattle.lines.proofs.Decisions.{either_same}
-use borrow.Author.Rules.{rules}
 use Rattle.lines.proofs.reads.slot.Goals as goal
 
 pub returns : goal.returns

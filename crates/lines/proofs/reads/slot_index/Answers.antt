@@ -1,6 +1,5 @@
 -- `lines::reads::slot_index` meets its contract: each arm is a case of the definition.
 use Rattle.lines.specs.Line.{slot_index}
-use borrow.Author.Rules.{rules}
 use Rattle.lines.proofs.reads.slot_index.Goals as goal
 
 pub returns-in-X : goal.returns-in-X

@@ -2,7 +2,6 @@
 use mathlib.Core.Path.{ap, ◌∙◌}
 use Rattle.cells.specs.declared.table.Slots.{Slots}
 use Rattle.lines.specs.Refusal.{any_given}
-use borrow.Author.Rules.{rules}
 use Rattle.lines.proofs.writes.any_bad_address.Goals as goal
 
 pub returns : goal.returns

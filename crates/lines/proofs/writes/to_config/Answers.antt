@@ -1,5 +1,5 @@
 -- `lines::writes::to_config` meets its contract: a configuration or a source, which fits where it is read.
-use mathlib.Core.Path.{◌≡◌, ap, ◌∙◌}
+use mathlib.Core.Path.{◌≡◌, ap}
 use native.Mathlib.Nat.{mod-eq_of_lt}
 use Rattle.card.specs.declared.change.Change.TheVariants.{Config, Source}
 use Rattle.lines.specs.Refusal.{refusal, judged}
@@ -7,7 +7,6 @@ use Rattle.lines.specs.Line.{change_for, response_to, decision, silent}
 use Rattle.lines.proofs.Decisions.{judged-none, same-decided, number_fits, address-fits}
 use Prim.Native.Nat.{◌%◌}
 use Rattle.card.specs.Valid.{bad_config}
-use borrow.Author.Rules.{rules}
 use Rattle.lines.proofs.writes.to_config.Goals as goal
 
 pub returns-then-x : goal.returns-then-x

@@ -1,5 +1,5 @@
 -- `lines::writes::to_kind` meets its contract: a cell's type or a connector's, which fits where it is read.
-use mathlib.Core.Path.{◌≡◌, ap, ◌∙◌}
+use mathlib.Core.Path.{◌≡◌, ap}
 use native.Mathlib.Nat.{mod-eq_of_lt}
 use Rattle.card.specs.declared.change.Change.TheVariants.{Kind, ConnectorKind}
 use Rattle.lines.specs.Refusal.{refusal, judged, when, or_else}
@@ -8,7 +8,6 @@ use Rattle.lines.proofs.Decisions.{none_of, judged-none, same-decided, kind_fits
 use Prim.Native.Nat.{◌%◌}
 use Rattle.card.specs.Context.{drives_front}
 use Rattle.card.specs.Valid.{bad_connector_type}
-use borrow.Author.Rules.{rules}
 use Rattle.lines.proofs.writes.to_kind.Goals as goal
 
 pub returns-then-x : goal.returns-then-x

@@ -1,6 +1,5 @@
 -- `lines::writes::to_slots` meets its contract: the addresses that are given, which fit where they are read.
-use mathlib.Core.Path.{◌≡◌, ap, ◌∙◌}
-use native.Mathlib.Nat.{mod-eq_of_lt}
+use mathlib.Core.Path.{◌≡◌, ap}
 use Rattle.card.specs.declared.change.Change.TheVariants.{Slots}
 use Rattle.lines.specs.Refusal.{refusal, when, or_else, any_too_large, any_bad_address}
 use Rattle.lines.specs.Line.{change_for, response_to, decision, silent, wires_of}
@@ -9,7 +8,6 @@ use mathlib.Core.Bool.{not}
 use Rattle.card.specs.Address.{cells_for}
 use Rattle.card.specs.Valid.{unused_slot}
 use Rattle.grammar.specs.declared.grammar.Command.TheVariants.{SetSlots}
-use borrow.Author.Rules.{rules}
 use Rattle.lines.proofs.writes.to_slots.Goals as goal
 
 pub returns : goal.returns

@@ -1,5 +1,5 @@
 -- `lines::writes::to_state` meets its contract: a state, which fits where it is read.
-use mathlib.Core.Path.{◌≡◌, ap, ◌∙◌}
+use mathlib.Core.Path.{◌≡◌, ap}
 use native.Mathlib.Nat.{mod-eq_of_lt}
 use Rattle.card.specs.declared.change.Change.TheVariants.{State}
 use Rattle.lines.specs.Refusal.{refusal, judged, when, or_else}
@@ -8,7 +8,6 @@ use Rattle.lines.proofs.Decisions.{none_of, judged-none, same-decided, number_fi
 use Prim.Native.Nat.{◌%◌}
 use mathlib.Core.Bool.{not}
 use Rattle.card.specs.Valid.{bad_state}
-use borrow.Author.Rules.{rules}
 use Rattle.lines.proofs.writes.to_state.Goals as goal
 
 pub returns : goal.returns

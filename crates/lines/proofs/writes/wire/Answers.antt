@@ -1,5 +1,4 @@
 -- `lines::writes::wire` meets its contract: the number where it is given.
-use borrow.Author.Rules.{rules}
 use Rattle.lines.proofs.writes.wire.Goals as goal
 
 pub returns-then-given : goal.returns-then-given

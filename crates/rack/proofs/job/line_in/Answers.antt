@@ -1,8 +1,7 @@
 -- `rack::job::line_in` meets its contract: the decision by `judge`, the card by `apply`, and what the rack refuses of it by `refusal_in`.
 use Prim.Native.Nat.{ℕ}
-use mathlib.Core.Path.{◌≡◌, sym, ap, ◌∙◌}
+use mathlib.Core.Path.{sym, ap, ◌∙◌}
 use mathlib.Core.Bool.{Bool, false, ◌&&◌, cond}
-use lib.Dec.{eqb}
 use lib.ListN.{length}
 use lib.Seq.{sets}
 use borrow.Author.Tests.{ne_eqb}
@@ -12,7 +11,6 @@ use Rattle.saved.specs.Record.{config_width, saved_to}
 use Rattle.lines.specs.declared.decision.Decision.{Decision}
 use Rattle.lines.specs.Line.{outcome_of, line_outcome, silent, reply_with, result_for}
 use Rattle.rack.specs.Rack.{refusal_in, outcome_by}
-use borrow.Author.Rules.{rules}
 use Rattle.rack.proofs.job.line_in.Goals as goal
 
 -- the rack refuses it

@@ -1,12 +1,11 @@
 -- `rack::job::load_in` meets its contract: the number and the card by `load`, and what the rack refuses of it by `refusal_in`.
 use Prim.Native.Nat.{ℕ}
-use mathlib.Core.Path.{◌≡◌, sym, ap, ◌∙◌}
+use mathlib.Core.Path.{sym, ap, ◌∙◌}
 use borrow.Author.Tests.{eq-eqb, ne_eqb}
 use mathlib.Core.Bool.{Bool, cond}
 use Rattle.card.specs.Address.{cells_for}
 use Rattle.saved.specs.Record.{load_number, loaded}
 use Rattle.rack.specs.Rack.{refusal_in, number_by}
-use borrow.Author.Rules.{rules}
 use Rattle.rack.proofs.job.load_in.Goals as goal
 
 -- the rack refuses it

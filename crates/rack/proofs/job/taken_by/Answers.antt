@@ -1,7 +1,6 @@
 -- `rack::job::taken_by` meets its contract: the place by `place_of`.
 use mathlib.Core.Bool.{not, ◌||◌}
 use lib.Dec.{eqb, ltb}
-use borrow.Author.Rules.{rules}
 use Rattle.rack.proofs.job.taken_by.Goals as goal
 
 pub returns : goal.returns

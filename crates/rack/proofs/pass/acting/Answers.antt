@@ -1,6 +1,5 @@
 -- `rack::pass::acting` meets its contract: the number by `refused_if`.
 use Rattle.rack.specs.Passes.{numbered, acting}
-use borrow.Author.Rules.{rules}
 use Rattle.rack.proofs.pass.acting.Goals as goal
 
 pub returns : goal.returns

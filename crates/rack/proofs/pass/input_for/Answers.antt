@@ -1,7 +1,5 @@
 -- `rack::pass::input_for` meets its contract: the front by `front_at`.
 use Prim.Native.Nat.{◌+◌, ◌*◌}
-use borrow.Author.Rules.{rules}
-use borrow.Author.Rules.{rules}
 use Rattle.rack.proofs.pass.input_for.Goals as goal
 
 pub returns : goal.returns

@@ -3,7 +3,6 @@ use mathlib.Core.Path.{ap, ◌∙◌}
 use lib.Bits.{bit_or}
 use lib.ListN.{set}
 use Rattle.rack.specs.Passes.{made, look}
-use borrow.Author.Rules.{rules}
 use Rattle.rack.proofs.pass.look.Goals as goal
 
 pub returns : goal.returns

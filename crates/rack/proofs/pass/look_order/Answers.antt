@@ -2,7 +2,6 @@
 use mathlib.Core.Path.{ap, ◌∙◌}
 use mathlib.Core.Bool.{false}
 use Rattle.rack.specs.Passes.{looks, order}
-use borrow.Author.Rules.{rules}
 use Rattle.rack.proofs.pass.look_order.Goals as goal
 
 pub returns : goal.returns

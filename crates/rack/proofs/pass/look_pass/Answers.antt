@@ -2,7 +2,6 @@
 use mathlib.Core.Path.{ap, ◌∙◌}
 use Rattle.rack.specs.declared.pass.Pass.{Pass}
 use Rattle.rack.specs.Passes.{looking}
-use borrow.Author.Rules.{rules}
 use Rattle.rack.proofs.pass.look_pass.Goals as goal
 
 pub returns : goal.returns

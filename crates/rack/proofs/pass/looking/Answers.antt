@@ -1,6 +1,5 @@
 -- `rack::pass::looking` meets its contract: the number by `refused_if`.
 use Rattle.rack.specs.Passes.{numbered, looking}
-use borrow.Author.Rules.{rules}
 use Rattle.rack.proofs.pass.looking.Goals as goal
 
 pub returns : goal.returns

@@ -1,5 +1,4 @@
 -- `rack::pass::next_at` meets its contract: the test of the definition.
-use borrow.Author.Rules.{rules}
 use borrow.Author.Tests.{lt-ltb, le-ltb}
 use Rattle.rack.specs.Supply.{most_cards}
 use Rattle.rack.proofs.pass.next_at.Goals as goal

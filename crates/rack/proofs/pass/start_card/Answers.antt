@@ -3,7 +3,6 @@ use mathlib.Core.Path.{ap}
 use Rattle.card.specs.declared.card.Card.{Card}
 use Rattle.card.specs.Fresh.{fresh}
 use Rattle.rack.specs.Rack.{inputs_only}
-use borrow.Author.Rules.{rules}
 use Rattle.rack.proofs.pass.start_card.Goals as goal
 
 pub returns : goal.returns

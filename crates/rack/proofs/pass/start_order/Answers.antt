@@ -2,7 +2,6 @@
 use mathlib.Core.Path.{ap, ◌∙◌}
 use mathlib.Core.Bool.{false}
 use Rattle.rack.specs.Passes.{starts, order}
-use borrow.Author.Rules.{rules}
 use Rattle.rack.proofs.pass.start_order.Goals as goal
 
 pub returns : goal.returns

@@ -6,7 +6,6 @@ use Rattle.ticks.specs.declared.view.Input.{Input}
 use Rattle.ticks.specs.declared.tick.Ticked.{Ticked}
 use Rattle.rack.specs.Shared.{shared_tick}
 use Rattle.rack.specs.Passes.{ticked}
-use borrow.Author.Rules.{rules}
 use Rattle.rack.proofs.pass.ticked.Goals as goal
 
 pub returns : goal.returns

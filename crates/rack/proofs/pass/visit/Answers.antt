@@ -2,7 +2,6 @@
 use mathlib.Core.Path.{ap}
 use Rattle.card.specs.declared.card.Card.{Card}
 use Rattle.rack.specs.Passes.{visit_by}
-use borrow.Author.Rules.{rules}
 use Rattle.rack.proofs.pass.visit.Goals as goal
 
 pub returns-then-pass : goal.returns-then-pass

@@ -1,9 +1,7 @@
 -- `rack::rack_calls::rack_line` meets its contract: a started card takes the place of the card for the time of the line.
-use Rattle.std.proofs.Common.{◌≡◌, ℕ, List, get_or, set, sym, ap, ◌∙◌}
-use Rattle.card.specs.declared.card.Card.{Card}
+use Rattle.std.proofs.Common.{◌≡◌, get_or, set, ap, ◌∙◌}
 use Rattle.card.specs.Address.{cell_count, cells_for}
 use Rattle.rack.specs.declared.pass.Pass.{Pass}
-use Rattle.rack.specs.declared.job.Taken.{Taken}
 use Rattle.rack.specs.Rack
 use Rattle.rack.specs.Rack.{card_of, row_result_of}
 use Rattle.rack.specs.Passes
@@ -25,6 +23,6 @@ returns c =
     let without : c.swap_at-c.new.row ≡ taken_row row a.number = c.swap_at-c.ensures.1 ∙ (λ i. set (same i) (t i).place (other i)) in
     let back = c.swap_at.ensures.1 ∙ (λ i. set (without i) (t i).place c.line_in-a.result.card) in (
       (λ i. row_result_of (c.reply_of.ensures i) (back i) c.line_in-a.new.reply c.line_in-a.new.store)
-      ∙ line_row row a.number a.text.now a.reply.now a.store.now c.line_in-a.result c.line_in-a.new.reply c.line_in-a.new.store said,
+          ∙ line_row row a.number a.text.now a.reply.now a.store.now c.line_in-a.result c.line_in-a.new.reply c.line_in-a.new.store said,
       rw c.reply_of.ensures c.line_in-a.ensures.1,
     )

@@ -1,6 +1,5 @@
 -- `rack::rack_calls::rack_load` meets its contract: a started card takes the place of the card for the time of the load.
-use Rattle.std.proofs.Common.{◌≡◌, ℕ, List, get_or, set, sym, ap, ◌∙◌, cond, eqb}
-use Rattle.card.specs.declared.card.Card.{Card}
+use Rattle.std.proofs.Common.{◌≡◌, get_or, set, ap, ◌∙◌, cond, eqb}
 use Rattle.card.specs.Address.{cell_count, cells_for}
 use Rattle.saved.specs.Record.{load_number, loaded}
 use Rattle.rack.specs.declared.pass.Pass.{Pass}

@@ -1,5 +1,5 @@
 -- `rack::rack_calls::rack_start` meets its contract: by what an order to start does to a row.
-use Rattle.std.proofs.Common.{◌≡◌, ap, ◌∙◌}
+use Rattle.std.proofs.Common.{ap, ◌∙◌}
 use Rattle.rack.specs.declared.pass.Pass.{Pass}
 use Rattle.rack.specs.Passes.{acted_over, acted_row}
 use Rattle.rack.proofs.Orders.{start-does}

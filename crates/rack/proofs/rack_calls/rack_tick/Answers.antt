@@ -1,5 +1,5 @@
 -- `rack::rack_calls::rack_tick` meets its contract: by what an order to tick does to a row.
-use Rattle.std.proofs.Common.{◌≡◌, ap, ◌∙◌}
+use Rattle.std.proofs.Common.{ap, ◌∙◌}
 use Rattle.rack.specs.declared.pass.Pass.{Pass}
 use Rattle.rack.specs.Passes
 use Rattle.rack.specs.Passes.{acted_over, acted_row}

@@ -1,5 +1,5 @@
 -- `rack::row::each` meets its contract: each card is visited in its turn.
-use Rattle.std.proofs.Common.{◌≡◌, ◌+◌, ℕ, suc, List, length, set, refl, sym, ap, subst, ◌∙◌, add-one, arith}
+use Rattle.std.proofs.Common.{◌≡◌, ℕ, suc, length, set, sym, subst, add-one, arith}
 use Rattle.rack.specs.declared.pass.Visited.{Visited}
 use Rattle.rack.proofs.Rows.{Midway, midway_start, midway-next, midway_end}
 use Rattle.rack.proofs.row.each.Goals as goal

@@ -1,5 +1,5 @@
 -- `rack::row::look_each` meets its contract: each card is looked at in its turn, and the row is not written.
-use Rattle.std.proofs.Common.{◌≡◌, ◌+◌, ℕ, suc, List, length, drop, refl, sym, ap, ◌∙◌, add-one, arith}
+use Rattle.std.proofs.Common.{◌≡◌, ℕ, suc, length, drop, refl, sym, ap, ◌∙◌, add-one, arith}
 use Rattle.rack.specs.declared.pass.Pass.{Pass}
 use Rattle.rack.specs.Passes.{looked_all}
 use Rattle.rack.proofs.Rows.{looked-next, looked-end}

@@ -4,7 +4,6 @@ use borrow.Author.Tests.{eq-eqb, ne_eqb}
 use Rattle.ticks.specs.declared.connectors.Lines.{Lines}
 use Rattle.ticks.specs.Levels.{lines_of}
 use Rattle.rack.specs.Shared.{pulls}
-use borrow.Author.Rules.{rules}
 use Rattle.rack.proofs.shared.pulled.Goals as goal
 
 pub returns-then-code-card : goal.returns-then-code-card

@@ -5,7 +5,6 @@ use mathlib.Core.Bool.{true, false}
 use Rattle.card.specs.Address.{cells_for}
 use Rattle.ticks.specs.Tick.{ticked_on}
 use Rattle.rack.specs.Shared.{shared_levels, shared_tick}
-use borrow.Author.Rules.{rules}
 use Rattle.rack.proofs.shared.tick.Goals as goal
 
 pub returns-then-input-card : goal.returns-then-input-card

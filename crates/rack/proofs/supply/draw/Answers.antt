@@ -1,8 +1,7 @@
 -- `rack::supply::draw` meets its contract: the larger of the two.
 use mathlib.Core.Path.{sym}
 use borrow.Author.Tests.{lt-ltb, le-ltb}
-use Rattle.rack.specs.Supply.{share, pushes, draw}
-use borrow.Author.Rules.{rules}
+use Rattle.rack.specs.Supply.{share, draw}
 use Rattle.rack.proofs.supply.draw.Goals as goal
 
 pub returns-then-m-lt-SHARE : goal.returns-then-m-lt-SHARE

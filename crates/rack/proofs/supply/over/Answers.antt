@@ -3,7 +3,6 @@ use mathlib.Core.Path.{sym, ap, ◌∙◌}
 use lib.Dec.{ltb}
 use lib.ListN.{set}
 use Rattle.rack.specs.Supply.{supply, sum_of, over}
-use borrow.Author.Rules.{rules}
 use Rattle.rack.proofs.supply.over.Goals as goal
 
 pub returns-then-same_fronts : goal.returns-then-same_fronts

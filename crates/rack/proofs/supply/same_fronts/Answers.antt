@@ -1,5 +1,5 @@
 -- `rack::supply::same_fronts` meets its contract: after k turns the first k connectors are compared.
-use Prim.Native.Nat.{ℕ, ◌+◌, ◌-◌, ◌≤◌, zero-le}
+use Prim.Native.Nat.{ℕ, ◌+◌, zero-le}
 use mathlib.Core.Path.{◌≡◌, refl, sym, ap, ap₂, ◌∙◌}
 use mathlib.Core.Bool.{◌&&◌}
 use native.Mathlib.Numerals.{add-one}
@@ -9,7 +9,6 @@ use Rattle.card.specs.declared.card.Connectors.{Connectors}
 use Rattle.card.specs.Address.{front_count}
 use Rattle.card.specs.Connectors.{kind_at}
 use Rattle.rack.specs.Supply.{same_kinds}
-use borrow.Author.Rules.{rules}
 use Rattle.rack.proofs.supply.same_fronts.Goals as goal
 
 same_next : (k : ℕ) (a b : Connectors) → same_kinds (k + 1) a b ≡ (same_kinds k a b && eqb (kind_at a k) (kind_at b k))

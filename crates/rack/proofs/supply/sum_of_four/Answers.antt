@@ -1,6 +1,5 @@
 -- `rack::supply::sum_of_four` meets its contract: bytes, so no sum is too large.
 use native.Mathlib.Omega.{arith}
-use borrow.Author.Rules.{rules}
 use Rattle.rack.specs.Supply.{sum_of}
 use Rattle.rack.proofs.supply.sum_of_four.Goals as goal
 

@@ -1,5 +1,4 @@
 -- `reasons::cell::clock_as` meets its contract: in each arm the family is known, and the definition answers by it.
-use borrow.Author.Rules.{rules}
 use Rattle.reasons.proofs.cell.clock_as.Goals as goal
 
 pub returns-in-Flop : goal.returns-in-Flop

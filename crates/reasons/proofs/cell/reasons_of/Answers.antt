@@ -5,7 +5,6 @@ use Rattle.cells.specs.declared.table.Row.{Row}
 use Rattle.cells.specs.Table.{masked, level_slots}
 use Rattle.cells.specs.Wake
 use Rattle.reasons.specs.CellReasons.{clock_as, has_triggers, reasons_from, reasons_of}
-use borrow.Author.Rules.{rules}
 use Rattle.reasons.proofs.cell.reasons_of.Goals as goal
 
 pub returns : goal.returns

@@ -1,16 +1,14 @@
 -- `saved::record::all_numbered` meets its contract: after i turns the first i fields are tested.
-use Prim.Native.Nat.{ℕ, suc, ◌+◌, ◌*◌, ◌-◌, ◌≤◌, ◌<◌, zero-le}
+use Prim.Native.Nat.{ℕ, ◌+◌, ◌*◌, ◌≤◌, ◌<◌, zero-le}
 use mathlib.Core.Path.{◌≡◌, refl, sym, ap, ap₂, ◌∙◌}
-use mathlib.Core.Bool.{Bool, ◌&&◌}
-use mathlib.Core.List.{List}
+use mathlib.Core.Bool.{◌&&◌}
 use native.Mathlib.Nat.{mul-le-mul_right, suc-mul}
 use native.Mathlib.Omega.{arith}
 use lib.ListN.{length}
 use Rattle.words.specs.Listed.{listed}
 use Rattle.text.specs.Digits.{every}
-use Rattle.saved.specs.Headers.{every_below, numbered_at}
+use Rattle.saved.specs.Headers.{every_below}
 use Rattle.saved.proofs.Headers.{every-next}
-use borrow.Author.Rules.{rules}
 use Rattle.saved.proofs.record.all_numbered.Goals as goal
 use Rattle.saved.proofs.record.all_numbered.Invariants.{test}
 

@@ -57,9 +57,9 @@ overflow_add-at-3 c = omega (arith, inside (goal.at.overflow_add-at-3 c).Start)
 
 pub config_in-requires : goal.config_in-requires
 config_in-requires c = record {
-      width_in_bounds = omega (arith, inside (goal.at.config_in-requires c).Start);
-      width_le_config_width = search rules;
-    }
+  width_in_bounds = omega (arith, inside (goal.at.config_in-requires c).Start);
+  width_le_config_width = search rules;
+}
 
 pub returns : goal.returns
 unfolding cell_in

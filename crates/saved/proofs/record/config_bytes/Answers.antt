@@ -4,7 +4,6 @@ use mathlib.Core.Path.{sym}
 use mathlib.Core.List.{[], ◌∷◌}
 use native.Mathlib.Nat.{div-one}
 use Rattle.saved.specs.Record.{big_endian}
-use borrow.Author.Rules.{rules}
 use Rattle.saved.proofs.record.config_bytes.Goals as goal
 
 pub returns : goal.returns

@@ -1,11 +1,8 @@
 -- `saved::record::config_in` meets its contract: after i turns the first i bytes are read.
-use Prim.Native.Nat.{ℕ, ◌+◌, ◌-◌, ◌*◌, ◌^◌, ◌≤◌, ◌<◌, zero-le}
-use mathlib.Core.Path.{◌≡◌, refl, ap, ◌∙◌}
-use native.Mathlib.Omega.{arith}
-use lib.ListN.{get_or, take, drop}
-use borrow.Author.Rules.{rules}
+use Prim.Native.Nat.{◌-◌, ◌^◌, ◌≤◌, ◌<◌}
+use mathlib.Core.Path.{◌≡◌}
+use lib.ListN.{take, drop}
 use Rattle.saved.specs.Record.{big_value}
-use Rattle.saved.proofs.Fields.{value-next, value-fits, value_room}
 use Rattle.saved.proofs.record.config_in.Given as goal
 
 abbrev pub invariant-loop-i : goal.invariant-loop-i

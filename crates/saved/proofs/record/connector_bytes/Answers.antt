@@ -1,6 +1,5 @@
 -- `saved::record::connector_bytes` meets its contract: the field written out.
 use mathlib.Core.Path.{refl}
-use borrow.Author.Rules.{rules}
 use Rattle.saved.specs.Record.{connector_field}
 use Rattle.saved.proofs.record.connector_bytes.Goals as goal
 

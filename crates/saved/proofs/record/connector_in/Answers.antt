@@ -1,6 +1,5 @@
 -- `saved::record::connector_in` meets its contract: each byte is read at its place.
 use Rattle.saved.specs.Record.{connector_in}
-use borrow.Author.Rules.{rules}
 use Rattle.saved.proofs.record.connector_in.Goals as goal
 
 pub returns : goal.returns

@@ -13,6 +13,6 @@ overflow_add-result-2 c = omega (arith, cells-small c.args.n c.args.width (searc
 
 pub returns : goal.returns
 returns c = record {
-      value = refl;
-      upper_bound = omega (arith, cells-small c.args.n c.args.width (search rules) (search rules));
-    }
+  value = refl;
+  upper_bound = omega (arith, cells-small c.args.n c.args.width (search rules) (search rules));
+}

@@ -1,9 +1,7 @@
 -- `saved::record::connectors_in` meets its contract: after k turns the first k entries are those of the record.
-use Prim.Native.Nat.{◌-◌, ◌≤◌, zero-le}
+use Prim.Native.Nat.{zero-le}
 use mathlib.Core.Path.{◌≡◌, refl}
-use mathlib.Core.List.{◌++◌}
 use native.Mathlib.Omega.{arith}
-use lib.ListN.{drop}
 use borrow.Author.Rules.{rules}
 use Rattle.words.specs.Listed.{listed}
 use Rattle.words.proofs.Listed.{listed_next, listed-done}

@@ -4,7 +4,6 @@ use native.Mathlib.Omega.{arith}
 use lib.ListN.{take}
 use Rattle.text.proofs.Stores.{sets-three}
 use Rattle.saved.specs.Record.{encode, trigger_field, cell_field, connector_field, fields_from}
-use borrow.Author.Rules.{rules}
 use Rattle.saved.proofs.record.encode_to.Goals as goal
 
 pub returns : goal.returns

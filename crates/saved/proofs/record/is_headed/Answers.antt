@@ -4,7 +4,6 @@ use mathlib.Core.Path.{sym, ap, ◌∙◌}
 use borrow.Author.Tests.{eq-eqb, ne_eqb}
 use Rattle.saved.specs.Record.{record_length}
 use Rattle.saved.specs.Headers.{starts_at, trigger_headed, cell_headed, connector_headed, headed}
-use borrow.Author.Rules.{rules}
 use Rattle.saved.proofs.record.is_headed.Goals as goal
 
 pub returns-then-bytes-place : goal.returns-then-bytes-place

@@ -1,7 +1,6 @@
 -- `saved::record::load` meets its contract: the length shows the form.
 use Prim.Native.Nat.{ℕ}
-use mathlib.Core.Path.{ap, ap₂, ◌∙◌}
-use borrow.Author.Rules.{rules}
+use mathlib.Core.Path.{ap₂, ◌∙◌}
 use Rattle.saved.specs.Record.{load_number_as, loaded_as, load_number, loaded}
 use Rattle.saved.proofs.record.load.Goals as goal
 

@@ -12,7 +12,7 @@ use Rattle.card.specs.declared.card.Connectors.{Connectors}
 use Rattle.card.specs.Connectors.{from_each}
 use Rattle.card.specs.Fresh.{started}
 use Rattle.card.specs.Valid.{valid}
-use Rattle.saved.specs.Record.{record_length, trigger_in, load_cells, connectors_in, load_number_as, powered_up}
+use Rattle.saved.specs.Record.{record_length, trigger_in, load_cells, connectors_in, load_number_as}
 use Rattle.saved.proofs.Forms.{valid-from, loaded-from, refused-with}
 use Rattle.saved.proofs.Headers.{headed-length, number-headed}
 use Rattle.saved.proofs.record.load_as.Goals as goal
@@ -67,17 +67,17 @@ bounds-bytes-3 c = omega (arith, long (goal.at.bounds-bytes-3 c).Else-not-is_hea
 
 pub cells_in-cells-requires : goal.cells_in-cells-requires
 cells_in-cells-requires c = record {
-      width_in_bounds = omega (arith, long (goal.at.cells_in-cells-requires c).Else-not-is_headed);
-      width_le_config_width = search rules;
-      n_le_cell_room = search rules;
-    }
+  width_in_bounds = omega (arith, long (goal.at.cells_in-cells-requires c).Else-not-is_headed);
+  width_le_config_width = search rules;
+  n_le_cell_room = search rules;
+}
 
 pub connectors_in-connectors-requires : goal.connectors_in-connectors-requires
 connectors_in-connectors-requires c = record {
-      n_le_cell_room = search rules;
-      bytes_len = long (goal.at.connectors_in-connectors-requires c).Else-not-is_headed;
-      width_le_config_width = search rules;
-    }
+  n_le_cell_room = search rules;
+  bytes_len = long (goal.at.connectors_in-connectors-requires c).Else-not-is_headed;
+  width_le_config_width = search rules;
+}
 
 pub returns-then-not-valid_settings : goal.returns-then-not-valid_settings
 returns-then-not-valid_settings c =

@@ -1,6 +1,5 @@
 -- `saved::record::load_cell` meets its contract: only the configuration is made normal.
 use Rattle.saved.specs.Record.{normal_cell}
-use borrow.Author.Rules.{rules}
 use Rattle.saved.proofs.record.load_cell.Goals as goal
 
 pub returns : goal.returns

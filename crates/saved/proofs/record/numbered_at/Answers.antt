@@ -3,7 +3,6 @@ use mathlib.Core.Path.{◌≡◌}
 use Prim.Native.Nat.{◌/◌, ◌%◌}
 use native.Mathlib.Omega.{arith}
 use Rattle.saved.specs.Headers.{starts_at, numbered_at}
-use borrow.Author.Rules.{rules}
 use Rattle.saved.proofs.record.numbered_at.Goals as goal
 
 pub returns : goal.returns

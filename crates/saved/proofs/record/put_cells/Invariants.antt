@@ -1,15 +1,8 @@
 -- `saved::record::put_cells` meets its contract: after i turns the fields of the first i cells are stored.
-use Prim.Native.Nat.{ℕ, ◌-◌}
-use mathlib.Core.Path.{◌≡◌, refl, ap, ◌∙◌}
-use mathlib.Core.List.{List}
-use native.Mathlib.Omega.{arith}
-use lib.ListN.{length, take, get_or}
-use lib.Seq.{sets}
-use borrow.Author.Rules.{rules}
-use Rattle.card.specs.Fresh.{no_cell}
-use Rattle.saved.specs.Record.{trigger_length, cell_length, cell_field, fields_from}
-use Rattle.saved.proofs.Fields.{FieldsStored, fields-none, fields-stored-next}
-use Rattle.saved.proofs.Forms.{cell-inside}
+use Prim.Native.Nat.{◌-◌}
+use lib.ListN.{length}
+use Rattle.saved.specs.Record.{trigger_length, cell_length, cell_field}
+use Rattle.saved.proofs.Fields.{FieldsStored}
 use Rattle.saved.proofs.record.put_cells.Given as goal
 
 abbrev pub invariant-loop-i : goal.invariant-loop-i

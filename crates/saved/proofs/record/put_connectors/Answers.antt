@@ -1,5 +1,4 @@
 -- `saved::record::put_connectors` meets its contract: after k turns the fields of the first k entries are stored.
-use Prim.Native.Nat.{◌-◌}
 use mathlib.Core.Path.{◌≡◌, refl}
 use native.Mathlib.Omega.{arith}
 use lib.ListN.{length, take}
@@ -8,7 +7,7 @@ use borrow.Author.Rules.{rules}
 use Rattle.card.specs.Connectors.{no_connector}
 use Rattle.card.specs.Address.{connector_count}
 use Rattle.saved.specs.Record.{connector_length, connector_field}
-use Rattle.saved.proofs.Fields.{FieldsStored, fields-none, fields-stored-next}
+use Rattle.saved.proofs.Fields.{fields-none, fields-stored-next}
 use Rattle.saved.proofs.record.put_connectors.Goals as goal
 
 pub loop-k-init : goal.loop-k-init

@@ -1,14 +1,9 @@
 -- `saved::record::put_connectors` meets its contract: after k turns the fields of the first k entries are stored.
 use Prim.Native.Nat.{◌-◌}
-use mathlib.Core.Path.{◌≡◌, refl}
-use native.Mathlib.Omega.{arith}
-use lib.ListN.{length, take}
-use lib.Seq.{take_all}
-use borrow.Author.Rules.{rules}
-use Rattle.card.specs.Connectors.{no_connector}
+use lib.ListN.{length}
 use Rattle.card.specs.Address.{connector_count}
 use Rattle.saved.specs.Record.{connector_length, connector_field}
-use Rattle.saved.proofs.Fields.{FieldsStored, fields-none, fields-stored-next}
+use Rattle.saved.proofs.Fields.{FieldsStored}
 use Rattle.saved.proofs.record.put_connectors.Given as goal
 
 abbrev pub invariant-loop-k : goal.invariant-loop-k

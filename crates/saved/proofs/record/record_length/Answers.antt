@@ -1,7 +1,6 @@
 -- `saved::record::record_length` meets its contract.
-use Prim.Native.Nat.{ℕ, ◌+◌, ◌*◌}
-use mathlib.Core.Path.{◌≡◌, ap, ◌∙◌}
-use borrow.Author.Rules.{rules}
+use Prim.Native.Nat.{ℕ, ◌+◌}
+use mathlib.Core.Path.{ap, ◌∙◌}
 use Rattle.saved.specs.Record.{record_length, config_width}
 use Rattle.saved.proofs.record.record_length.Goals as goal
 

@@ -6,7 +6,6 @@ use native.Mathlib.Omega.{arith}
 use lib.Dec.{ltb}
 use borrow.Author.Tests.{lt-ltb, le-ltb}
 use Rattle.saved.specs.Record.{saved_to, record_of}
-use borrow.Author.Rules.{rules}
 use Rattle.saved.proofs.record.save.Goals as goal
 
 -- the test of the room, by a length that the code found

@@ -23,12 +23,12 @@ told size len = go (eqb size cell_room)
 
 pub returns-then-size-bytes : goal.returns-then-size-bytes
 returns-then-size-bytes c = record {
-      value = sym (told _ _ ∙ ap (λ (b : Bool). cond b narrow_width config_width) c.if-size-bytes.true);
-      upper_bound = omega arith;
-    }
+  value = sym (told _ _ ∙ ap (λ (b : Bool). cond b narrow_width config_width) c.if-size-bytes.true);
+  upper_bound = omega arith;
+}
 
 pub returns-else-size-bytes : goal.returns-else-size-bytes
 returns-else-size-bytes c = record {
-      value = sym (told _ _ ∙ ap (λ (b : Bool). cond b narrow_width config_width) c.if-size-bytes.false);
-      upper_bound = omega arith;
-    }
+  value = sym (told _ _ ∙ ap (λ (b : Bool). cond b narrow_width config_width) c.if-size-bytes.false);
+  upper_bound = omega arith;
+}

@@ -10,7 +10,6 @@ use Rattle.grammar.specs.declared.grammar.Slot.TheVariants.{Y, Z}
 use Rattle.grammar.specs.Grammar.{M-E=}
 use Rattle.wiring.specs.Parts.{part, slots_text}
 use Rattle.wiring.proofs.PartLaws.{Placed, placed-then, placed-as, LF, cca, cell_parts}
-use borrow.Author.Rules.{rules}
 use Rattle.wiring.proofs.parts.put_cell.Goals as goal
 
 pub returns : goal.returns

@@ -8,7 +8,6 @@ use Rattle.grammar.specs.declared.grammar.Slot.TheVariants.{Y, Z}
 use Rattle.grammar.specs.Grammar.{M-E=}
 use Rattle.wiring.specs.Parts.{part}
 use Rattle.wiring.proofs.PartLaws.{Placed, placed-then, placed-as, LF, cca, connector-parts}
-use borrow.Author.Rules.{rules}
 use Rattle.wiring.proofs.parts.put_connector.Goals as goal
 
 pub returns : goal.returns

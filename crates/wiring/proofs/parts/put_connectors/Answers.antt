@@ -1,5 +1,4 @@
 -- `wiring::parts::put_connectors` meets its contract: after k turns the lines of the first k entries are written.
-use Prim.Native.Nat.{◌-◌}
 use mathlib.Core.Path.{◌≡◌, ap}
 use mathlib.Core.List.{List}
 use lib.Seq.{take_all}
@@ -10,8 +9,8 @@ use borrow.Author.Rules.{rules}
 use Rattle.card.specs.Address.{connector_count}
 use Rattle.card.specs.Connectors.{no_connector}
 use Rattle.wiring.specs.Wiring.{connector_commands, commands_from}
-use Rattle.wiring.specs.Parts.{commands_text, connector_most}
-use Rattle.wiring.proofs.PartLaws.{placed-as, Written, written_none, written_next}
+use Rattle.wiring.specs.Parts.{commands_text}
+use Rattle.wiring.proofs.PartLaws.{placed-as, written_none, written_next}
 use Rattle.wiring.proofs.parts.put_connectors.Goals as goal
 
 pub loop-k-init : goal.loop-k-init

@@ -26,11 +26,10 @@ returns c =
     rw (sym none) (refl, (sym (add-zero a.at), omega arith))
 
 put-requires-4 : tie.Need-put-end-requires
-put-requires-4 c κs =
-    (
-      omega (arith, c.wide-4.ensures.1),
-      omega (arith, c.put-f.ensures.1.1, c.put-z.ensures.1.1, c.put-y.ensures.1.1, c.copy-x.ensures.1, c.requires),
-    )
+put-requires-4 c κs = (
+  omega (arith, c.wide-4.ensures.1),
+  omega (arith, c.put-f.ensures.1.1, c.put-z.ensures.1.1, c.put-y.ensures.1.1, c.copy-x.ensures.1, c.requires),
+)
 
 copy-requires-2 : tie.Need-copy-requires
 copy-requires-2 c κs =
