@@ -1,5 +1,4 @@
 -- `trigger::trigger_fresh_large` meets its contract.
-use borrow.Author.Rules.{rules}
 use Rattle.card.specs.Address.{cells_for}
 use Rattle.trigger.proofs.trigger_fresh_large.Goals as goal
 

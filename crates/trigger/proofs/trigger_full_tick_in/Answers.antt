@@ -2,7 +2,6 @@
 use Rattle.std.proofs.Common.{◌≡◌, true, sym, ap, ◌∙◌}
 use Rattle.card.specs.Address.{cells_for}
 use Rattle.ticks.specs.declared.tick.Ticked.{Ticked}
-use Rattle.ticks.specs.declared.connectors.Lines.{Lines}
 use Rattle.ticks.specs.Tick.{ticked_on, tick}
 use Rattle.ticks.proofs.Cases.{tick-own, tick-other}
 use Rattle.trigger.proofs.trigger_full_tick_in.Goals as goal

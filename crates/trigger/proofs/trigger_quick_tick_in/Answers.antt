@@ -2,7 +2,6 @@
 use Rattle.std.proofs.Common.{◌≡◌, false, sym, ap, ◌∙◌}
 use Rattle.card.specs.Address.{cells_for}
 use Rattle.ticks.specs.declared.tick.Ticked.{Ticked}
-use Rattle.ticks.specs.declared.connectors.Lines.{Lines}
 use Rattle.ticks.specs.Tick.{ticked_on, tick}
 use Rattle.ticks.specs.Brief.{with_brief}
 use Rattle.ticks.proofs.Cases.{tick-own, tick-other}
