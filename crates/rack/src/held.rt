@@ -1,5 +1,4 @@
-// A row that a program holds by value, given by reference for the time of a call. `on_row` is
-// proved by a walk of its code.
+// A row that a program holds by value, given by reference for the time of a call.
 ghost use Rattle.std.specs.Prelude.{◌≡◌, ◌≤◌};
 ghost use Rattle.rack.specs.Held.{held_of, row_held};
 

@@ -1,6 +1,6 @@
 // Up to four cards on one backplane: a row of cards that the caller holds, each changed where it
-// is. What is done to one card, by value, is covered; the functions that take the row (row,
-// rack_calls) are few and thin, and proved by a walk of their code.
+// is. What is done to one card is by value; the functions that take the row (row, rack_calls) are
+// few and thin.
 #![tactic(auto)]
 
 pub mod held; // a row that a program holds by value

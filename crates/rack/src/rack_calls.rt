@@ -1,5 +1,4 @@
-// The calls on a row of cards, in a static library with a pointer and a length. Proved by a walk of
-// the code.
+// The calls on a row of cards, which the caller holds. `rack_c` exports them to C.
 ghost use Rattle.std.specs.Prelude.{◌≡◌, ◌≤◌};
 ghost use Rattle.lines.specs.Line.{shortest_reply};
 ghost use Rattle.card.specs.Address.{cell_count};
@@ -12,8 +11,7 @@ use crate::row::{look_each, passes, swap_at};
 use card::card::Card;
 
 // Every card of the row fresh, but with all connectors as inputs.
-#[unsafe(no_mangle)]
-pub extern "C" fn rack_start(row: &mut [Card]) -> u8
+pub fn rack_start(row: &mut [Card]) -> u8
     ensures { (result ≡ start_number row.old)
         × (row.new ≡ started_row cell_count row.old) }
 {
@@ -23,8 +21,7 @@ pub extern "C" fn rack_start(row: &mut [Card]) -> u8
 }
 
 // A tick of all cards: all drive, then all sample, then all work out their cells.
-#[unsafe(no_mangle)]
-pub extern "C" fn rack_tick(row: &mut [Card], full: bool, input: RackInput) -> RackTicked
+pub fn rack_tick(row: &mut [Card], full: bool, input: RackInput) -> RackTicked
     ensures { (result ≡ row_ticked cell_count full input row.old)
         × (row.new ≡ ticked_row cell_count full input row.old) }
 {
@@ -35,8 +32,7 @@ pub extern "C" fn rack_tick(row: &mut [Card], full: bool, input: RackInput) -> R
 
 // A line to the card of a number: any bytes, without the line's own ending. The reply is written to
 // the front of its buffer, and a save writes the record to the front of the store.
-#[unsafe(no_mangle)]
-pub extern "C" fn rack_line(
+pub fn rack_line(
     row: &mut [Card],
     number: usize,
     text: &[u8],
@@ -61,8 +57,7 @@ pub extern "C" fn rack_line(
 }
 
 // A load of any bytes to the card of a number.
-#[unsafe(no_mangle)]
-pub extern "C" fn rack_load(row: &mut [Card], number: usize, bytes: &[u8]) -> u8
+pub fn rack_load(row: &mut [Card], number: usize, bytes: &[u8]) -> u8
     ensures { (result ≡ row_load_number cell_count row.old number bytes.now)
         × (row.new ≡ loaded_row cell_count row.old number bytes.now) }
 {

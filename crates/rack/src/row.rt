@@ -1,5 +1,4 @@
-// A row of cards that the caller holds, each read and changed where it is. Proved by a walk of the
-// code.
+// A row of cards that the caller holds, each read and changed where it is.
 ghost use Rattle.std.specs.Prelude.{◌≡◌, get_or, set};
 ghost use Rattle.rack.specs.Passes.{looked_all, after_row, visited_row, acted_over, acted_row};
 

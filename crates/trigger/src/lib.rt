@@ -59,8 +59,7 @@ pub extern "C" fn trigger_quick_tick(card: Card, input: Input) -> Ticked
     ticks::tick::quick_tick(card, input)
 }
 
-// ---- the card where it is: proved by a walk of the code. A tick of another clock is answered
-// before anything is copied.
+// ---- the card where it is. A tick of another clock is answered before anything is copied.
 
 // The same as `trigger_quick_tick`, of a card that is given by reference. Where every cell sleeps
 // the memory and the tick total are all that is written.

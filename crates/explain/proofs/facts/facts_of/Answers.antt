@@ -5,7 +5,7 @@ use Rattle.explain.proofs.facts.facts_of.Goals as goal
 
 pub returns : goal.returns
 returns c = record {
-      card_value = cc;
-      event_value = refl;
-      len_value = refl;
-    }
+  card_value = cc;
+  event_value = refl;
+  len_value = refl;
+}
