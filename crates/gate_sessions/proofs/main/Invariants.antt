@@ -1,0 +1,12 @@
+-- `gate_sessions::main` is safe and ends: the reader stays within its block, and each row leaves fewer rows and reads.
+use Prim.Native.Nat.{◌≤◌}
+use mathlib.Core.Path.{◌≡◌}
+use lib.ListN.{length}
+use borrow.Author.Rules.{rules}
+use Rattle.gate_sessions.proofs.main.Given as goal
+
+abbrev pub invariant-loop-r : goal.invariant-loop-r
+invariant-loop-r l = (l.r.end ≤ l.r.n) × (l.r.n ≤ length l.block) × (length l.block ≡ 2144) × (length l.row ≡ 96)
+
+abbrev pub decreases-loop-r : goal.decreases-loop-r
+decreases-loop-r l = l.r.left

@@ -1,0 +1,10 @@
+-- `gate_sessions::tallies::put_tallies` is safe and ends: each turn leaves one cell fewer.
+use Prim.Native.Nat.{◌≤◌, ◌-◌}
+use borrow.Author.Rules.{rules}
+use Rattle.gate_sessions.proofs.tallies.put_tallies.Given as goal
+
+abbrev pub invariant-loop-i : goal.invariant-loop-i
+invariant-loop-i l = l.i ≤ 32
+
+abbrev pub decreases-loop-i : goal.decreases-loop-i
+decreases-loop-i l = 32 - l.i
