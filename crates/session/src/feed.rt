@@ -52,12 +52,14 @@ pub fn start(cells: u8) -> Feed
 
 // A line to a card, with as much of the store as its records have.
 fn entered(card: Card, text: &[u8], store: &mut [u8], out: &mut [u8]) -> Entered
-    requires store_len { length store.old ≡ store_length }
-    requires longest_print_in_bounds { longest_print ≤ length out.old }
-    ensures { Given true card text.now store.old
+    requires { longest_print ≤ length out.old }
+    ensures { length store.old ≡ store_length → Given true card text.now store.old
         result.card result.event store.new }
 {
     if card.size == LARGE {
+        return crate::enter(card, text, store, out);
+    }
+    if store.len() < RECORD_LENGTH {
         return crate::enter(card, text, store, out);
     }
     crate::enter(card, text, &mut store[0..RECORD_LENGTH], out)
