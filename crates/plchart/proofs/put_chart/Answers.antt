@@ -1,12 +1,12 @@
 -- `plchart::put_chart` meets its contract: after a turns the rows of the first a addresses are written.
-use Prim.Native.Nat.{ℕ, ◌-◌}
+use Prim.Native.Nat.{ℕ}
 use mathlib.Core.Path.{◌≡◌, subst, ◌∙◌}
 use native.Mathlib.Nat.{zero-add}
 use native.Mathlib.Omega.{arith}
 use Rattle.text.proofs.Stores.{Placed}
 use Rattle.card.specs.Address.{cell_count, cells_for, address_count}
 use Rattle.plchart.specs.Rows.{rows_below}
-use Rattle.plchart.proofs.RowLaws.{Written, written_none, written_next}
+use Rattle.plchart.proofs.RowLaws.{written_none, written_next}
 use borrow.Author.Rules.{rules}
 use Rattle.plchart.proofs.put_chart.Goals as goal
 

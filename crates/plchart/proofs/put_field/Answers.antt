@@ -1,14 +1,13 @@
 -- `plchart::put_field` meets its contract: the digits, and the mark after them.
-use Prim.Native.Nat.{◌+◌, ◌≤◌, ◌<◌}
-use mathlib.Core.Path.{◌≡◌, refl}
+use Prim.Native.Nat.{◌+◌, ◌≤◌}
+use mathlib.Core.Path.{refl}
 use mathlib.Core.List.{[], ◌∷◌}
 use native.Mathlib.Omega.{arith}
 use lib.Dec.{lit≤}
-use lib.ListN.{length}
 use Rattle.text.specs.Decimal.{decimal, max_digits}
 use Rattle.text.proofs.DecimalLaws.{decimal-length}
 use Rattle.text.proofs.Stores.{Placed, placed-then}
-use Rattle.plchart.specs.Rows.{field_text, field_most, text_most}
+use Rattle.plchart.specs.Rows.{field_text, field_most}
 use borrow.Author.Rules.{rules}
 use Rattle.plchart.proofs.put_field.Goals as goal
 use Rattle.plchart.proofs.put_field.Goals.{After-put_decimal-end}

@@ -3,12 +3,10 @@ use Prim.Native.Nat.{◌+◌, ◌≤◌}
 use mathlib.Core.Path.{◌≡◌, ◌∙◌}
 use mathlib.Core.List.{◌++◌, append_assoc}
 use native.Mathlib.Omega.{arith}
-use lib.ListN.{length}
 use mir.Val.{bool_byte}
 use Rattle.text.proofs.Stores.{Placed, placed-then, placed-as}
 use Rattle.plchart.specs.Rows.{field_text, blank, line_feed, row_most}
 use Rattle.plchart.proofs.RowLaws.{row-bits}
-use borrow.Author.Rules.{rules}
 use Rattle.plchart.proofs.put_row.Goals as goal
 
 pub returns : goal.returns

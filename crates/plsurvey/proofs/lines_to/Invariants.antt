@@ -1,6 +1,5 @@
 -- `plsurvey::lines_to` is safe and ends: the base stays at most 49.
 use Prim.Native.Nat.{◌≤◌, ◌-◌}
-use borrow.Author.Rules.{rules}
 use Rattle.plsurvey.proofs.lines_to.Given as goal
 
 abbrev pub invariant-loop-a : goal.invariant-loop-a

@@ -1,6 +1,5 @@
 -- `plsurvey::put_columns` is safe and ends: the base stays at most 49.
 use Prim.Native.Nat.{◌≤◌, ◌-◌}
-use borrow.Author.Rules.{rules}
 use Rattle.plsurvey.proofs.put_columns.Given as goal
 
 abbrev pub invariant-loop-b : goal.invariant-loop-b

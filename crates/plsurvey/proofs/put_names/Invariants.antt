@@ -1,6 +1,5 @@
 -- `plsurvey::put_names` is safe and ends: the base stays at most at the end.
 use Prim.Native.Nat.{◌≤◌, ◌-◌}
-use borrow.Author.Rules.{rules}
 use Rattle.plsurvey.proofs.put_names.Given as goal
 
 abbrev pub invariant-loop-b : goal.invariant-loop-b

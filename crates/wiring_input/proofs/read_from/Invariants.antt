@@ -1,6 +1,5 @@
 -- `wiring_input::read_from` is safe and ends: each turn leaves fewer lines that may still be given.
 use mathlib.Core.Path.{◌≡◌}
-use borrow.Author.Rules.{rules}
 use Rattle.session.specs.Feed.{Ready}
 use Rattle.wiring_input.proofs.read_from.Given as goal
 

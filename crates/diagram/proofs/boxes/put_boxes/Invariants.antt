@@ -1,5 +1,5 @@
 -- `diagram::boxes::put_boxes` is safe and ends: the tick stays within the strip.
-use Rattle.std.proofs.Common.{◌-◌, ◌≤◌, rules}
+use Rattle.std.proofs.Common.{◌-◌, ◌≤◌}
 use Rattle.diagram.proofs.boxes.put_boxes.Given as goal
 
 abbrev pub invariant-loop-t : goal.invariant-loop-t

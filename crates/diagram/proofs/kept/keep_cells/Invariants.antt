@@ -1,5 +1,5 @@
 -- `diagram::kept::keep_cells` is safe and ends: the index stays at most 32.
-use Rattle.std.proofs.Common.{◌-◌, ◌≤◌, rules}
+use Rattle.std.proofs.Common.{◌-◌, ◌≤◌}
 use Rattle.diagram.proofs.kept.keep_cells.Given as goal
 
 abbrev pub invariant-loop-i : goal.invariant-loop-i

@@ -1,5 +1,5 @@
 -- `diagram::strip::put_grid` is safe and ends: the column stays within the strip.
-use Rattle.std.proofs.Common.{◌≡◌, ◌+◌, ◌-◌, ◌≤◌, rules}
+use Rattle.std.proofs.Common.{◌≡◌, ◌+◌, ◌-◌, ◌≤◌}
 use Rattle.diagram.proofs.strip.put_grid.Given as goal
 
 abbrev pub invariant-loop-k : goal.invariant-loop-k

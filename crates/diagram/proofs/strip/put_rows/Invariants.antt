@@ -1,5 +1,5 @@
 -- `diagram::strip::put_rows` is safe and ends: a row is drawn for no more than were looked at.
-use Rattle.std.proofs.Common.{◌+◌, ◌-◌, ◌*◌, ◌≤◌, ⊎_elim, arith, rules}
+use Rattle.std.proofs.Common.{◌+◌, ◌-◌, ◌*◌, ◌≤◌}
 use Rattle.diagram.specs.Page.{most_rows}
 use Rattle.diagram.proofs.strip.put_rows.Given as goal
 

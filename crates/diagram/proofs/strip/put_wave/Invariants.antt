@@ -1,5 +1,5 @@
 -- `diagram::strip::put_wave` is safe and ends: the tick stays within the strip.
-use Rattle.std.proofs.Common.{◌-◌, ◌≤◌, rules}
+use Rattle.std.proofs.Common.{◌-◌, ◌≤◌}
 use Rattle.diagram.proofs.strip.put_wave.Given as goal
 
 abbrev pub invariant-loop-t : goal.invariant-loop-t

@@ -1,6 +1,5 @@
 -- `explain::facts::facts_of` meets its contract: `run_after` keeps the card, and event and length are copied.
 use mathlib.Core.Path.{refl}
-use borrow.Author.Rules.{rules}
 use Rattle.explain.proofs.facts.facts_of.Goals as goal
 
 pub returns : goal.returns

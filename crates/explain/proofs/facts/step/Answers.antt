@@ -1,6 +1,5 @@
 -- `explain::facts::step` meets its contract: what `session::enter` ensures, with the parts that `facts_of` keeps.
 use native.Mathlib.Omega.{arith}
-use borrow.Author.Rules.{rules}
 use Rattle.explain.proofs.facts.step.Goals as goal
 
 pub returns : goal.returns

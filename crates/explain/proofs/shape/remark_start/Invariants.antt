@@ -1,8 +1,6 @@
 -- `explain::shape::remark_start` meets its contract: a turn for each byte.
 use Prim.Native.Nat.{◌≤◌, ◌-◌}
-use native.Mathlib.Omega.{arith}
 use lib.ListN.{length}
-use borrow.Author.Rules.{rules}
 use Rattle.explain.proofs.shape.remark_start.Given as goal
 
 abbrev pub invariant-loop-i : goal.invariant-loop-i

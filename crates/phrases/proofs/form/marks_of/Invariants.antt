@@ -1,8 +1,6 @@
 -- `phrases::form::marks_of` is safe and ends: a turn for each byte.
 use Prim.Native.Nat.{◌-◌, ◌≤◌}
-use native.Mathlib.Omega.{arith}
 use lib.ListN.{length}
-use borrow.Author.Rules.{rules}
 use Rattle.phrases.proofs.form.marks_of.Given as goal
 
 abbrev pub invariant-loop-i : goal.invariant-loop-i

@@ -1,7 +1,5 @@
 -- `phrases::hints::put_cells` is safe and ends: a turn for each cell.
 use Prim.Native.Nat.{◌-◌, ◌≤◌}
-use native.Mathlib.Omega.{arith}
-use borrow.Author.Rules.{rules}
 use Rattle.phrases.proofs.hints.put_cells.Given as goal
 
 abbrev pub invariant-loop-i : goal.invariant-loop-i

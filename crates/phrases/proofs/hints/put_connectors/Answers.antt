@@ -1,7 +1,5 @@
 -- `phrases::hints::put_connectors` is safe and ends: a turn for each connector.
-use Prim.Native.Nat.{◌-◌, ◌≤◌}
 use native.Mathlib.Omega.{arith}
-use borrow.Author.Rules.{rules}
 use Rattle.phrases.proofs.hints.put_connectors.Goals as goal
 
 pub loop-k-preserved : goal.loop-k-preserved

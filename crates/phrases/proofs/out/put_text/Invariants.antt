@@ -1,8 +1,6 @@
 -- `phrases::out::put_text` meets its contract: a turn for each byte. Only safety is claimed.
 use Prim.Native.Nat.{◌-◌, ◌≤◌}
-use native.Mathlib.Omega.{arith}
 use lib.ListN.{length}
-use borrow.Author.Rules.{rules}
 use Rattle.phrases.proofs.out.put_text.Given as goal
 
 abbrev pub invariant-loop-i : goal.invariant-loop-i

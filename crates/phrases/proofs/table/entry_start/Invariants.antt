@@ -1,8 +1,6 @@
 -- `phrases::table::entry_start` meets its contract: a turn for each entry before k.
 use Prim.Native.Nat.{◌≤◌, ◌-◌}
-use native.Mathlib.Omega.{arith}
 use lib.ListN.{length}
-use borrow.Author.Rules.{rules}
 use Rattle.phrases.proofs.table.entry_start.Given as goal
 
 abbrev pub invariant-loop : goal.invariant-loop

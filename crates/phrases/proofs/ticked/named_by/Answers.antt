@@ -1,7 +1,5 @@
 -- `phrases::ticked::named_by` is safe and ends: a turn for each cell.
-use Prim.Native.Nat.{◌-◌, ◌≤◌}
 use native.Mathlib.Omega.{arith}
-use borrow.Author.Rules.{rules}
 use Rattle.phrases.proofs.ticked.named_by.Goals as goal
 
 pub loop-i-preserved : goal.loop-i-preserved

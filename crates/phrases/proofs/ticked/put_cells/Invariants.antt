@@ -1,7 +1,5 @@
 -- `phrases::ticked::put_cells` is safe and ends: a turn for each cell of the card.
 use Prim.Native.Nat.{◌-◌, ◌≤◌}
-use native.Mathlib.Omega.{arith}
-use borrow.Author.Rules.{rules}
 use Rattle.phrases.proofs.ticked.put_cells.Given as goal
 
 abbrev pub invariant-loop-i : goal.invariant-loop-i

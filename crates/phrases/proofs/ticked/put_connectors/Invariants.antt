@@ -1,7 +1,5 @@
 -- `phrases::ticked::put_connectors` meets its contract: a turn for each connector. Only safety is claimed.
 use Prim.Native.Nat.{◌-◌, ◌≤◌}
-use native.Mathlib.Omega.{arith}
-use borrow.Author.Rules.{rules}
 use Rattle.card.specs.Address.{connector_count}
 use Rattle.phrases.proofs.ticked.put_connectors.Given as goal
 

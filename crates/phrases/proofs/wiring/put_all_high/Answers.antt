@@ -1,7 +1,5 @@
 -- `phrases::wiring::put_all_high` meets its contract: a turn for each connector of the range. Only safety is claimed.
-use Prim.Native.Nat.{◌-◌, ◌≤◌}
 use native.Mathlib.Omega.{arith}
-use borrow.Author.Rules.{rules}
 use Rattle.phrases.proofs.wiring.put_all_high.Goals as goal
 
 pub loop-k-preserved : goal.loop-k-preserved

@@ -1,7 +1,5 @@
 -- `phrases::wiring::put_members` meets its contract: a turn for each cell. Only safety is claimed.
 use Prim.Native.Nat.{◌-◌, ◌≤◌}
-use native.Mathlib.Omega.{arith}
-use borrow.Author.Rules.{rules}
 use Rattle.card.specs.Address.{cell_room}
 use Rattle.phrases.proofs.wiring.put_members.Given as goal
 
