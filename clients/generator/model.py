@@ -4,6 +4,7 @@ import os
 import re
 from dataclasses import dataclass, field
 
+LAYOUT = r"#\[repr\(C\)\]\s*(?:#\[derive\([\w, ]*\)\]\s*)?"  # what comes before a struct that C knows
 SIZES = {"u8": 1, "bool": 1, "u16": 2, "u32": 4, "u64": 8, "usize": 8}
 
 
@@ -140,7 +141,7 @@ class Crates:
     def calls(self):
         """Every exported call, in the order of the files."""
         found = []
-        pattern = re.compile(r'#\[no_mangle\]\s*pub extern "C" fn (\w+)\(([^)]*)\)(?:\s*->\s*(\w+))?')
+        pattern = re.compile(r'#\[unsafe\(no_mangle\)\]\s*pub extern "C" fn (\w+)\(([^)]*)\)(?:\s*->\s*(\w+))?')
         for path, text in self.texts.items():
             for name, params, result in pattern.findall(text):
                 pairs = [pair.split(":", 1) for pair in params.split(",") if pair.strip()]
@@ -167,14 +168,14 @@ class Crates:
         alias = re.search(r"\btype %s = ([^;]+);" % name, text)
         if alias:
             return self.kind(alias[1].strip(), home)
-        around = re.search(r"#\[repr\(C\)\]\s*pub struct %s\(pub (\w+)\);" % name, text)
+        around = re.search(LAYOUT + r"pub struct %s\(pub (\w+)\);" % name, text)
         if around:
             return self.kind(around[1], home)
         return self.struct(name, home, text)
 
     def struct(self, name, home, text):
         if (name, home) not in self.structs:
-            body = re.search(r"#\[repr\(C\)\]\s*pub struct %s \{\n(.*?)\n\}" % name, text, re.S)
+            body = re.search(LAYOUT + r"pub struct %s \{\n(.*?)\n\}" % name, text, re.S)
             if not body:
                 raise SystemExit("generate: %s: %s has no layout that C knows" % (home, name))
             made = self.structs[name, home] = Struct(name, home)
@@ -186,7 +187,7 @@ class Crates:
         text = self.texts[path]
         if re.search(r"\b(struct|type|const) %s\b" % name, text):
             return path, text
-        used = re.search(r"^use ([\w:]+)::%s;" % name, text, re.M)
+        used = re.search(r"^use ([\w:]+)::(?:%s|\{(?:[\w, ]*\W)?%s\b[\w, ]*\});" % (name, name), text, re.M)
         if not used:
             raise SystemExit("generate: %s: nothing defines %s" % (path, name))
         first, *rest = used[1].split("::")
