@@ -8,7 +8,7 @@ case ${1:-} in
 '') echo "$usage" >&2; exit 2 ;;
 esac
 program=$(dirname "$0")/target/bin/$1
-[ -x "$program" ] || { echo "pl: there is no $program; \`rt check $1\` builds it" >&2; exit 2; }
+[ -x "$program" ] || { echo "pl: there is no $program; \`./build $1\` builds it" >&2; exit 2; }
 shift
 work=$(mktemp -d) || exit 2
 trap 'rm -rf "$work"' EXIT

@@ -6,9 +6,9 @@
  * There are two kinds of calls. Those whose names end in _at take the card by a pointer and change
  * it where it is: they are the same on every processor, and `clients/firmware/make TARGET` builds
  * them. Those under TRIGGER_BY_VALUE pass structs by value; they are for x86-64 alone, and are in
- * target/staticlib/libtrigger.a, which `rt staticlib trigger` makes, and beside the others in the
+ * target/staticlib/libtrigger.a, which `./build trigger` makes, and beside the others in the
  * library that `clients/firmware/make x86-64` makes. The calls on a row of cards, whose names start
- * with rack_, are in a library of their own beside it: librack.a, which `rt staticlib rack` makes.
+ * with rack_, are in a library of their own beside it: librack.a, which `./build rack` makes.
  *
  * A card comes from trigger_fresh or trigger_fresh_large, and from calls on such a card. Memory
  * that is all zero is no card: its pointer is at no place, and what is proved of cards that calls

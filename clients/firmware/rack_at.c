@@ -1,6 +1,6 @@
 /*
  * Written by clients/generate: do not edit. The calls of trigger.h on a row of cards that pass
- * pointers, over those of the proved module of crates/rack, as at.c. A row is passed as a slice, and
+ * pointers, over those of the proved module of crates/rack_c, as at.c. A row is passed as a slice, and
  * its cards are changed where they are.
  */
 #include "inner.h"

@@ -1,5 +1,5 @@
 // Where the static libraries are: in the folder that TRIGGER_LIB names; else, for calls by value,
-// where `rt staticlib` puts them, and for calls by pointers where `clients/firmware/make` does.
+// where `./build` puts them, and for calls by pointers where `clients/firmware/make` does.
 use std::env;
 use std::path::PathBuf;
 

@@ -58,7 +58,7 @@ def program(name):
     found = shutil.which(name)
     if not found:
         sys.exit(
-            "%s is missing. `rt check %s` at the top of the repository builds it, and a release has it." % (name, name)
+            "%s is missing. `./build %s` at the top of the repository builds it, and a release has it." % (name, name)
         )
     return found
 

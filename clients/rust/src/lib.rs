@@ -5,7 +5,7 @@
 //! [full](Card::full_tick) or [quick](Card::quick_tick). It saves its wiring as a record (the line
 //! `36SS Z`), [loads](Card::load) one, and [prints](Card::print) its wiring as lines. The calls are
 //! those of the static library of crates/trigger, which is proved; they allocate nothing and keep
-//! nothing between calls. On x86-64 they pass the card by value, in the library that `rt staticlib`
+//! nothing between calls. On x86-64 they pass the card by value, in the library that `./build`
 //! makes; on every other processor, and on x86-64 with the feature `pointers`, by a pointer, in the
 //! library that `clients/firmware/make` makes.
 //!
