@@ -24,8 +24,7 @@ export function runBytes(module, input, { words = [], onRead = null, onWrite = n
       if (fd === STDOUT) onWrite?.(bytes);
       return length;
     },
-    // word 0 is the program's own name
-    rattle_arg_count: () => BigInt(words.length && words.length + 1),
+    // words are asked from 1 on, until one is missing
     rattle_arg(index, address, length) {
       const word = encoded[Number(index) - 1];
       if (!word) return -1n;
@@ -35,6 +34,7 @@ export function runBytes(module, input, { words = [], onRead = null, onWrite = n
     rattle_errno: () => errno,
     rattle_set_errno: (error) => { errno = error; },
     isatty: () => 0,
+    __sysv_signal: () => 0n, // a program asks first that a closed output is no end of it
   };
   const missing = (name) => () => { throw new Error(`a program asked for ${name}, which a page does not have`); };
   for (const { name } of WebAssembly.Module.imports(module)) env[name] ??= missing(name);
