@@ -3,7 +3,6 @@
  * use of it. No proof covers these calls, here or in the kit.
  */
 #include <errno.h>
-#include <fcntl.h>
 #include <stddef.h>
 #include <sys/types.h>
 
@@ -15,11 +14,6 @@ __attribute__((constructor)) static void keep(int argc, char **argv)
 {
     count = (size_t)argc;
     words = argv;
-}
-
-size_t rattle_arg_count(void)
-{
-    return count;
 }
 
 /* Word i, and its length; -1 where there is none, and -2 where it does not fit. */
@@ -34,11 +28,6 @@ ssize_t rattle_arg(size_t i, char *buffer, size_t room)
             return -2;
         buffer[n] = words[i][n];
     }
-}
-
-int rattle_open_to_read(const char *path)
-{
-    return open(path, O_RDONLY | O_CLOEXEC | O_NOCTTY);
 }
 
 int rattle_errno(void)
