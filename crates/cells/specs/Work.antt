@@ -76,12 +76,12 @@ abbrev pub d_flop : Slots → Bool → Bool
 d_flop r bit = cond r.z false (cond r.f true (cond r.y r.x bit))
 
 -- type 12: "the same three, only at a clock edge"
-abbrev pub sync_dFlop : Slots → Bool → Bool
-sync_dFlop r bit = cond r.y (cond r.z false (cond r.f true r.x)) bit
+abbrev pub sync_d_flop : Slots → Bool → Bool
+sync_d_flop r bit = cond r.y (cond r.z false (cond r.f true r.x)) bit
 
 -- type 18: "reset gives 0; else at an edge F gives 0, else D"
-abbrev pub clear_dFlop : Slots → Bool → Bool
-clear_dFlop r bit = cond r.z false (cond r.y (cond r.f false r.x) bit)
+abbrev pub clear_d_flop : Slots → Bool → Bool
+clear_d_flop r bit = cond r.z false (cond r.y (cond r.f false r.x) bit)
 
 -- type 13: "at an edge J K = 10 sets, 01 clears, 11 toggles, 00 holds"
 abbrev pub jk : Slots → Bool → Bool
@@ -90,8 +90,8 @@ jk r bit = cond r.z (cond r.x (cond r.y (not bit) true) (cond r.y false bit)) bi
 -- a flip-flop's next bit
 abbrev pub flop_next : FlopKind → Slots → Bool → Bool
 flop_next DFlop r bit = d_flop r bit
-flop_next SyncDFlop r bit = sync_dFlop r bit
-flop_next ClearDFlop r bit = clear_dFlop r bit
+flop_next SyncDFlop r bit = sync_d_flop r bit
+flop_next ClearDFlop r bit = clear_d_flop r bit
 flop_next Jk r bit = jk r bit
 
 -- a timer's trigger: X or, where F is used, F

@@ -5,7 +5,7 @@ ghost use Rattle.cells.specs.declared.cell.Pulses.{Pulses};
 ghost use Rattle.cells.specs.State.{state};
 ghost use Rattle.cells.specs.Reading.{three_from, slots_from};
 ghost use Rattle.cells.specs.Work;
-ghost use Rattle.cells.specs.Work.{lookup_out, looked, d_flop, sync_dFlop, clear_dFlop, flop_next, shot_busy};
+ghost use Rattle.cells.specs.Work.{lookup_out, looked, d_flop, sync_d_flop, clear_d_flop, flop_next, shot_busy};
 ghost use Rattle.cells.specs.Work.{delay_busy, next_count, next_pulse, pulses};
 ghost use Rattle.cells.specs.Work.{count_after, pulse_after, started_by, active_after, kept_active, counted_up, work_as};
 ghost use Rattle.cells.specs.Work.{gate_out};
@@ -95,7 +95,7 @@ fn d_flop(bit: bool, x: u8, y: u8, z: u8, f: u8, q: &[u64; QUARTERS]) -> bool
 }
 
 fn sync_d_flop(bit: bool, x: u8, y: u8, z: u8, f: u8, q: &[u64; QUARTERS]) -> bool
-    ensures { result ≡ sync_dFlop (slots_from q.now x y z f) bit }
+    ensures { result ≡ sync_d_flop (slots_from q.now x y z f) bit }
 {
     if read(q, y) {
         if read(q, z) {
@@ -111,7 +111,7 @@ fn sync_d_flop(bit: bool, x: u8, y: u8, z: u8, f: u8, q: &[u64; QUARTERS]) -> bo
 }
 
 fn clear_d_flop(bit: bool, x: u8, y: u8, z: u8, f: u8, q: &[u64; QUARTERS]) -> bool
-    ensures { result ≡ clear_dFlop (slots_from q.now x y z f) bit }
+    ensures { result ≡ clear_d_flop (slots_from q.now x y z f) bit }
 {
     if read(q, z) {
         false
