@@ -1,36 +1,30 @@
 -- The tests of the code, case by case.
-use Prim.Native.Nat.{ℕ, zero, suc, ◌+◌, ◌-◌, ◌≤◌, ◌<◌}
-use mathlib.Core.Path.{◌≡◌, sym, ◌∙◌}
+use Prim.Native.Nat.{ℕ, zero, suc, ◌+◌, ◌-◌, ◌≤◌, ◌<◌, min, max}
+use mathlib.Core.Path.{◌≡◌, ap, ◌∙◌}
 use mathlib.Core.Bool.{Bool, true, false, not, ◌||◌, beq, cond}
 use mathlib.Core.List.{List}
 use native.Mathlib.Nat.{not-suc-le-zero}
 use native.Mathlib.Numerals.{add-one}
 use native.Mathlib.Omega.{arith}
 use lib.ListN.{get_or}
-use borrow.Author.Tests.{eq-eqb, ne_eqb, lt-ltb, le-ltb}
+use borrow.Author.Tests.{eq-eqb, ne_eqb}
+use Rattle.card.proofs.TallyLaws.{by_less}
 use Rattle.cells.specs.declared.cell.Cell.{Cell}
 use Rattle.cells.specs.Work.{largest_count}
 use Rattle.card.specs.Fresh.{no_cell}
-use Rattle.card.specs.Tally.{standstill}
-use Rattle.ticks.specs.Rest.{total_after}
 use Rattle.card.specs.declared.card.Card.{Card}
-use Rattle.steady.specs.Steady.{same_but, steady_from, forever, count_holds, state_holds, cell_holds, count_through, least, least_holds, made_of}
-use Rattle.steady.proofs.Cells.{Way, way, through-falls}
+use Rattle.steady.specs.Steady.{same_but, steady_from, forever, count_holds, state_holds, cell_holds, least, least_holds, made_of}
+use Rattle.steady.proofs.Cells.{Way, way}
 use Rattle.steady.proofs.Cells.Way.{stays, falls, rises}
 
-pub least-b : (a b : ℕ) → b < a → b ≡ least a b
-least-b a b h = rw (lt-ltb b a h)
+-- std's `min` and `max` of numbers
+pub min-least : (a b : ℕ) → min a b ≡ least a b
+min-least a b = by_less b a (λ t. min a b ≡ cond t b a) (λ h. omega arith) (λ h. omega arith)
 
-pub least-a : (a b : ℕ) → a ≤ b → a ≡ least a b
-least-a a b h = rw (le-ltb b a h)
-
-pub made_one : (k steady : ℕ) → steady < 1 → least k 1 ≡ made_of k steady
+pub made_many : (k steady : ℕ) → min k (max steady 1) ≡ made_of k steady
 unfolding made_of
-made_one k steady h = rw (lt-ltb steady 1 h)
-
-pub made_more : (k steady : ℕ) → 1 ≤ steady → least k steady ≡ made_of k steady
-unfolding made_of
-made_more k steady h = rw (le-ltb steady 1 h)
+made_many k steady =
+    min-least k _ ∙ ap (least k) (by_less steady 1 (λ t. max steady 1 ≡ cond t 1 steady) (λ h. omega arith) (λ h. omega arith))
 
 pub holds-1 : (config x y : ℕ) → x ≡ y → forever ≡ count_holds config x y
 unfolding count_holds
@@ -57,9 +51,6 @@ pub least-next : (i all one : ℕ) (before after : List Cell) → all ≡ least_
 unfolding least_holds
 least-next i all one before after e f = rw (add-one, ← e, ← f)
 
-pub through-ended : (x y m : ℕ) → y < x → x ≤ m → 0 ≡ count_through x y m
-through-ended x y m h l = let none : 0 ≡ x - m = omega arith in none ∙ sym (through-falls x y m h)
-
 -- a count that rises has room for the ticks for which it holds
 pub room-count : (config x y m : ℕ) → 0 < m → m ≤ count_holds config x y → x < y → x + m ≤ largest_count
 room-count config x y zero pos h less = absurd (not-suc-le-zero pos)
@@ -77,15 +68,6 @@ room-cell a b m pos h less = go (not (beq a.bit b.bit) || not (beq a.pulse b.pul
     go : (t : Bool) → m ≤ cond t 0 (count_holds a.config a.count.0 b.count.0) → a.count.0 + m ≤ largest_count
     go true g = absurd (omega arith)
     go false g = room-count a.config a.count.0 b.count.0 m pos g less
-
-pub total-1 : (t k : ℕ) → t < standstill → t + k < standstill → t + k ≡ total_after t k
-total-1 t k h l = rw (lt-ltb t standstill h, lt-ltb (t + k) standstill l)
-
-pub total-2 : (t k : ℕ) → t < standstill → standstill ≤ t + k → standstill ≡ total_after t k
-total-2 t k h l = rw (lt-ltb t standstill h, le-ltb (t + k) standstill l)
-
-pub total-3 : (t k : ℕ) → standstill ≤ t → t ≡ total_after t k
-total-3 t k h = rw (le-ltb t standstill h)
 
 pub steady_then : (n : ℕ) (c d : Card) → same_but c d ≡ true → least_holds n c.cells d.cells ≡ steady_from n c d
 unfolding steady_from

@@ -8,7 +8,6 @@ ghost use Rattle.words.specs.Bits.{bit_at};
 ghost use Rattle.cells.specs.Work.{largest_count};
 ghost use Rattle.card.specs.Address.{cell_room, cells_for};
 ghost use Rattle.ticks.specs.Rest.{total_after};
-ghost use Rattle.steady.specs.Steady;
 ghost use Rattle.steady.specs.Steady.{count_holds, cell_holds, least_holds, same_words, same_outputs, steady_from};
 ghost use Rattle.steady.specs.Steady.{steady_for, count_through, cell_through, cells_through};
 ghost use Rattle.steady.specs.Steady.{counted_for, tallied_for, card_through, made_of, advanced};
@@ -23,7 +22,7 @@ use ticks::tick::{Answer, Ticked, idle, quick_tick};
 use ticks::view::Input;
 
 // No more ticks can be asked for; and no tally goes beyond it.
-const FOREVER: u32 = 4294967295;
+const FOREVER: u32 = u32::MAX;
 
 // Ticks made at once: the card after them, the answer of the last, and how many were made.
 #[repr(C)]
@@ -34,24 +33,7 @@ pub struct Advanced {
     pub made: u32,
 }
 
-fn least(a: u32, b: u32) -> u32
-    ensures { result ≡ Steady.least a b }
-{
-    if b < a { b } else { a }
-}
-
 // ---- for how many ticks
-
-// How far a counter is from its largest count.
-fn room(count: Count) -> u32
-    ensures { result ≡ largest_count - count }
-{
-    if count < LARGEST_COUNT {
-        LARGEST_COUNT - count
-    } else {
-        0
-    }
-}
 
 // For how many ticks a count goes on as in the tick that took it from x to y.
 fn count_holds(config: u32, x: Count, y: Count) -> u32
@@ -67,7 +49,7 @@ fn count_holds(config: u32, x: Count, y: Count) -> u32
         return y;
     }
     if y as u64 == x as u64 + 1 {
-        return room(x);
+        return LARGEST_COUNT.saturating_sub(x);
     }
     0
 }
@@ -75,7 +57,7 @@ fn count_holds(config: u32, x: Count, y: Count) -> u32
 fn cell_holds(a: Cell, b: Cell) -> u32
     ensures { result ≡ cell_holds a b }
 {
-    if (a.bit ^ b.bit) | (a.pulse ^ b.pulse) {
+    if (a.bit != b.bit) | (a.pulse != b.pulse) {
         0
     } else {
         count_holds(a.config, a.count.0, b.count.0)
@@ -88,8 +70,7 @@ fn least_holds(before: [Cell; CELLS], after: [Cell; CELLS], n: u8) -> u32
 {
     let mut all = FOREVER;
     for i in 0..n as usize {
-        let one = cell_holds(before[i], after[i]);
-        all = least(all, one);
+        all = all.min(cell_holds(before[i], after[i]));
     }
     all
 }
@@ -108,12 +89,8 @@ fn steady_from(c: Card, d: Card, n: u8) -> u32
     requires { n ≤ cell_room }
     ensures { result ≡ steady_from n c d }
 {
-    let a = c.memory;
-    let b = d.memory;
-    if (c.edited == d.edited) & same_memory(a, b) {
-        let before = c.cells;
-        let after = d.cells;
-        least_holds(before, after, n)
+    if (c.edited == d.edited) & same_memory(c.memory, d.memory) {
+        least_holds(c.cells, d.cells, n)
     } else {
         0
     }
@@ -126,8 +103,7 @@ pub fn steady_for(card: Card, input: Input) -> u32
 {
     let n = cells_for(card.size);
     let t = quick_tick(card, input);
-    let d = t.card;
-    steady_from(card, d, n)
+    steady_from(card, t.card, n)
 }
 
 // ---- the card after them
@@ -137,7 +113,7 @@ fn count_through(x: Count, y: Count, m: u32) -> Count
     ensures { result ≡ count_through x y m }
 {
     if y < x {
-        if m < x { x - m } else { 0 }
+        x.saturating_sub(m)
     } else if x < y {
         x + m
     } else {
@@ -151,10 +127,10 @@ fn cell_through(a: Cell, b: Cell, m: u32) -> Cell
     ensures { result ≡ cell_through a b m }
 {
     let count = count_through(a.count.0, b.count.0, m);
-    let mut next = a;
-    let pulses = Pulses(count);
-    next.count = pulses;
-    next
+    Cell {
+        count: Pulses(count),
+        ..a
+    }
 }
 
 fn cells_through(before: [Cell; CELLS], after: [Cell; CELLS], m: u32, n: u8) -> [Cell; CELLS]
@@ -165,8 +141,7 @@ fn cells_through(before: [Cell; CELLS], after: [Cell; CELLS], m: u32, n: u8) -> 
 {
     let mut next = before;
     for i in 0..n as usize {
-        let cell = cell_through(before[i], after[i], m);
-        next[i] = cell;
+        next[i] = cell_through(before[i], after[i], m);
     }
     next
 }
@@ -175,16 +150,7 @@ fn cells_through(before: [Cell; CELLS], after: [Cell; CELLS], m: u32, n: u8) -> 
 fn total_after(total: u32, k: u32) -> u32
     ensures { result ≡ total_after total k }
 {
-    if total < FOREVER {
-        let sum = total as u64 + k as u64;
-        if sum < FOREVER as u64 {
-            sum as u32
-        } else {
-            FOREVER
-        }
-    } else {
-        total
-    }
+    total.saturating_add(k)
 }
 
 fn counted_for(named: bool, d: u32, v: Ticks) -> Ticks
@@ -201,12 +167,10 @@ fn tallies_through(t: Tallies, named: CellWord, m: u32, n: u8) -> Tallies
     let total = total_after(t.total.0, m);
     let d = total - t.total.0;
     let mut next = t;
-    let all = Ticks(total);
-    next.total = all;
+    next.total = Ticks(total);
     for i in 0..n as u32 {
         let at = i as usize;
-        let v = counted_for(words::bit(named as u64, i), d, next.cells[at]);
-        next.cells[at] = v;
+        next.cells[at] = counted_for(words::bit(named as u64, i), d, next.cells[at]);
     }
     next
 }
@@ -218,17 +182,10 @@ fn card_through(c: Card, t: Ticked, m: u32, n: u8) -> Card
     requires m_bound { m ≤ least_holds n c.cells t.card.cells }
     ensures { result ≡ card_through n c t m }
 {
-    let d = t.card;
-    let before = c.cells;
-    let after = d.cells;
-    let answer = t.answer;
     let mut next = c;
-    let cells = cells_through(before, after, m, n);
-    next.cells = cells;
-    if answer.ran {
-        let tallies = c.tallies;
-        let more = tallies_through(tallies, answer.woken, m, n);
-        next.tallies = more;
+    next.cells = cells_through(c.cells, t.card.cells, m, n);
+    if t.answer.ran {
+        next.tallies = tallies_through(c.tallies, t.answer.woken, m, n);
     }
     next
 }
@@ -239,11 +196,7 @@ fn card_through(c: Card, t: Ticked, m: u32, n: u8) -> Card
 fn made_of(k: u32, steady: u32) -> u32
     ensures { result ≡ made_of k steady }
 {
-    if steady < 1 {
-        least(k, 1)
-    } else {
-        least(k, steady)
-    }
+    k.min(steady.max(1))
 }
 
 // Up to k quick ticks with one input: the first of them, and the others as long as nothing but
@@ -253,30 +206,25 @@ pub fn advance(card: Card, input: Input, k: u32) -> Advanced
 {
     if k == 0 {
         let t = idle(card);
-        let same = t.card;
-        let answer = t.answer;
         return Advanced {
-            card: same,
-            answer: answer,
+            card: t.card,
+            answer: t.answer,
             made: 0,
         };
     }
     let n = cells_for(card.size);
     let t = quick_tick(card, input);
-    let d = t.card;
-    let answer = t.answer;
-    let m = made_of(k, steady_from(card, d, n));
-    if m < 2 {
+    let made = made_of(k, steady_from(card, t.card, n));
+    if made < 2 {
         return Advanced {
-            card: d,
-            answer: answer,
-            made: m,
+            card: t.card,
+            answer: t.answer,
+            made,
         };
     }
-    let next = card_through(card, t, m, n);
     Advanced {
-        card: next,
-        answer: answer,
-        made: m,
+        card: card_through(card, t, made, n),
+        answer: t.answer,
+        made,
     }
 }

@@ -2,12 +2,12 @@
 use Rattle.steady.proofs.Made.{ran-through, idle-through}
 use Rattle.steady.proofs.card_through.Goals as goal
 
-pub returns-then-answer : goal.returns-then-answer
-returns-then-answer c =
+pub returns-then-t : goal.returns-then-t
+returns-then-t c =
     let a = c.args in
-    ran-through a.n a.c a.t a.m _ _ c.cells_through-cells.ensures c.if-answer.true c.tallies_through-more.ensures
+    ran-through a.n a.c a.t a.m _ _ c.cells_through-next.ensures c.if-t.true c.tallies_through-next.ensures
 
-pub returns-else-answer : goal.returns-else-answer
-returns-else-answer c =
+pub returns-else-t : goal.returns-else-t
+returns-else-t c =
     let a = c.args in
-    idle-through a.n a.c a.t a.m _ c.cells_through-cells.ensures c.if-answer.false
+    idle-through a.n a.c a.t a.m _ c.cells_through-next.ensures c.if-t.false

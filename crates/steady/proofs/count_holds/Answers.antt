@@ -14,7 +14,7 @@ pub returns-then-x-y-2 : goal.returns-then-x-y-2
 returns-then-x-y-2 c = holds-3 _ _ _ (search rules) (search rules) (search rules)
 
 pub returns-then-y-x : goal.returns-then-y-x
-returns-then-y-x c = c.room.ensures ∙ holds-4 _ _ _ (search rules) (search rules) (search rules) (search rules)
+returns-then-y-x c = c.saturating_sub.ensures ∙ holds-4 _ _ _ (search rules) (search rules) (search rules) (search rules)
 
 pub returns : goal.returns
 returns c = holds-5 _ _ _ (search rules) (search rules) (search rules) (search rules)
