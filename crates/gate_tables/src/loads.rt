@@ -13,7 +13,6 @@ use crate::{put, put_field, put_number};
 use card::limits::{LARGE, SMALL};
 use input::system::{STDOUT, Source};
 use input::{BLOCK, Reader, least, next_line, start};
-use text::Hex;
 
 // The longest row of digits, the bytes that it says, and the longest buffer for a conversion.
 const LONGEST_ROW: usize = 1100;
@@ -138,12 +137,12 @@ fn put_record(digits: &[u8], size: u8) {
 
 // The conversion of the record that some digits say. The buffer is not empty, so that a byte of it
 // which is no part of the result would show.
-fn put_converted(room: Hex, digits: &[u8]) {
-    let length = room.value as usize;
-    if !room.ok {
+fn put_converted(room: Option<u16>, digits: &[u8]) {
+    let Some(room) = room else {
         put(b"?\n");
         return;
-    }
+    };
+    let length = room as usize;
     if MOST_ROOM < length {
         put(b"?\n");
         return;

@@ -14,6 +14,8 @@ use lib.ListN.{length, drop, drop_of_length-le, get_or-eq_default}
 use lib.Seq.{drop-cons, drop-drop}
 use borrow.Author.Tests.{leb-true, eqb-true, not-true, lt-ltb}
 use Rattle.text.specs.declared.Number.{Number}
+use Rattle.std.specs.Prelude.{Some, None}
+use Rattle.std.specs.Option.{is_some, unwrap_or}
 use Rattle.text.specs.Decimal.{is_digit, digits_of, digit_value, value_from, decimal, max_digits, plain, number_of, number_in, number_at}
 use Rattle.text.proofs.DecimalLaws.{digits-rest, digits-all, digit-small, reads-print}
 use Rattle.text.proofs.DigitLaws.{value-below}
@@ -192,38 +194,44 @@ unfolding number_of plain
 number-said s h =
     let ds = digits_of s in
     let v = value_from 0 ds in
-    let reads : number_of ds ≡ just v = rw (digits-all s, h) in
+    let reads : number_of ds ≡ Some v = rw (digits-all s, h) in
     let few : length ds ≤ max_digits = leb-true (length ds) max_digits (and_left (leb (length ds) max_digits) _ h) in
     let below : v < 10 ^ (0 + length ds) = value-below 10 is_digit digit_value digit-small ds 0 0 (digits-all s) (lit≤ tt) in
     let less : 0 + length ds ≤ max_digits = omega arith in
     let most : 10 ^ (0 + length ds) ≤ 10 ^ max_digits = pow-le-pow_right (lit≤ tt) less in
     (reads-print ds v reads, lt-ltb v (10 ^ max_digits) (lt_of_lt_of_le below most))
 
-number-there : (t : List ℕ) (at : ℕ) → let n = number_at t at in n.ok ≡ true
-    → (drop at t ≡ decimal n.value ++ drop n.next t) × (printable n.value ≡ true)
+-- the value of a number that there is
+plain-some : (b : Bool) (v : ℕ) → is_some (cond b (Some v) None) ≡ true → b ≡ true
+plain-some true v h = refl
+plain-some false v h = absurd (false≢true h)
+
+number-there : (t : List ℕ) (at : ℕ) → let n = number_at t at in is_some n.value ≡ true
+    → (drop at t ≡ decimal (unwrap_or n.value 0) ++ drop n.next t) × (printable (unwrap_or n.value 0) ≡ true)
 unfolding number_at number_in
-number-there t at h =
+number-there t at some =
     let ds = digits_of (drop at t) in
+    let h = plain-some (plain ds) (value_from 0 ds) some in
     let said = number-said (drop at t) h in
     rw h (sym (digits-rest (drop at t)) ∙ ap₂ (λ (x y : List ℕ). x ++ y) (sym said.0) (drop-drop (length ds) at t), said.1)
 
 pub ending_there : (t : List ℕ) (at : ℕ) → let e = to_end t at in e.ok ≡ true → (drop at t ≡ decimal e.value) × (printable e.value ≡ true)
 unfolding to_end
-ending_there t at = go (leb at (length t)) (number_at t at).ok (eqb (number_at t at).next (length t)) refl refl
+ending_there t at = go (leb at (length t)) (is_some (number_at t at).value) (eqb (number_at t at).next (length t)) refl refl
   where
     n : Number
     n = number_at t at
 
     ended : Bool → Ending
-    ended b = cond b (record { ok = true; value = n.value }) (record { ok = false; value = 0 })
+    ended b = cond b (record { ok = true; value = unwrap_or n.value 0 }) (record { ok = false; value = 0 })
 
-    go : (l o e : Bool) → n.ok ≡ o → eqb n.next (length t) ≡ e → (ended (l && (o && e))).ok ≡ true
+    go : (l o e : Bool) → is_some n.value ≡ o → eqb n.next (length t) ≡ e → (ended (l && (o && e))).ok ≡ true
         → (drop at t ≡ decimal (ended (l && (o && e))).value) × (printable (ended (l && (o && e))).value ≡ true)
     go true true true ok end h =
         let there = number-there t at ok in
         let past = eqb-true n.next (length t) end in
         let all : length t ≤ n.next = omega arith in
-        (there.0 ∙ ap (λ (l : List ℕ). decimal n.value ++ l) (drop_of_length-le t all) ∙ append-nil (decimal n.value), there.1)
+        (there.0 ∙ ap (λ (l : List ℕ). decimal (unwrap_or n.value 0) ++ l) (drop_of_length-le t all) ∙ append-nil (decimal (unwrap_or n.value 0)), there.1)
     go true true false ok end h = absurd (false≢true h)
     go true false e ok end h = absurd (false≢true h)
     go false o e ok end h = absurd (false≢true h)
@@ -253,15 +261,15 @@ not-given p b h = go (letter-back b)
 -- a pair that was read is there
 pair-there : (t : List ℕ) (p : Pairs) (at : ℕ) → is_pair t (read p at) ≡ true → let s = slot_of (char_at t (at + 1)) in
     let n = number_at t (at + 3) in
-    (gave p s ≡ false) × (printable n.value ≡ true) × (drop at t ≡ blank ∷ letter_of s ∷ equals ∷ decimal n.value ++ drop n.next t)
+    (gave p s ≡ false) × (printable (unwrap_or n.value 0) ≡ true) × (drop at t ≡ blank ∷ letter_of s ∷ equals ∷ decimal (unwrap_or n.value 0) ++ drop n.next t)
 pair-there t p at h =
     let s = slot_of (char_at t (at + 1)) in
     let n = number_at t (at + 3) in
     let blanks = eqb (char_at t at) 32 in
     let signs = eqb (char_at t (at + 2)) 61 in
     let letters = not (gave p s) in
-    let parts = and_left ((blanks && signs) && letters) n.ok h in
-    let number = number-there t (at + 3) (and_right ((blanks && signs) && letters) n.ok h) in
+    let parts = and_left ((blanks && signs) && letters) (is_some n.value) h in
+    let number = number-there t (at + 3) (and_right ((blanks && signs) && letters) (is_some n.value) h) in
     let new = and_right (blanks && signs) letters parts in
     let frame = and_left (blanks && signs) letters parts in
     let blanked = eqb-true (char_at t at) blank (and_left blanks signs frame) in
@@ -290,7 +298,7 @@ pairs-said (suc k) t p at ok end =
     s = slot_of (char_at t (at + 1))
 
     v : ℕ
-    v = (number_at t (at + 3)).value
+    v = unwrap_or (number_at t (at + 3)).value 0
 
     after : Bool → Reading
     after b = record { ok = b; pairs = give p s v; at = (number_at t (at + 3)).next }

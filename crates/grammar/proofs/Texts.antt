@@ -9,6 +9,7 @@ use native.Mathlib.Omega.{arith}
 use lib.Dec.{eqb, leb, ltb, lit≤}
 use lib.ListN.{length, drop, drop_of_length-le}
 use borrow.Author.Tests.{eqb-true, eq-eqb}
+use Rattle.std.specs.Option.{unwrap_or}
 use Rattle.text.specs.Decimal.{is_digit, decimal, number_in, number_at}
 use Rattle.text.proofs.DecimalLaws.{digit_low}
 use Rattle.cells.specs.Table.{any_slot}
@@ -358,7 +359,7 @@ module _ (n : ℕ) where
         next =
             record {
               ok = is_pair t r;
-              pairs = give r.pairs (slot_of (char_at t (r.at + 1))) (number_at t (r.at + 3)).value;
+              pairs = give r.pairs (slot_of (char_at t (r.at + 1))) (unwrap_or (number_at t (r.at + 3)).value 0);
               at = (number_at t (r.at + 3)).next;
             }
 

@@ -9,6 +9,7 @@ use native.Mathlib.Numerals.{add-one}
 use lib.Dec.{eqb}
 use lib.ListN.{length, get_or, drop, drop_of_length-le}
 use lib.Seq.{drop-cons}
+use Rattle.std.specs.Prelude.{None}
 use Rattle.text.specs.Decimal.{digits_of, leads, plain, number_in, number_at}
 use Rattle.text.proofs.DecimalLaws.{digits-within}
 use Rattle.grammar.specs.Grammar.{char_at, is_word}
@@ -24,7 +25,7 @@ unfolding is_word
 word_end word t at i h = rw (drop_of_length-le word h)
 
 -- past the end there is no number
-pub number_past : (t : List ℕ) (at : ℕ) → length t < at → record { ok = false; value = 0; next = at } ≡ number_at t at
+pub number_past : (t : List ℕ) (at : ℕ) → length t < at → record { value = None; next = at } ≡ number_at t at
 unfolding number_at number_in digits_of plain leads
 number_past t at h = rw (drop_of_length-le t (le_of_lt h), add-zero)
 

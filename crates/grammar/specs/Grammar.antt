@@ -1,5 +1,6 @@
 -- Document 01, "Lines": the forms of a line, from its bytes to a command.
 use Rattle.std.specs.Prelude.{ℕ, suc, ◌+◌, Bool, true, false, not, ◌&&◌, ◌||◌, cond, List, [], ◌∷◌, eqb, leb, ltb, length, get_or}
+use Rattle.std.specs.Option.{is_some, unwrap_or}
 use Rattle.text.specs.Decimal.{is_digit, number_at}
 use Rattle.text.specs.Written.{bytes_of}
 use Rattle.cells.specs.Table.{slots, no_slot, any_slot}
@@ -33,7 +34,7 @@ is_whole word t = is_word word 0 t && eqb (length t) (length word)
 -- the number from a place to the end of the line
 unfoldable pub to_end : List ℕ → ℕ → Ending
 to_end t at =
-    cond (leb at (length t) && ((number_at t at).ok && eqb (number_at t at).next (length t))) (record { ok = true; value = (number_at t at).value })
+    cond (leb at (length t) && (is_some (number_at t at).value && eqb (number_at t at).next (length t))) (record { ok = true; value = unwrap_or (number_at t at).value 0 })
     (record { ok = false; value = 0 })
 
 -- a slot's letter: X, Y, Z, F
@@ -68,7 +69,7 @@ begun at = record { ok = true; pairs = no_pairs; at = at }
 abbrev pub is_pair : List ℕ → Reading → Bool
 is_pair t r =
     ((eqb (char_at t r.at) 32 && eqb (char_at t (r.at + 2)) 61) && not (gave r.pairs (slot_of (char_at t (r.at + 1)))))
-    && (number_at t (r.at + 3)).ok
+    && is_some (number_at t (r.at + 3)).value
 
 -- one pair more, unless the line has ended or a fault was found
 unfoldable pub pair_read : List ℕ → Reading → Reading
@@ -76,7 +77,7 @@ pair_read t r =
     cond (r.ok && ltb r.at (length t))
     (record {
       ok = is_pair t r;
-      pairs = give r.pairs (slot_of (char_at t (r.at + 1))) (number_at t (r.at + 3)).value;
+      pairs = give r.pairs (slot_of (char_at t (r.at + 1))) (unwrap_or (number_at t (r.at + 3)).value 0);
       at = (number_at t (r.at + 3)).next;
     })
     r

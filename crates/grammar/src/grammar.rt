@@ -119,10 +119,10 @@ fn to_end(text: &[u8], at: usize) -> Ending
     if at <= text.len() {
         let n = text::number_at(text, at);
         let next = n.next;
-        if n.ok & (next == text.len()) {
+        if n.value.is_some() & (next == text.len()) {
             return Ending {
                 ok: true,
-                value: n.value,
+                value: n.value.unwrap_or(0),
             };
         }
     }

@@ -58,8 +58,7 @@ fn number_from(text: &[u8], at: usize) -> text::Number
         text::number_at(text, at)
     } else {
         text::Number {
-            ok: false,
-            value: 0,
+            value: None,
             next: at,
         }
     }
@@ -77,8 +76,8 @@ fn read_pair(text: &[u8], r: Reading) -> Reading
         let letter = slot_of(char_at(text, at + 1));
         let number = number_from(text, at + 3);
         let framed = (char_at(text, at) == b' ') & (char_at(text, at + 2) == b'=');
-        let ok = (framed & !gave(so, letter)) & number.ok;
-        let pairs = give(so, letter, number.value);
+        let ok = (framed & !gave(so, letter)) & number.value.is_some();
+        let pairs = give(so, letter, number.value.unwrap_or(0));
         Reading {
             ok: ok,
             pairs: pairs,

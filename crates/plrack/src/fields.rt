@@ -194,13 +194,10 @@ pub fn number_at(line: &[u8], from: usize) -> Word {
     } else {
         line.len()
     };
-    let value = if n.value < 99 {
-        n.value as usize
-    } else {
-        REPLY
-    };
+    let given = n.value.unwrap_or(0);
+    let value = if given < 99 { given as usize } else { REPLY };
     Word {
-        ok: n.ok & ends,
+        ok: n.value.is_some() & ends,
         value: value,
         next: after,
     }

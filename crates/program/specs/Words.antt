@@ -1,11 +1,10 @@
 -- What the words say that a program is started with.
-use Rattle.std.specs.Prelude.{ℕ, ◌^◌, ◌&&◌, List, eqb, length}
+use Rattle.std.specs.Prelude.{ℕ, ◌^◌, List, eqb, length, cond, Option, None}
 use Rattle.text.specs.Decimal.{max_digits, number_at}
-use Rattle.text.specs.declared.Number.{Number}
 
--- the number that a whole word is; its value counts only where ok
-unfoldable pub whole_number : List ℕ → Number
-whole_number w = let n = number_at w 0 in record { ok = n.ok && eqb n.next (length w); value = n.value; next = n.next }
+-- the number that a whole word is
+unfoldable pub whole_number : List ℕ → Option ℕ
+whole_number w = let n = number_at w 0 in cond (eqb n.next (length w)) n.value None
 
 -- more than any number of at most ten digits
 abbrev pub most_from : ℕ

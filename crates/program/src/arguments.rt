@@ -4,7 +4,7 @@
 // A page that runs a program (clients/web) has no words, no terminal and no files. So with no word
 // at most whether there is a terminal is asked before standard input is read. Nothing is allocated:
 // a word is copied to a buffer of its own.
-ghost use Rattle.std.specs.Prelude.{◌≡◌, ◌<◌, ◌≤◌};
+ghost use Rattle.std.specs.Prelude.{◌≡◌, ◌<◌, ◌≤◌, IfSome};
 ghost use Rattle.program.specs.Words.{whole_number, most_from};
 
 use check::same;
@@ -12,7 +12,6 @@ use input::line_end;
 use input::system::{STDERR, Source, fail, open_read};
 use std::env::{Env, FillError};
 use std::io::{IsTerminal, Read};
-use text::Number;
 
 // The options, as bits of a set. A program says which it takes.
 pub const CELLS: u8 = 1;
@@ -174,16 +173,12 @@ fn option(w: Words, help: &[u8], word: &[u8], takes: u8) -> Words
 }
 
 // The number that a whole word is: one to ten digits with no leading zero.
-fn whole_number(word: &[u8]) -> Number
+fn whole_number(word: &[u8]) -> Option<u64>
     ensures value { result ≡ whole_number word.now }
-    ensures value_lt_most_from { result.value < most_from }
+    ensures value_lt_most_from { IfSome result (λ n. n < most_from) }
 {
     let n = text::number_at(word, 0);
-    Number {
-        ok: n.ok & (n.next == word.len()),
-        value: n.value,
-        next: n.next,
-    }
+    if n.next == word.len() { n.value } else { None }
 }
 
 // The number after `--cells`: a card has 16 cells or 32.
@@ -209,17 +204,16 @@ fn with_from(w: Words, word: &[u8]) -> Words
     requires { w.from < most_from }
     ensures { result.from < most_from }
 {
-    let n = whole_number(word);
     let mut next = w;
     next.due = 0;
-    if !n.ok {
+    let Some(from) = whole_number(word) else {
         return refuse(
             next,
             b"--from",
             b" wants a number of one to ten digits after it",
         );
-    }
-    next.from = n.value;
+    };
+    next.from = from;
     next
 }
 

@@ -3,6 +3,7 @@
 use Rattle.std.specs.Prelude.{ℕ, ◌-◌, ◌≤◌, ◌≡◌, refl, Bool, true, false, ◌&&◌, ◌||◌, cond, List, [], ◌∷◌, ◌++◌, eqb, leb, length, get_or, take}
 use Rattle.std.proofs.lemmas.List.Edits.{sets}
 use Rattle.text.specs.Decimal.{is_digit, decimal}
+use Rattle.std.specs.Option.{is_some, unwrap_or}
 use Rattle.text.specs.Hex.{hex_digits, hex4, hex_at}
 use Rattle.card.specs.declared.card.Card.{Card}
 use Rattle.card.specs.Address.{cell_count, cell_room}
@@ -25,7 +26,7 @@ abbrev pub tick_head : List ℕ → Bool
 tick_head t = (eqb (get_or t 0 0) 84 && eqb (get_or t 1 0) 32) && (is_digit (get_or t 2 0) && eqb (get_or t 3 0) 32)
 
 abbrev pub tick_words : List ℕ → Bool
-tick_words t = ((hex_at t 4).ok && eqb (get_or t 8 0) 32) && ((hex_at t 9).ok && eqb (get_or t 13 0) 32)
+tick_words t = (is_some (hex_at t 4) && eqb (get_or t 8 0) 32) && (is_some (hex_at t 9) && eqb (get_or t 13 0) 32)
 
 abbrev pub tick_kind : List ℕ → Bool
 tick_kind t = eqb (get_or t 14 0) 70 || eqb (get_or t 14 0) 81
@@ -39,7 +40,7 @@ tick_line t =
     (record {
       ok = true;
       full = eqb (get_or t 14 0) 70;
-      input = record { code = get_or t 2 0 - 48; sample = (hex_at t 4).value; attached = (hex_at t 9).value };
+      input = record { code = get_or t 2 0 - 48; sample = unwrap_or (hex_at t 4) 0; attached = unwrap_or (hex_at t 9) 0 };
     })
     no_tick
 

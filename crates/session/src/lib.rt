@@ -87,12 +87,12 @@ pub fn tick_line(text: &[u8]) -> TickLine
     let attached = text::hex4_at(text, 9);
     let kind = text[14];
     let head = ((text[0] == b'T') & (text[1] == b' ')) & (text::is_digit(code) & (text[3] == b' '));
-    let words = (sample.ok & (text[8] == b' ')) & (attached.ok & (text[13] == b' '));
+    let words = (sample.is_some() & (text[8] == b' ')) & (attached.is_some() & (text[13] == b' '));
     if head & (words & ((kind == b'F') | (kind == b'Q'))) {
         let input = Input {
             code: code - 48,
-            sample: sample.value,
-            attached: attached.value,
+            sample: sample.unwrap_or(0),
+            attached: attached.unwrap_or(0),
         };
         TickLine {
             ok: true,

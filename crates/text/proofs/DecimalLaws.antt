@@ -3,18 +3,18 @@ use Prim.Native.Nat.{ℕ, zero, suc, ◌+◌, ◌-◌, ◌*◌, ◌/◌, ◌%◌
 use mathlib.Core.Path.{◌≡◌, refl, sym, ap, ap₂, ◌∙◌}
 use mathlib.Core.Bool.{Bool, true, false, cond, not, ◌&&◌, and-false}
 use mathlib.Core.List.{List, [], ◌∷◌, ◌++◌, append_assoc, append-nil}
-use mathlib.Core.Option.{none, some}
+use Rattle.std.specs.Prelude.{None, Some}
 use native.Mathlib.Nat.{pow-suc, le_refl}
 use native.Mathlib.Decide.{dec_lt}
 use native.Mathlib.Numerals.{add-one}
 use native.Mathlib.Omega.{arith}
 use lib.Dec.{leb, ltb, eqb}
-use lib.ListN.{length, get_or, drop, length-append, length-drop, drop_of_length-le, get_or-append}
-use lib.Seq.{drop-cons, get_or-drop}
+use lib.ListN.{length, get_or, drop, length-append, length-drop, drop_of_length-le}
+use lib.Seq.{drop-cons}
 use borrow.Author.Tests.{leb-true, ltb-false, lt-ltb, le-ltb, le-leb, lt-leb, ne_eqb, eqb-false, not-true}
 use Rattle.text.specs.Digits.{every, value_by}
 use Rattle.text.specs.Decimal.{is_digit, digits_of, digit_value, value_from, max_digits, leads, plain, number_of, number_in, number_at, decimal_from, decimal}
-use Rattle.text.proofs.DigitLaws.{both_left, both_right, every_append, every-at, value-append}
+use Rattle.text.proofs.DigitLaws.{both_left, both_right, every_append, value-append}
 
 -- ---- digits
 
@@ -232,13 +232,13 @@ decimal-plain n h = rw (le-leb (length (decimal n)) max_digits (decimal-length n
 -- ---- there and back
 
 -- what is printed reads as the number
-pub print-reads : (n : ℕ) → n < 10 ^ max_digits → number_of (decimal n) ≡ some n
+pub print-reads : (n : ℕ) → n < 10 ^ max_digits → number_of (decimal n) ≡ Some n
 unfolding number_of
 print-reads n h = rw (decimal-digits n, decimal-plain n h, decimal-value n)
 
 -- also within a text that goes on with no digit
 pub print-reads-at : (t : List ℕ) (at n : ℕ) (rest : List ℕ) → n < 10 ^ max_digits → drop at t ≡ decimal n ++ rest → digits_of rest ≡ []
-    → number_at t at ≡ record { ok = true; value = n; next = at + length (decimal n) }
+    → number_at t at ≡ record { value = Some n; next = at + length (decimal n) }
 unfolding number_at number_in
 print-reads-at t at n rest h e r = rw (e, decimal-front n rest r, decimal-plain n h, decimal-value n)
 
@@ -278,17 +278,17 @@ decimal-back (d ∷ c ∷ ds) e f =
     ∙ ap (λ (xs : List ℕ). xs ++ (c ∷ ds)) (decimal-first d y)
 
 -- the parts of a number that was read
-number-parts : (t : List ℕ) (n : ℕ) → number_of t ≡ some n → (every is_digit t ≡ true) × (plain t ≡ true) × (value_from 0 t ≡ n)
+number-parts : (t : List ℕ) (n : ℕ) → number_of t ≡ Some n → (every is_digit t ≡ true) × (plain t ≡ true) × (value_from 0 t ≡ n)
 unfolding number_of
 number-parts t n = go (every is_digit t) (plain t)
   where
-    go : (a b : Bool) → cond (a && b) (some (value_from 0 t)) none ≡ some n → (a ≡ true) × (b ≡ true) × (value_from 0 t ≡ n)
+    go : (a b : Bool) → cond (a && b) (Some (value_from 0 t)) None ≡ Some n → (a ≡ true) × (b ≡ true) × (value_from 0 t ≡ n)
     go true true e = (refl, refl, cc)
     go true false e = absurd (let z : ◌≡◌ {A = ℕ} 0 1 = cc in omega arith)
     go false b e = absurd (let z : ◌≡◌ {A = ℕ} 0 1 = cc in omega arith)
 
 -- what reads as a number is what that number prints
-pub reads-print : (t : List ℕ) (n : ℕ) → number_of t ≡ some n → decimal n ≡ t
+pub reads-print : (t : List ℕ) (n : ℕ) → number_of t ≡ Some n → decimal n ≡ t
 unfolding plain
 reads-print t n e =
     let p = number-parts t n e in
@@ -313,14 +313,3 @@ pub digits-within : (t : List ℕ) (at : ℕ) → length (digits_of (drop at t))
 digits-within t at =
     let ds = digits_of (drop at t) in
     omega (arith, length-drop at t, ap length (sym (digits-rest (drop at t))) ∙ length-append ds (drop (length ds) (drop at t)))
-
--- each is the text's byte at its place
-pub digits-byte : (t : List ℕ) (at j : ℕ) → j < length (digits_of (drop at t)) → get_or t (at + j) 0 ≡ get_or (digits_of (drop at t)) j 0
-digits-byte t at j h =
-    let ds = digits_of (drop at t) in
-    sym (get_or-drop at t j 0) ∙ ap (λ (l : List ℕ). get_or l j 0) (sym (digits-rest (drop at t)))
-    ∙ get_or-append ds (drop (length ds) (drop at t)) 0 j h
-
--- and a digit
-pub digits-is : (t : List ℕ) (at j : ℕ) → j < length (digits_of (drop at t)) → is_digit (get_or t (at + j) 0) ≡ true
-digits-is t at j h = rw (digits-byte t at j h) (every-at is_digit (digits_of (drop at t)) j 0 (digits-all (drop at t)) h)

@@ -1,19 +1,19 @@
 -- Laws of words in hexadecimal: what is printed reads back.
 use Prim.Native.Nat.{ℕ, zero, suc, ◌+◌, ◌*◌, ◌/◌, ◌%◌, ◌^◌, ◌≤◌, ◌<◌}
-use mathlib.Core.Path.{◌≡◌, refl, ◌∙◌}
+use mathlib.Core.Path.{◌≡◌, refl}
 use mathlib.Core.Bool.{Bool, true, false, ◌&&◌}
 use mathlib.Core.List.{List, [], ◌∷◌}
 use native.Mathlib.Nat.{pow-suc}
 use native.Mathlib.Decide.{dec_lt}
 use native.Mathlib.Omega.{arith}
 use lib.Dec.{leb}
-use lib.ListN.{length, get_or, drop, length-append, length-drop, length-take, drop_of_length-le}
-use lib.Seq.{get_or-take, get_or-drop, length-take-le}
+use Rattle.std.specs.Prelude.{Some}
+use lib.ListN.{length, length-append}
 use borrow.Author.Tests.{leb-true, lt-ltb, le-ltb, le-leb}
 use Rattle.text.specs.Digits.{every, value_by}
 use Rattle.text.specs.Decimal.{is_digit}
 use Rattle.text.specs.Hex.{hex_digit, hex_digits, hex4, is_hex, hex_value, hex_in, hex_at, four_at}
-use Rattle.text.proofs.DigitLaws.{both_left, both_right, every_append, every-next, value-append, value-next}
+use Rattle.text.proofs.DigitLaws.{both_left, both_right, every_append, value-append}
 use Rattle.text.proofs.DecimalLaws.{digit-yes, digit-no, digit-high}
 
 -- ---- one digit
@@ -59,7 +59,7 @@ hex-reads (suc k) w h =
     rw (value-append, hex-reads k (w / 16) (omega arith), digit-back (w % 16) (omega arith)) (omega arith)
 
 -- a word that is at a place reads as the word
-pub hex-reads-at : (t : List ℕ) (at w : ℕ) → w < 16 ^ 4 → four_at t at ≡ hex4 w → hex_at t at ≡ record { ok = true; value = w }
+pub hex-reads-at : (t : List ℕ) (at w : ℕ) → w < 16 ^ 4 → four_at t at ≡ hex4 w → hex_at t at ≡ Some w
 unfolding hex_at hex_in
 hex-reads-at t at w h e = rw (e, hex-digits 4 w, hex-reads 4 w h)
 
@@ -78,24 +78,3 @@ hex-small b e = go (is_digit b) refl
     go : (y : Bool) → is_digit b ≡ y → hex_value b < 16
     go true f = rw f (omega (arith, digit-high b f))
     go false f = let h : (97 ≤ b) × (b ≤ 102) = hex-letter b e f in rw f (omega arith)
-
--- a turn of a loop over the four bytes at a place
-module _ (t : List ℕ) (at i : ℕ) (room : at + 4 ≤ length t) (more : i < 4) where
-  four-more : i < length (four_at t at)
-  four-more = rw (length-take-le 4 (drop at t) (omega (arith, length-drop at t))) more
-
-  four-byte : get_or (four_at t at) i 0 ≡ get_or t (at + i) 0
-  four-byte = get_or-take 4 (drop at t) i 0 more ∙ get_or-drop at t i 0
-
-  pub four-stop : is_hex (get_or t (at + i) 0) ≡ false → every is_hex (drop i (four_at t at)) ≡ false
-  four-stop e = every-next is_hex (four_at t at) i four-more ∙ rw (four-byte, e)
-
-  pub four-next : is_hex (get_or t (at + i) 0) ≡ true → every is_hex (drop i (four_at t at)) ≡ every is_hex (drop (i + 1) (four_at t at))
-  four-next e = every-next is_hex (four_at t at) i four-more ∙ rw (four-byte, e)
-
-  pub four-value : (v : ℕ)
-      → value_by 16 hex_value v (drop i (four_at t at)) ≡ value_by 16 hex_value (v * 16 + hex_value (get_or t (at + i) 0)) (drop (i + 1) (four_at t at))
-  four-value v = value-next 16 hex_value v (four_at t at) i four-more ∙ rw four-byte
-
-pub four-done : (t : List ℕ) (at i : ℕ) → 4 ≤ i → drop i (four_at t at) ≡ []
-four-done t at i h = drop_of_length-le (four_at t at) {i = i} (omega (arith, length-take 4 (drop at t)))

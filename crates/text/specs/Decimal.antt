@@ -1,6 +1,5 @@
 -- Numbers in decimal: digits in a text, the number that they say, and the digits of a number.
-use Rattle.std.specs.Prelude.{ℕ, zero, suc, ◌+◌, ◌-◌, ◌/◌, ◌%◌, Bool, true, false, cond, not, ◌&&◌, List, [], ◌∷◌, ◌++◌, leb, ltb, eqb, length, drop}
-use Rattle.std.proofs.Math.Option.{Option, none, some}
+use Rattle.std.specs.Prelude.{ℕ, zero, suc, ◌+◌, ◌-◌, ◌/◌, ◌%◌, Bool, true, false, cond, not, ◌&&◌, List, [], ◌∷◌, ◌++◌, leb, ltb, eqb, length, drop, Option, Some, None}
 use Rattle.text.specs.Digits.{every, value_by}
 use Rattle.text.specs.declared.Number.{Number}
 
@@ -37,11 +36,11 @@ plain ds = leb (length ds) max_digits && leads ds
 
 -- the number that a whole text is
 unfoldable pub number_of : List ℕ → Option ℕ
-number_of t = cond (every is_digit t && plain t) (some (value_from 0 t)) none
+number_of t = cond (every is_digit t && plain t) (Some (value_from 0 t)) None
 
 -- what is at a place of a text: the digits from there on, as a number where they have its form
 unfoldable pub number_in : List ℕ → ℕ → Number
-number_in ds at = record { ok = plain ds; value = cond (plain ds) (value_from 0 ds) 0; next = at + length ds }
+number_in ds at = record { value = cond (plain ds) (Some (value_from 0 ds)) None; next = at + length ds }
 
 unfoldable pub number_at : List ℕ → ℕ → Number
 number_at t at = number_in (digits_of (drop at t)) at

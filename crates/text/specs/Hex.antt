@@ -1,8 +1,7 @@
 -- Words in hexadecimal: four digits in lower case, highest first.
-use Rattle.std.specs.Prelude.{ℕ, zero, suc, ◌+◌, ◌-◌, ◌/◌, ◌%◌, Bool, cond, ◌&&◌, ◌||◌, List, [], ◌∷◌, ◌++◌, leb, ltb, take, drop}
+use Rattle.std.specs.Prelude.{ℕ, zero, suc, ◌+◌, ◌-◌, ◌/◌, ◌%◌, Bool, cond, ◌&&◌, ◌||◌, List, [], ◌∷◌, ◌++◌, leb, ltb, take, drop, Option, Some, None}
 use Rattle.text.specs.Digits.{every, value_by}
 use Rattle.text.specs.Decimal.{is_digit}
-use Rattle.text.specs.declared.Hex.{Hex}
 
 -- the byte of a digit below 16
 unfoldable pub hex_digit : ℕ → ℕ
@@ -25,12 +24,12 @@ unfoldable pub hex_value : ℕ → ℕ
 hex_value b = cond (is_digit b) (b - 48) (b - 87)
 
 -- what these bytes say, where each is a digit
-unfoldable pub hex_in : List ℕ → Hex
-hex_in ds = record { ok = every is_hex ds; value = cond (every is_hex ds) (value_by 16 hex_value 0 ds) 0 }
+unfoldable pub hex_in : List ℕ → Option ℕ
+hex_in ds = cond (every is_hex ds) (Some (value_by 16 hex_value 0 ds)) None
 
 -- the four bytes at a place of a text
 abbrev pub four_at : List ℕ → ℕ → List ℕ
 four_at t at = take 4 (drop at t)
 
-unfoldable pub hex_at : List ℕ → ℕ → Hex
+unfoldable pub hex_at : List ℕ → ℕ → Option ℕ
 hex_at t at = hex_in (four_at t at)

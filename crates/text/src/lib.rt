@@ -1,102 +1,81 @@
 // Numbers in text: decimal and hexadecimal, read from bytes and written as bytes.
 #![tactic(auto)]
 
-ghost use Rattle.std.specs.Prelude.{◌≡◌, true, ◌++◌, ◌+◌, ◌^◌, ◌≤◌, ◌<◌, length, drop};
+ghost use Rattle.std.specs.Prelude.{◌≡◌, true, ◌++◌, ◌+◌, ◌^◌, ◌≤◌, ◌<◌, length};
+ghost use Rattle.text.specs.Digits.{every};
 ghost use Rattle.std.proofs.lemmas.List.Edits.{sets};
 ghost use Rattle.text.specs.Decimal.{digits_of, value_from, max_digits, plain, is_digit, number_at, decimal};
-ghost use Rattle.text.specs.Hex.{hex_digit, hex_value, is_hex, hex4, hex_at};
+ghost use Rattle.text.specs.Hex.{hex_digit, hex_value, is_hex, hex4, hex_in, hex_at};
 
 // The most digits that a number may have, leading zeros not being allowed.
 const MAX_DIGITS: usize = 10;
 
-// What was read: a number where ok, and where the text goes on.
+// What was read at a place of a text: the number, if there is one, and where the text goes on.
 #[derive(Clone, Copy)]
 pub struct Number {
-    pub ok: bool,
-    pub value: u64,
+    pub value: Option<u64>,
     pub next: usize,
-}
-
-// What was read: a word where ok.
-#[derive(Clone, Copy)]
-pub struct Hex {
-    pub ok: bool,
-    pub value: u16,
 }
 
 // Whether a byte is one of 0 to 9.
 pub fn is_digit(b: u8) -> bool
     ensures { result ≡ is_digit b }
 {
-    (b'0' <= b) & (b <= b'9')
+    matches!(b, b'0'..=b'9')
 }
 
-// Where the digits that start at `at` end.
-fn digits_end(text: &[u8], at: usize) -> usize
-    requires { at ≤ length text.now }
-    ensures { result ≡ at + length (digits_of (drop at text.now)) }
+// The digits at the front of a text.
+fn digits_of(text: &[u8]) -> &[u8]
+    ensures { result.now ≡ digits_of text.now }
 {
-    let mut i = at;
-    while i < text.len() {
-        if !is_digit(text[i]) {
-            return i;
+    for (i, b) in text.iter().enumerate() {
+        if !is_digit(*b) {
+            return &text[..i];
         }
-        i += 1;
     }
-    i
+    text
 }
 
-// Whether the n digits at `at` have the form of a number.
-fn is_plain(text: &[u8], at: usize, n: usize) -> bool
-    requires { n ≡ length (digits_of (drop at text.now)) }
-    ensures { result ≡ plain (digits_of (drop at text.now)) }
+// Whether digits have the form of a number.
+fn is_plain(digits: &[u8]) -> bool
+    ensures { result ≡ plain digits.now }
 {
-    if n < 2 {
-        return n == 1;
+    match digits.len() {
+        0 => false,
+        1 => true,
+        2..=MAX_DIGITS => digits[0] != b'0',
+        _ => false,
     }
-    if MAX_DIGITS < n {
-        return false;
-    }
-    text[at] != b'0'
 }
 
-// The number that the n digits at `at` say.
-fn digits_value(text: &[u8], at: usize, n: usize) -> u64
-    requires n_value { n ≡ length (digits_of (drop at text.now)) }
-    requires n_le_max_digits { n ≤ max_digits }
-    ensures { result ≡ value_from 0 (digits_of (drop at text.now)) }
+// The number that digits of its form say.
+fn digits_value(digits: &[u8]) -> u64
+    requires all_digits { every is_digit digits.now ≡ true }
+    requires few { length digits.now ≤ max_digits }
+    ensures { result ≡ value_from 0 digits.now }
 {
-    let mut v: u64 = 0;
-    let mut i = 0;
-    while i < n {
-        v = v * 10 + ((text[at + i] - b'0') as u64);
-        i += 1;
+    let mut value = 0;
+    for digit in digits {
+        value = value * 10 + ((*digit - b'0') as u64);
     }
-    v
+    value
 }
 
 // The number at a place of a text, and where the text goes on after its digits. Where there is no
-// digit, or too many, or a leading zero, ok is false and the value 0; the digits are passed over
-// all the same.
+// digit, or too many, or a leading zero, there is none; the digits are passed over all the same.
 pub fn number_at(text: &[u8], at: usize) -> Number
     requires { at ≤ length text.now }
     ensures { result ≡ number_at text.now at }
 {
-    let next = digits_end(text, at);
-    let n = next - at;
-    if is_plain(text, at, n) {
-        let value = digits_value(text, at, n);
-        Number {
-            ok: true,
-            value,
-            next,
-        }
+    let digits = digits_of(&text[at..]);
+    let value = if is_plain(digits) {
+        Some(digits_value(digits))
     } else {
-        Number {
-            ok: false,
-            value: 0,
-            next,
-        }
+        None
+    };
+    Number {
+        value,
+        next: at + digits.len(),
     }
 }
 
@@ -107,12 +86,9 @@ pub fn copy(out: &mut [u8], at: usize, bytes: &[u8]) -> usize
     ensures out_after { out.new ≡ sets out.old at bytes.now }
     ensures value { result ≡ at + length bytes.now }
 {
-    let mut i = 0;
-    while i < bytes.len() {
-        out[at + i] = bytes[i];
-        i += 1;
-    }
-    at + i
+    let end = at + bytes.len();
+    out[at..end].copy_from_slice(bytes);
+    end
 }
 
 // Writes n in decimal at `at`, the higher digits first, and returns the place after it. There must
@@ -151,9 +127,10 @@ pub fn hex_digit(d: u16) -> u8
     ensures { result ≡ hex_digit d }
 {
     if d < 10 {
-        return 48 + (d as u8);
+        b'0' + (d as u8)
+    } else {
+        b'a' + (d as u8) - 10
     }
-    87 + (d as u8)
 }
 
 // Writes w as four hexadecimal digits at `at`, leading zeros too, and returns the place after
@@ -179,13 +156,7 @@ pub fn put_hex4(out: &mut [u8], at: usize, w: u16) -> usize
 pub fn is_hex(b: u8) -> bool
     ensures { result ≡ is_hex b }
 {
-    if is_digit(b) {
-        return true;
-    }
-    if b < b'a' {
-        return false;
-    }
-    b <= b'f'
+    is_digit(b) | ((b'a' <= b) & (b <= b'f'))
 }
 
 // The value of a hexadecimal digit. The caller has tested it by is_hex.
@@ -194,29 +165,31 @@ pub fn hex_value(b: u8) -> u16
     ensures { result ≡ hex_value b }
 {
     if is_digit(b) {
-        return (b - 48) as u16;
+        (b - b'0') as u16
+    } else {
+        (b - b'a') as u16 + 10
     }
-    (b - 87) as u16
 }
 
-// The word that the four bytes at a place of a text say; where one of them is no digit, ok is false
-// and the value 0.
-pub fn hex4_at(text: &[u8], at: usize) -> Hex
+// The word that up to four bytes say, if each of them is a digit.
+fn hex_word(digits: &[u8]) -> Option<u16>
+    requires { length digits.now ≤ 4 }
+    ensures { result ≡ hex_in digits.now }
+{
+    let mut value = 0;
+    for digit in digits {
+        if !is_hex(*digit) {
+            return None;
+        }
+        value = value * 16 + hex_value(*digit);
+    }
+    Some(value)
+}
+
+// The word that the four bytes at a place of a text say, if each of them is a digit.
+pub fn hex4_at(text: &[u8], at: usize) -> Option<u16>
     requires { at + 4 ≤ length text.now }
     ensures { result ≡ hex_at text.now at }
 {
-    let mut value: u16 = 0;
-    let mut i = 0;
-    while i < 4 {
-        let b = text[at + i];
-        if !is_hex(b) {
-            return Hex {
-                ok: false,
-                value: 0,
-            };
-        }
-        value = value * 16 + hex_value(b);
-        i += 1;
-    }
-    Hex { ok: true, value }
+    hex_word(&text[at..at + 4])
 }

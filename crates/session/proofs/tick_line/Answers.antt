@@ -16,7 +16,7 @@ returns-then-text-ne15 c = rw (ne_eqb _ _ c.if-text-ne15.true)
 pub overflow_sub-input : goal.overflow_sub-input
 overflow_sub-input c =
     let t = c.args.text.now in
-    let words = (c.hex4_at-sample.result.ok && eqb (get_or t 8 0) 32) && (c.hex4_at-attached.result.ok && eqb (get_or t 13 0) 32) in
+    let words = (c.is_some.result && eqb (get_or t 8 0) 32) && (c.is_some-2.result && eqb (get_or t 13 0) 32) in
     let is_digit = third (eqb (get_or t 0 0) 84) (eqb (get_or t 1 0) 32) c.is_digit.result (eqb (get_or t 3 0) 32) (words && tick_kind t)
     c.if-head-words.true in
     digit_low (get_or t 2 0) (sym c.is_digit.ensures ∙ is_digit)
@@ -29,7 +29,11 @@ returns-then-head-words c =
       ← c.hex4_at-sample.ensures,
       ← c.hex4_at-attached.ensures,
       ← c.is_digit.ensures,
+      ← c.is_some.ensures,
+      ← c.is_some-2.ensures,
       c.if-head-words.true,
+      ← c.unwrap_or.ensures,
+      ← c.unwrap_or-then-head-words.ensures,
     )
 
 pub returns-else-head-words : goal.returns-else-head-words
@@ -40,5 +44,7 @@ returns-else-head-words c =
       ← c.hex4_at-sample.ensures,
       ← c.hex4_at-attached.ensures,
       ← c.is_digit.ensures,
+      ← c.is_some.ensures,
+      ← c.is_some-2.ensures,
       c.if-head-words.false,
     )

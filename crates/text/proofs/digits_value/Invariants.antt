@@ -1,13 +1,13 @@
--- `text::digits_value` meets its contract. The invariant: v and then the digits from i on say what all of them say, and v is what i digits can say.
-use Prim.Native.Nat.{◌-◌, ◌^◌, ◌≤◌, ◌<◌}
+-- `text::digits_value` meets its contract. The invariant: the value and then the digits that are left say what all of them say, and the value is what so many digits
+-- can say.
+use Prim.Native.Nat.{◌^◌, ◌<◌}
 use mathlib.Core.Path.{◌≡◌}
 use lib.ListN.{drop}
-use Rattle.text.specs.Decimal.{digits_of, value_from}
+use Rattle.text.specs.Decimal.{value_from}
 use Rattle.text.proofs.digits_value.Given as goal
 
-abbrev pub invariant-loop-i : goal.invariant-loop-i
-invariant-loop-i l =
-    (l.i ≤ l.n) × (l.v < 10 ^ l.i) × (value_from l.v (drop l.i (digits_of (drop l.at l.text))) ≡ value_from 0 (digits_of (drop l.at l.text)))
-
-abbrev pub decreases-loop-i : goal.decreases-loop-i
-decreases-loop-i l = l.n - l.i
+abbrev pub invariant-loop-digit : goal.invariant-loop-digit
+invariant-loop-digit l = record {
+  bound : l.value < 10 ^ l.digit-index;
+  rest : value_from l.value (drop l.digit-index l.digits) ≡ value_from 0 l.digits;
+}

@@ -23,9 +23,12 @@ pub returns-then-is_digit : goal.returns-then-is_digit
 unfolding hex_value
 returns-then-is_digit c = rw (is_digit_lem (goal.at.returns-then-is_digit c).Then-is_digit)
 
-pub overflow_sub-result-2 : goal.overflow_sub-result-2
-overflow_sub-result-2 c = omega (arith, hex-letter c.args.b c.requires (no_digit (goal.at.overflow_sub-result-2 c).Else-is_digit))
+pub overflow_sub-result-else-is_digit : goal.overflow_sub-result-else-is_digit
+overflow_sub-result-else-is_digit c =
+    omega (arith, hex-letter c.args.b c.requires (no_digit (goal.at.overflow_sub-result-else-is_digit c).Else-is_digit))
 
-pub returns : goal.returns
+pub returns-else-is_digit : goal.returns-else-is_digit
 unfolding hex_value
-returns c = rw (no_digit (goal.at.returns c).Else-is_digit)
+returns-else-is_digit c =
+    let e = no_digit (goal.at.returns-else-is_digit c).Else-is_digit in
+    rw e (omega (arith, hex-letter c.args.b c.requires e))

@@ -3,13 +3,13 @@ use borrow.Author.Tests.{le-leb, lt-leb}
 use Rattle.grammar.specs.Grammar.{to_end}
 use Rattle.grammar.proofs.grammar.to_end.Goals as goal
 
-pub returns-then-n-next : goal.returns-then-n-next
+pub returns-then-is_some-next : goal.returns-then-is_some-next
 unfolding to_end
-returns-then-n-next c = rw (le-leb _ _ c.if-at-text.true, ← c.number_at-n.ensures, c.if-n-next.true)
+returns-then-is_some-next c = rw (le-leb _ _ c.if-at-text.true, ← c.number_at-n.ensures) (rw (← c.is_some.ensures, c.if-is_some-next.true, ← c.unwrap_or.ensures))
 
-pub returns-else-n-next : goal.returns-else-n-next
+pub returns-else-is_some-next : goal.returns-else-is_some-next
 unfolding to_end
-returns-else-n-next c = rw (le-leb _ _ c.if-at-text.true, ← c.number_at-n.ensures, c.if-n-next.false)
+returns-else-is_some-next c = rw (le-leb _ _ c.if-at-text.true, ← c.number_at-n.ensures) (rw (← c.is_some.ensures, c.if-is_some-next.false))
 
 pub returns-else-at-text : goal.returns-else-at-text
 unfolding to_end
