@@ -23,7 +23,7 @@ use Rattle.ticks.proofs.Sleep.{quick-set}
 use Rattle.ticks.proofs.Timing.{timer-promise-on, ignores-all-on}
 use Rattle.rack.specs.Shared.{pulls, shared_at, shared_levels, shared_lines, shared_tick}
 use Rattle.rack.specs.Supply.{most_cards}
-use Rattle.rack.specs.Rack.{any_large, bad_fronts, input_for, low_lines, ticks_from, ticked_row, idle_answer, row_answers}
+use Rattle.rack.specs.Rack.{bad_fronts, input_for, low_lines, ticks_from, ticked_row, idle_answer, row_answers}
 use Rattle.rack.specs.Alone.{SharedWoken, SharedTicks, shared_step, SharedTimerPromise, NoPush, AloneInRow}
 
 module _ (n : ℕ) where
@@ -84,7 +84,7 @@ module _ (n : ℕ) where
 
   lines-alone : (c : Card) (input : Input) → NoPush c → input.code ≡ c.trigger
       → shared_lines n c input (low_lines n input.code 0 (c ∷ [])) ≡ lines n c input
-  unfolding shared_levels low_lines lines_of pulled_word levels_from
+  unfolding shared_levels lines_of pulled_word levels_from
   lines-alone c input none own =
       let d = c.connectors in
       let l = lines n c input in
@@ -112,7 +112,7 @@ module _ (n : ℕ) where
       go false e = refl
 
   pub alone-in-row : AloneInRow n
-  unfolding AloneInRow ticked_row row_answers ticks_from any_large
+  unfolding AloneInRow ticked_row row_answers ticks_from
   alone-in-row full input c small one none =
       let t = tick-alone full c (input_for input 0) none in
       let good : bad_fronts (c ∷ []) input ≡ false = ap₂ (λ (x : Bool) (m : ℕ). (false || (x || false)) || not (eqb m 1)) small one in

@@ -30,7 +30,7 @@ use Rattle.calls.proofs.Lists.{refused-kept}
 use Rattle.calls.proofs.Reached.{fresh-reached-valid}
 use Rattle.calls.proofs.Runs.{end-append, answers-append}
 use Rattle.calls.proofs.Tallied.{every-list-tallied}
-use Rattle.rack.specs.declared.pass.RackInput.{RackInput}
+use Rattle.rack.specs.declared.tick.RackInput.{RackInput}
 use Rattle.rack.specs.Shared.{shared_lines, shared_tick}
 use Rattle.rack.specs.Supply.{most_cards, draws_of, over}
 use Rattle.rack.specs.Rack.{no_rack, over_supply, bad_length, bad_row, bad_number, bad_fronts, start_card, start_number, started_row, input_for, low_lines}
@@ -44,7 +44,7 @@ use Rattle.rack.specs.Demand3.{start_row}
 use Rattle.rack.specs.Cards.{Part, goes_to, answer_to, Heard, nothing, heard_more, part_of, heard_next, heard, IsCard, start_lines, calls_to, card_in}
 use Rattle.rack.specs.Cards.{Reached, RackTallied, RackValid, RackWakes}
 use Rattle.rack.specs.Cards.Part.{none, own, anew}
-use Rattle.rack.proofs.Orders.{or_left, or_right}
+use Rattle.words.proofs.Bools.{or_left, or_right}
 use Rattle.rack.proofs.Supplies.{call_long}
 use Rattle.rack.proofs.Started.{start-reached}
 

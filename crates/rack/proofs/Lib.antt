@@ -1,7 +1,5 @@
--- Laws of passes over a list of cards, and of racks.
+-- Laws of rows of cards, and of racks.
 pub mod Rows
-pub mod Orders
-pub mod Takes
 pub mod Draws
 pub mod Racks
 pub mod Supplies
@@ -10,3 +8,5 @@ pub mod Buffers
 pub mod Refused
 pub mod Started
 pub mod Cards
+pub mod Ticks
+pub mod Calls

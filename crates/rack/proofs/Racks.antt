@@ -18,7 +18,7 @@ use Rattle.lines.specs.declared.line.Outcome.{Outcome}
 use Rattle.lines.specs.Line.{line_outcome}
 use Rattle.calls.proofs.Lists.{line-edit}
 use Rattle.calls.proofs.Runs.{same_runs}
-use Rattle.rack.specs.declared.pass.RackInput.{RackInput}
+use Rattle.rack.specs.declared.tick.RackInput.{RackInput}
 use Rattle.rack.specs.Shared.{shared_lines, shared_tick}
 use Rattle.rack.specs.Supply.{most_cards, draws_of, over}
 use Rattle.rack.specs.Rack.{over_supply, bad_row, bad_fronts, bad_number, start_card, started_row, input_for, low_lines, ticks_from, cards_of}

@@ -5,6 +5,7 @@ use mathlib.Core.Bool.{Bool, true, false, ◌&&◌, cond}
 use mathlib.Core.List.{List}
 use lib.Dec.{eqb}
 use lib.ListN.{length, set}
+use Rattle.std.proofs.lemmas.List.{set-get_or}
 use Rattle.card.specs.declared.card.Card.{Card}
 use Rattle.saved.specs.Record.{loaded}
 use Rattle.lines.specs.declared.line.Outcome.{Outcome}
@@ -15,7 +16,6 @@ use Rattle.rack.specs.Rack.{no_rack, over_supply, bad_row, bad_number, bad_front
 use Rattle.rack.specs.Rack.{outcome_by, outcome_in, row_outcome, lined_row, loaded_row}
 use Rattle.rack.specs.Calls.{RefusedRow, after_call, answer, number_of}
 use Rattle.rack.specs.Calls.RackCall.{start, line, load, tick}
-use Rattle.rack.proofs.Rows.{set_same}
 
 -- a start and a tick are refused by one test
 tested : (b : Bool) (cards others : List Card) → eqb (cond b no_rack 0) 0 ≡ false → cond b cards others ≡ cards
@@ -41,8 +41,8 @@ refused-row n cards (line number text reply store) e =
     let c = card_of n cards number in
     ap (set cards (number - 1)) (outcome-kept (bad_number cards number) (draws_of cards) (number - 1) c (line_outcome n c text (length reply) (length store))
     (refused-kept n c text (length reply) (length store)) e)
-    ∙ set_same cards (number - 1) (start_card n)
+    ∙ set-get_or cards (number - 1) (start_card n)
 refused-row n cards (load number bytes) e =
     let c = card_of n cards number in
-    ap (λ (b : Bool). set cards (number - 1) (cond b (loaded n c bytes) c)) e ∙ set_same cards (number - 1) (start_card n)
+    ap (λ (b : Bool). set cards (number - 1) (cond b (loaded n c bytes) c)) e ∙ set-get_or cards (number - 1) (start_card n)
 refused-row n cards (tick full input) e = tested (bad_fronts cards input) cards _ e

@@ -1,12 +1,16 @@
 -- The supply of a rack: from the start on the sum is never over 16, so each card always gets its four.
-use Prim.Native.Nat.{ℕ, zero, suc, ◌+◌, ◌-◌, ◌*◌, ◌≤◌, ◌<◌}
+use Prim.Native.Nat.{ℕ, suc, ◌+◌, ◌-◌, ◌*◌, ◌≤◌, ◌<◌}
 use mathlib.Core.Path.{◌≡◌, refl, sym, ap, ap₂, ◌∙◌, subst}
 use mathlib.Core.Bool.{Bool, true, false, not, ◌&&◌, cond}
 use mathlib.Core.List.{List, [], ◌∷◌}
-use native.Mathlib.Nat.{not-suc-le-zero, le_of_suc-le-suc, le_refl}
+use native.Mathlib.Nat.{le_refl}
 use native.Mathlib.Omega.{arith}
 use lib.Dec.{eqb, ltb}
 use lib.ListN.{length, get_or, set, replicate, length-set, length-replicate}
+use Rattle.std.specs.List.{sum}
+use Rattle.std.proofs.lemmas.List.{map-set, set-get_or}
+use Rattle.std.proofs.lemmas.List.Sums.{sum-map}
+use Rattle.std.proofs.lemmas.List.Folds.{sum_by-replicate}
 use borrow.Author.Tests.{ltb-false, le-ltb}
 use Rattle.card.specs.declared.card.Card.{Card}
 use Rattle.card.specs.declared.card.Connectors.{Connectors}
@@ -15,70 +19,39 @@ use Rattle.lines.specs.declared.line.Outcome.{Outcome}
 use Rattle.lines.specs.Line.{line_outcome}
 use Rattle.calls.proofs.Lists.{refused-kept}
 use Rattle.calls.proofs.Runs.{invariant}
-use Rattle.rack.specs.declared.pass.RackInput.{RackInput}
-use Rattle.rack.specs.Supply.{most_cards, supply, share, pushes, draw, same_fronts, sum_of, draws_of, draws, over}
+use Rattle.rack.specs.declared.tick.RackInput.{RackInput}
+use Rattle.rack.specs.Supply.{most_cards, supply, share, pushes, draw, same_fronts, draws_of, draws, over}
 use Rattle.rack.specs.Rack.{no_rack, over_supply, bad_length, bad_row, bad_fronts, bad_number, start_card, started_row, input_for, low_lines}
 use Rattle.rack.specs.Rack.{ticks_from, cards_of, ticked_row}
 use Rattle.rack.specs.Rack.{card_of, outcome_by, number_by, outcome_in, row_outcome, lined_row, row_load_number, loaded_row}
 use Rattle.rack.specs.Calls.{RackCall, after_call, end}
 use Rattle.rack.specs.Calls.RackCall.{start, line, load, tick}
 use Rattle.rack.specs.Demand3.{WithinSupply, ShareGuaranteed}
-use Rattle.rack.proofs.Orders.{or_left, or_right}
-use Rattle.rack.proofs.Takes.{in-range}
-use Rattle.rack.proofs.Draws.{same-draw, tick-draw, start-draw}
-use Rattle.rack.proofs.Rows.{set_same}
+use Rattle.words.proofs.Bools.{or_left, or_right}
+use Rattle.rack.proofs.Rows.{in-range}
+use Rattle.rack.proofs.Draws.{drawn, draws-set, same-draw, tick-draw, start-draw}
 
 -- ---- what one card draws
 
-larger : (m : ℕ) → (share ≤ cond (ltb m share) share m) × (m ≤ share → cond (ltb m share) share m ≡ share)
-larger m = go (ltb m share) refl
-  where
-    go : (b : Bool) → ltb m share ≡ b → (share ≤ cond b share m) × (m ≤ share → cond b share m ≡ share)
-    go true e = (le_refl share, λ h. refl)
-    go false e =
-        let h = ltb-false m share e in
-        (h, λ g. omega (arith, h, g))
-
 draw-share : (a : Connectors) → share ≤ draw a
 unfolding draw
-draw-share a = (larger (pushes a)).0
+draw-share a = omega arith
 
 draw-least : (a : Connectors) → pushes a ≤ share → draw a ≡ share
 unfolding draw
-draw-least a h = (larger (pushes a)).1 h
-
-abbrev drawn : Card → ℕ
-drawn c = draw c.connectors
+draw-least a h = omega arith
 
 -- ---- the sum with another card in a place
 
-draws-set : (cards : List Card) (i : ℕ) (x d : Card) → i < length cards
-    → sum_of (set (draws_of cards) i (drawn d)) + drawn (get_or cards i x) ≡ draws cards + drawn d
-unfolding sum_of
-draws-set [] i x d h = absurd (not-suc-le-zero h)
-draws-set (c ∷ cs) zero x d h = swap (drawn d) (draws cs) (drawn c)
-  where
-    swap : (a b c : ℕ) → (a + b) + c ≡ (c + b) + a
-    swap a b c = omega arith
-draws-set (c ∷ cs) (suc i) x d h = under (drawn c) _ _ _ _ (draws-set cs i x d (le_of_suc-le-suc h))
-  where
-    under : (a x y z w : ℕ) → x + y ≡ z + w → (a + x) + y ≡ (a + z) + w
-    under a x y z w e = omega (arith, e)
-
-numbers-set : (cards : List Card) (i : ℕ) (d : Card) → draws_of (set cards i d) ≡ set (draws_of cards) i (drawn d)
-numbers-set [] i d = refl
-numbers-set (c ∷ cs) zero d = refl
-numbers-set (c ∷ cs) (suc i) d = ap (λ (l : List ℕ). drawn c ∷ l) (numbers-set cs i d)
-
 -- a card that draws no more than the one in its place
-no_more : (cards : List Card) (i : ℕ) (x d : Card) → i < length cards → drawn d ≤ drawn (get_or cards i x) → sum_of (set (draws_of cards) i (drawn d)) ≤ draws cards
-no_more cards i x d h less = below _ _ (drawn (get_or cards i x)) (drawn d) (draws-set cards i x d h) less
+no_more : (cards : List Card) (i : ℕ) (x d : Card) → i < length cards → drawn d ≤ drawn (get_or cards i x) → sum (set (draws_of cards) i (drawn d)) ≤ draws cards
+no_more cards i x d h less = below _ _ (drawn (get_or cards i x)) (drawn d) (draws-set cards i x (drawn d) h) less
   where
     below : (x y a b : ℕ) → x + a ≡ y + b → b ≤ a → x ≤ y
     below x y a b e l = omega (arith, e, l)
 
-set-draws : (cards : List Card) (i : ℕ) (d : Card) → sum_of (set (draws_of cards) i (drawn d)) ≤ supply → draws (set cards i d) ≤ supply
-set-draws cards i d h = subst (λ (l : List ℕ). sum_of l ≤ supply) (sym (numbers-set cards i d)) h
+set-draws : (cards : List Card) (i : ℕ) (d : Card) → sum (set (draws_of cards) i (drawn d)) ≤ supply → draws (set cards i d) ≤ supply
+set-draws cards i d h = subst (λ (l : List ℕ). sum l ≤ supply) (sym (map-set drawn cards i d)) h
 
 -- a change that the supply bears
 not-over : (cards : List Card) (i : ℕ) (x d : Card) → i < length cards → draws cards ≤ supply
@@ -87,13 +60,13 @@ not-over : (cards : List Card) (i : ℕ) (x d : Card) → i < length cards → d
 unfolding over
 not-over cards i x d h within e = set-draws cards i d (go (same_fronts (get_or cards i x).connectors d.connectors) refl e)
   where
-    go : (b : Bool) → same_fronts (get_or cards i x).connectors d.connectors ≡ b → (not b && ltb supply (sum_of (set (draws_of cards) i (drawn d)))) ≡ false
-        → sum_of (set (draws_of cards) i (drawn d)) ≤ supply
+    go : (b : Bool) → same_fronts (get_or cards i x).connectors d.connectors ≡ b → (not b && ltb supply (sum (set (draws_of cards) i (drawn d)))) ≡ false
+        → sum (set (draws_of cards) i (drawn d)) ≤ supply
     go true same z =
         let l = no_more cards i x d h (subst (λ (m : ℕ). drawn d ≤ m) (sym (same-draw (get_or cards i x).connectors d.connectors same))
         (le_refl (drawn d))) in
         omega (arith, l, within)
-    go false same z = ltb-false supply (sum_of (set (draws_of cards) i (drawn d))) z
+    go false same z = ltb-false supply (sum (set (draws_of cards) i (drawn d))) z
 
 -- "each card always gets its four": a change that leaves at most four is not over it
 four-free : (cards : List Card) (i : ℕ) (x d : Card) → i < length cards → draws cards ≤ supply → pushes d.connectors ≤ share
@@ -103,15 +76,15 @@ four-free cards i x d h within few =
     let least : drawn d ≤ drawn (get_or cards i x) = subst (λ (m : ℕ). m ≤ drawn (get_or cards i x)) (sym (draw-least d.connectors few))
     (draw-share (get_or cards i x).connectors) in
     let l = no_more cards i x d h least in
-    let under : sum_of (set (draws_of cards) i (drawn d)) ≤ supply = omega (arith, l, within) in
-    rw (le-ltb supply (sum_of (set (draws_of cards) i (drawn d))) under) (none (not (same_fronts (get_or cards i x).connectors d.connectors)))
+    let under : sum (set (draws_of cards) i (drawn d)) ≤ supply = omega (arith, l, within) in
+    rw (le-ltb supply (sum (set (draws_of cards) i (drawn d))) under) (none (not (same_fronts (get_or cards i x).connectors d.connectors)))
   where
     none : (b : Bool) → (b && false) ≡ false
     none true = refl
     none false = refl
 
 same_place : (cards : List Card) (i : ℕ) (x : Card) → draws cards ≤ supply → draws (set cards i (get_or cards i x)) ≤ supply
-same_place cards i x within = subst (λ (l : List Card). draws l ≤ supply) (sym (set_same cards i x)) within
+same_place cards i x within = subst (λ (l : List Card). draws l ≤ supply) (sym (set-get_or cards i x)) within
 
 cond-long : (cards : List Card) (b : Bool) (x : List Card) → length x ≡ length cards → length (cond b cards x) ≡ length cards
 cond-long cards true x e = refl
@@ -120,10 +93,10 @@ cond-long cards false x e = e
 module _ (n : ℕ) where
   -- ---- a tick changes no connector
 
-  ticks-draw : (full : Bool) (r : RackInput) (low i : ℕ) (cards : List Card) → draws (cards_of (ticks_from n full r low i cards)) ≡ draws cards
-  unfolding ticks_from sum_of
+  ticks-draw : (full : Bool) (r : RackInput) (low i : ℕ) (cards : List Card) → draws_of (cards_of (ticks_from n full r low i cards)) ≡ draws_of cards
+  unfolding ticks_from
   ticks-draw full r low i [] = refl
-  ticks-draw full r low i (c ∷ cs) = ap₂ ◌+◌ (tick-draw n full c (input_for r i) low) (ticks-draw full r low (suc i) cs)
+  ticks-draw full r low i (c ∷ cs) = ap₂ (λ (x : ℕ) (xs : List ℕ). x ∷ xs) (tick-draw n full c (input_for r i) low) (ticks-draw full r low (suc i) cs)
 
   ticks-long : (full : Bool) (r : RackInput) (low i : ℕ) (cards : List Card) → length (cards_of (ticks_from n full r low i cards)) ≡ length cards
   unfolding ticks_from
@@ -133,12 +106,7 @@ module _ (n : ℕ) where
   -- ---- a start
 
   fill-draws : (m : ℕ) → draws (replicate m (start_card n)) ≡ m * share
-  unfolding sum_of
-  fill-draws zero = refl
-  fill-draws (suc m) =
-      let rest = fill-draws m in
-      let one = start-draw n in
-      omega (arith, rest, one)
+  fill-draws m = sum-map drawn (replicate m (start_card n)) ∙ sum_by-replicate drawn m (start_card n) ∙ ap (λ (k : ℕ). m * k) (start-draw n)
 
   start-within : (m : ℕ) → m ≤ most_cards → draws (replicate m (start_card n)) ≤ supply
   start-within m h =
@@ -205,7 +173,7 @@ module _ (n : ℕ) where
     where
       go : (b : Bool) → draws (cond b cards (cards_of (ticks_from n full input (low_lines n input.code 0 cards) 0 cards))) ≤ supply
       go true = within
-      go false = rw (ticks-draw full input (low_lines n input.code 0 cards) 0 cards) within
+      go false = rw (ap sum (ticks-draw full input (low_lines n input.code 0 cards) 0 cards)) within
 
   -- no call changes how many cards there are
   pub call_long : (cards : List Card) (call : RackCall) → length (after_call n cards call) ≡ length cards

@@ -12,7 +12,7 @@ use Rattle.ticks.specs.declared.view.Input.{Input}
 use Rattle.ticks.specs.Tick.{wires_of, named, outputs_below, tick}
 use Rattle.ticks.specs.Runs.{Step}
 use Rattle.ticks.specs.Timing.{TimerPromiseOn, IgnoresAllOn}
-use Rattle.rack.specs.declared.pass.RackInput.{RackInput}
+use Rattle.rack.specs.declared.tick.RackInput.{RackInput}
 use Rattle.rack.specs.Shared.{shared_lines, shared_tick}
 use Rattle.rack.specs.Supply.{most_cards}
 use Rattle.rack.specs.Rack.{is_large, input_for, ticked_row, idle_answer, row_answers}

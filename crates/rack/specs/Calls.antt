@@ -6,8 +6,8 @@ use Rattle.card.specs.declared.card.Card.{Card}
 use Rattle.saved.specs.Record.{config_width, record_of}
 use Rattle.lines.specs.Line.{reply_with}
 use Rattle.calls.specs.Runs.{end_of, answers_of}
-use Rattle.rack.specs.declared.pass.RackInput.{RackInput}
-use Rattle.rack.specs.declared.pass.RackTicked.{RackTicked}
+use Rattle.rack.specs.declared.tick.RackInput.{RackInput}
+use Rattle.rack.specs.declared.tick.RackTicked.{RackTicked}
 use Rattle.rack.specs.Rack.{start_number, started_row, row_ticked, ticked_row, card_of, row_outcome, lined_row, row_result, row_load_number, loaded_row}
 
 -- a start, a line and a load to the card of a number, a tick of either kind

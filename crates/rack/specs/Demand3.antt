@@ -5,7 +5,7 @@ use Rattle.std.specs.Prelude.{ℕ, ◌≤◌, ◌<◌, ◌≡◌, Bool, false, l
 use mathlib.Core.List.{List, Forall₂}
 use Rattle.card.specs.declared.card.Card.{Card}
 use Rattle.ticks.specs.declared.tick.Answer.{Answer}
-use Rattle.rack.specs.declared.pass.RackInput.{RackInput}
+use Rattle.rack.specs.declared.tick.RackInput.{RackInput}
 use Rattle.rack.specs.Supply.{most_cards, supply, share, pushes, draws_of, draws, over}
 use Rattle.rack.specs.Rack.{start_card}
 use Rattle.rack.specs.Calls.{RackCall, RackReply, end, answers}

@@ -38,10 +38,10 @@ use Rattle.saved.specs.Record.{record_of, same_bytes}
 use Rattle.saved.specs.Record.{load_number_as, loaded_as, load_number, loaded}
 use Rattle.lines.specs.Line.{shortest_reply, slot_index, change_for, response_to, decision, decision_for, line_decision, line_outcome, reply_of}
 use Rattle.calls.specs.Runs.{end_of, answers_of}
-use Rattle.rack.specs.declared.pass.Front.{Front}
+use Rattle.rack.specs.declared.tick.Front.{Front}
 use Rattle.rack.specs.Shared.{pulls, shared_levels, shared_tick}
-use Rattle.rack.specs.Supply.{pushes, draw, same_kinds, sum_of, over}
-use Rattle.rack.specs.Rack.{any_large, start_card, start_number, started_row, low_lines, ticks_from, tick_number, ticked_row, idle_answer, row_answers}
+use Rattle.rack.specs.Supply.{pushes, draw, same_kinds, over}
+use Rattle.rack.specs.Rack.{start_card, start_number, started_row, ticks_from, tick_number, ticked_row, idle_answer, row_answers}
 use Rattle.rack.specs.Rack.{row_outcome, lined_row, row_load_number, loaded_row}
 use Rattle.rack.specs.Calls
 use Rattle.rack.specs.Calls.{RackCall, RackReply, row_reply, row_saved, after_call, answer, end, answers}
@@ -248,7 +248,7 @@ unfolding preset_cell preset_source sets_front preset ones ones_in with_bit word
     give pair_read pairs_of write_of cca_write cca_read cca_form slot_form ccb_form read_of read_form card_form plain_form
     addressed parse alone refusal slot_index changed change_for response_to decision decision_for line_decision line_outcome
     reply_of kind_at source_at with_kind with_source each from_each well_formed driven_word levels_from pulled_word count_of
-    pulls shared_levels shared_tick pushes draw same_kinds sum_of over any_large start_number started_row low_lines ticks_from
+    pulls shared_levels shared_tick pushes draw same_kinds over start_number started_row ticks_from
     tick_number ticked_row row_answers row_outcome lined_row row_load_number loaded_row row_reply row_saved after_call answer
     answers_of counted tallied_by end_of sessions supply_session over_session four_session idle_session driver_session
     apart_session start_session no_rack_sessions tally_rows line_to said refused accepts loads starts tick_on tick_of ran

@@ -1,5 +1,5 @@
--- What a reader must believe of racks, in the order of the request. Passes and Held are the code's
--- own view of a row, which the contracts of its inner functions cite.
+-- What a reader must believe of racks, in the order of the request. Row is what the contracts
+-- of inner functions say of a line and a load to one card.
 pub mod Shared
 pub mod Supply
 pub mod Rack
@@ -7,6 +7,5 @@ pub mod Calls
 pub mod Demand3
 pub mod Alone
 pub mod Cards
-pub mod Passes
-pub mod Held
+pub mod Row
 pub mod Examples

@@ -1,6 +1,7 @@
 -- Document 02, 12: what the calls on a row of cards do, over the number n of cells of each.
 use Rattle.std.specs.Prelude.{ℕ, suc, ◌+◌, ◌*◌, ◌-◌, Bool, false, not, ◌&&◌, ◌||◌, cond, List, [], ◌∷◌, ◌++◌, map, eqb, ltb, length, get_or, set, replicate}
 use Rattle.std.specs.Int.Bits.{bit_or}
+use Rattle.std.specs.List.{fold, list_any}
 use Rattle.std.proofs.lemmas.List.Edits.{sets}
 use Rattle.card.specs.declared.card.Card.{Card}
 use Rattle.card.specs.declared.card.Connectors.{Connectors}
@@ -11,11 +12,13 @@ use Rattle.ticks.specs.declared.tick.Answer.{Answer}
 use Rattle.ticks.specs.declared.tick.Ticked.{Ticked}
 use Rattle.saved.specs.Record.{load_number, loaded}
 use Rattle.lines.specs.declared.line.Outcome.{Outcome}
-use Rattle.lines.specs.Line.{LineResult, line_outcome, silent, result_for}
-use Rattle.rack.specs.declared.pass.Front.{Front}
-use Rattle.rack.specs.declared.pass.RackInput.{RackInput}
-use Rattle.rack.specs.declared.pass.RackTicked.{RackTicked}
-use Rattle.rack.specs.declared.job.Replied.{Replied}
+use Rattle.lines.specs.Line.{line_outcome, silent, result_for}
+use Rattle.rack.specs.declared.tick.Front.{Front}
+use Rattle.rack.specs.declared.tick.RackInput.{RackInput}
+use Rattle.rack.specs.declared.tick.RackTicked.{RackTicked}
+use Rattle.rack.specs.declared.rack_calls.Replied.{Replied}
+use Rattle.rack.specs.declared.row.Refused.{Refused}
+use Rattle.rack.specs.declared.row.Refused.TheVariants.{OverSupply, NoRack, ByCard}
 use Rattle.rack.specs.Shared.{pulls, shared_tick}
 use Rattle.rack.specs.Supply.{most_cards, draws_of, over}
 
@@ -28,9 +31,8 @@ no_rack = 20
 abbrev pub is_large : Card → Bool
 is_large c = eqb c.size cell_room
 
-unfoldable pub any_large : List Card → Bool
-any_large [] = false
-any_large (c ∷ cs) = is_large c || any_large cs
+abbrev pub any_large : List Card → Bool
+any_large cards = list_any is_large cards
 
 abbrev pub bad_length : ℕ → Bool
 bad_length n = ltb n 1 || ltb most_cards n
@@ -71,9 +73,8 @@ input_for r i =
     record { code = r.code; sample = r.sample * 256 + front.sample; attached = r.attached * 256 + front.attached }
 
 -- "all drive": the lines that some card pulls low, with those of `low`
-unfoldable pub low_lines : (n code low : ℕ) → List Card → ℕ
-low_lines n code low [] = low
-low_lines n code low (c ∷ cs) = low_lines n code (bit_or low (pulls n code c)) cs
+abbrev pub low_lines : (n code low : ℕ) → List Card → ℕ
+low_lines n code low cards = fold (λ (l : ℕ) (c : Card). bit_or l (pulls n code c)) low cards
 
 -- "then all sample, then all work out their cells": the cards from the i-th on
 unfoldable pub ticks_from : ℕ → Bool → RackInput → (low i : ℕ) → List Card → List Ticked
@@ -116,6 +117,11 @@ card_of n cards number = get_or cards (number - 1) (start_card n)
 abbrev pub over_supply : ℕ
 over_supply = 19
 
+abbrev pub refusal_number : Refused → ℕ
+refusal_number OverSupply = over_supply
+refusal_number NoRack = no_rack
+refusal_number (ByCard k) = k
+
 -- what the rack itself refuses of a call that would give number k and connectors b for a: 20 where
 -- row and number are no rack's; 19 where all else is accepted and the supply does not bear it; 0
 -- where it leaves the call as it is
@@ -150,11 +156,6 @@ row_load_number n cards number bytes =
 unfoldable pub loaded_row : ℕ → List Card → (number : ℕ) → List ℕ → List Card
 loaded_row n cards number bytes =
     set cards (number - 1) (cond (eqb (row_load_number n cards number bytes) 0) (loaded n (card_of n cards number) bytes) (card_of n cards number))
-
--- all that a line to a card leaves
-abbrev pub line_in : ℕ → (bad : Bool) → (numbers : List ℕ) → (place : ℕ) → Card → (text reply store : List ℕ) → LineResult
-line_in n bad numbers place c text reply store =
-    result_for n c (outcome_in bad numbers place c (line_outcome n c text (length reply) (length store))) reply store
 
 -- what a line to a card of a row answers and leaves: its number and the reply's length, the row,
 -- and the two buffers

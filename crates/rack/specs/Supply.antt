@@ -1,5 +1,5 @@
 -- Document 02, 12: "Front lamps share one supply of 16".
-use Rattle.std.specs.Prelude.{ℕ, zero, suc, ◌+◌, Bool, true, not, ◌&&◌, cond, List, [], ◌∷◌, map, eqb, ltb, set}
+use Rattle.std.specs.Prelude.{ℕ, zero, suc, Bool, true, not, ◌&&◌, List, map, sum, max, eqb, ltb, set}
 use Rattle.words.specs.Bits.{count_of}
 use Rattle.card.specs.declared.card.Card.{Card}
 use Rattle.card.specs.declared.card.Connectors.{Connectors}
@@ -23,7 +23,7 @@ pushes a = count_of (λ k. eqb (kind_at a k) push_pull_type) front_count
 
 -- "the larger of 4 and the card's push-pull front connectors"
 unfoldable pub draw : Connectors → ℕ
-draw a = cond (ltb (pushes a) share) share (pushes a)
+draw a = max (pushes a) share
 
 -- no front connector has another type
 unfoldable pub same_kinds : ℕ → Connectors → Connectors → Bool
@@ -33,18 +33,14 @@ same_kinds (suc k) a b = same_kinds k a b && eqb (kind_at a k) (kind_at b k)
 abbrev pub same_fronts : Connectors → Connectors → Bool
 same_fronts a b = same_kinds front_count a b
 
--- "the sum over the cards": each card's number at its place among four, and their sum
-unfoldable pub sum_of : List ℕ → ℕ
-sum_of [] = 0
-sum_of (x ∷ xs) = x + sum_of xs
-
+-- "the sum over the cards": each card's number at its place, and their sum
 abbrev pub draws_of : List Card → List ℕ
 draws_of cards = map (λ (c : Card). draw c.connectors) cards
 
 abbrev pub draws : List Card → ℕ
-draws cards = sum_of (draws_of cards)
+draws cards = sum (draws_of cards)
 
 -- 19: "a change of a front connector's type is accepted only if the sum ... is then at most 16":
 -- the connectors a of the card at a place among numbers become b
 unfoldable pub over : List ℕ → ℕ → (a b : Connectors) → Bool
-over numbers i a b = not (same_fronts a b) && ltb supply (sum_of (set numbers i (draw b)))
+over numbers i a b = not (same_fronts a b) && ltb supply (sum (set numbers i (draw b)))

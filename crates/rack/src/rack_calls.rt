@@ -5,19 +5,31 @@ ghost use Rattle.card.specs.Address.{cell_count};
 ghost use Rattle.rack.specs.Rack.{start_number, started_row, row_ticked, ticked_row, row_result, row_result_of};
 ghost use Rattle.rack.specs.Rack.{row_load_number, loaded_row};
 
-use crate::job::{Replied, answers_of, line_in, load_in, number_of, reply_of, taken_by};
-use crate::pass::{RackInput, RackTicked, look_pass, start_card, start_order, tick_order};
-use crate::row::{look_each, passes, swap_at};
+use crate::row::{Refused, is_rack, line_in, load_in, start_card};
+use crate::supply::MOST;
+use crate::tick::{IDLE, RackInput, RackTicked, tick_all};
 use card::card::Card;
+use lines::decision::SILENT;
+use lines::line::{put_reply_if, save_if};
+
+// What a call on a row answers: 0 or the number of the refusal, and the reply's length.
+#[repr(C)]
+#[derive(Clone, Copy)]
+pub struct Replied {
+    pub k: u8,
+    pub len: usize,
+}
 
 // Every card of the row fresh, but with all connectors as inputs.
 pub fn rack_start(row: &mut [Card]) -> u8
     ensures { (result ≡ start_number row.old)
         × (row.new ≡ started_row cell_count row.old) }
 {
-    let o = start_order();
-    let p = passes(row, o);
-    number_of(p)
+    if !is_rack(row) {
+        return Refused::NoRack.number();
+    }
+    row.fill(start_card());
+    0
 }
 
 // A tick of all cards: all drive, then all sample, then all work out their cells.
@@ -25,9 +37,14 @@ pub fn rack_tick(row: &mut [Card], full: bool, input: RackInput) -> RackTicked
     ensures { (result ≡ row_ticked cell_count full input row.old)
         × (row.new ≡ ticked_row cell_count full input row.old) }
 {
-    let o = tick_order(full, input);
-    let p = passes(row, o);
-    answers_of(p)
+    if !is_rack(row) || input.count as usize != row.len() {
+        return RackTicked {
+            k: Refused::NoRack.number(),
+            answers: [IDLE; MOST],
+        };
+    }
+    let answers = tick_all(row, full, input);
+    RackTicked { k: 0, answers }
 }
 
 // A line to the card of a number: any bytes, without the line's own ending. The reply is written to
@@ -43,17 +60,19 @@ pub fn rack_line(
         ≡ row_result cell_count row.old number text.now reply.old store.old)
         × (result.len ≤ shortest_reply) }
 {
-    let n = row.len();
-    let p = look_pass(n);
-    let q = look_each(row, p);
-    let t = taken_by(q, number);
-    let i = t.place;
-    let other = start_card();
-    let c = swap_at(row, i, other);
-    let a = line_in(t, c, text, reply, store);
-    let d = a.card;
-    swap_at(row, i, d);
-    reply_of(a)
+    match line_in(row, number, text, reply.len(), store.len()) {
+        Ok(line) => {
+            let len = put_reply_if(reply, 0, line.response);
+            save_if(line.response.saves, row[line.place], store);
+            row[line.place] = line.card;
+            Replied { k: 0, len }
+        }
+        Err(refused) => {
+            let k = refused.number();
+            let len = put_reply_if(reply, k, SILENT);
+            Replied { k, len }
+        }
+    }
 }
 
 // A load of any bytes to the card of a number.
@@ -61,15 +80,11 @@ pub fn rack_load(row: &mut [Card], number: usize, bytes: &[u8]) -> u8
     ensures { (result ≡ row_load_number cell_count row.old number bytes.now)
         × (row.new ≡ loaded_row cell_count row.old number bytes.now) }
 {
-    let n = row.len();
-    let p = look_pass(n);
-    let q = look_each(row, p);
-    let t = taken_by(q, number);
-    let i = t.place;
-    let other = start_card();
-    let c = swap_at(row, i, other);
-    let r = load_in(t, c, bytes);
-    let d = r.card;
-    swap_at(row, i, d);
-    r.k
+    match load_in(row, number, bytes) {
+        Ok((place, card)) => {
+            row[place] = card;
+            0
+        }
+        Err(refused) => refused.number(),
+    }
 }

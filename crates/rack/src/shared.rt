@@ -14,16 +14,14 @@ pub(crate) fn pulled(card: Card, code: u8) -> u16
     ensures { result ≡ pulls (cells_for card.size) code card }
 {
     if code != card.trigger {
-        let m = card.memory;
-        return m.pulled;
+        return card.memory.pulled;
     }
     let nothing = Input {
-        code: code,
+        code,
         sample: 0,
         attached: 0,
     };
-    let l = lines_of(card, nothing);
-    l.pulled
+    lines_of(card, nothing).pulled
 }
 
 // The levels of a card whose own would be `own`: of the backplane what is sampled high and not
@@ -44,13 +42,10 @@ pub(crate) fn tick(full: bool, card: Card, input: Input, low: u16) -> Ticked
     let own = lines_of(card, input);
     let sample = effective(input.sample, input.attached);
     let levels = levels_on(own.levels, sample, low);
-    let l = Lines {
-        driven: own.driven,
-        pulled: own.pulled,
-        levels: levels,
-    };
+    let lines = Lines { levels, ..own };
     if full {
-        return full_tick_on(card, l);
+        full_tick_on(card, lines)
+    } else {
+        quick_tick_on(card, lines)
     }
-    quick_tick_on(card, l)
 }

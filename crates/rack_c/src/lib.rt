@@ -9,9 +9,9 @@ ghost use Rattle.rack.specs.Rack.{start_number, started_row, row_ticked, ticked_
 ghost use Rattle.rack.specs.Rack.{row_load_number, loaded_row};
 
 use card::card::Card;
-use rack::job::Replied;
-use rack::pass::{RackInput, RackTicked};
 use rack::rack_calls;
+use rack::rack_calls::Replied;
+use rack::tick::{RackInput, RackTicked};
 
 // Every card of the row fresh, but with all connectors as inputs.
 #[unsafe(no_mangle)]

@@ -1,28 +1,26 @@
--- `rack::rack_calls::rack_line` meets its contract: a started card takes the place of the card for the time of the line.
-use Rattle.std.proofs.Common.{◌≡◌, get_or, set, ap, ◌∙◌}
-use Rattle.card.specs.Address.{cell_count, cells_for}
-use Rattle.rack.specs.declared.pass.Pass.{Pass}
-use Rattle.rack.specs.Rack
-use Rattle.rack.specs.Rack.{card_of, row_result_of}
-use Rattle.rack.specs.Passes
-use Rattle.rack.specs.Passes.{looked_all, taken_from}
-use Rattle.rack.proofs.Takes.{taken_row, line_row}
+-- `rack::rack_calls::rack_line` meets its contract.
+use Rattle.std.proofs.Common.{set, sym, ◌∙◌}
+use Rattle.rack.proofs.Calls.{saved_here, refused_result, accepted_result}
 use Rattle.rack.proofs.rack_calls.rack_line.Goals as goal
 
-pub returns : goal.returns
-returns c =
+pub returns-in-Ok : goal.returns-in-Ok
+returns-in-Ok c =
     let a = c.args in
-    let row = a.row.now in
-    let same = c.look_each-q.ensures.1 in
-    let t : c.taken_by-t.result ≡ taken_from row a.number =
-    c.taken_by-t.ensures ∙ ap (λ (q : Pass). Passes.taken_by q a.number) (c.look_each-q.ensures.0 ∙ ap (λ (p : Pass). looked_all p row) c.look_pass-p.ensures) in
-    let other = c.start_card-other.ensures in
-    let card : c.swap_at-c.result ≡ card_of cell_count row a.number = c.swap_at-c.ensures.0 ∙ (λ i. get_or (same i) (t i).place (other i)) in
-    let said = c.line_in-a.ensures.0
-    ∙ (λ i. Rack.line_in (cells_for (card i).size) (t i).bad (t i).draws (t i).place (card i) a.text.now a.reply.now a.store.now) in
-    let without : c.swap_at-c.new.row ≡ taken_row row a.number = c.swap_at-c.ensures.1 ∙ (λ i. set (same i) (t i).place (other i)) in
-    let back = c.swap_at.ensures.1 ∙ (λ i. set (without i) (t i).place c.line_in-a.result.card) in (
-      (λ i. row_result_of (c.reply_of.ensures i) (back i) c.line_in-a.new.reply c.line_in-a.new.store)
-          ∙ line_row row a.number a.text.now a.reply.now a.store.now c.line_in-a.result c.line_in-a.new.reply c.line_in-a.new.store said,
-      rw c.reply_of.ensures c.line_in-a.ensures.1,
+    let l = c.in-Ok.line in
+    let h = c.in-Ok.ensures in
+    let put = c.put_reply_if-len.ensures in
+    let store = saved_here a.row.now a.number l.place _ h.0 l.response.saves a.store.now _ c.save_if.ensures in (
+      (λ i. record { k = 0; len = put.value i; row = set a.row.now (h.0.value i) l.card; reply = put.reply_after i; store = store i })
+          ∙ accepted_result a.row.now a.number a.text.now a.reply.now a.store.now l.card l.response h.1,
+      put.upper_bound,
+    )
+
+pub returns-in-Err : goal.returns-in-Err
+returns-in-Err c =
+    let a = c.args in
+    let h = c.in-Err.ensures in
+    let put = c.put_reply_if-len-in-Err.ensures in (
+      (λ i. record { k = c.number-k.result; len = put.value i; row = a.row.now; reply = put.reply_after i; store = a.store.now })
+          ∙ refused_result a.row.now a.number a.text.now a.reply.now a.store.now c.number-k.result (h.0 ∙ sym c.number-k.ensures, h.1, h.2),
+      put.upper_bound,
     )

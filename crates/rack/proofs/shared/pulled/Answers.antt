@@ -12,4 +12,4 @@ returns-then-code-card c = rw (ne_eqb _ _ c.if-code-card.true)
 
 pub returns : goal.returns
 unfolding pulls lines_of
-returns c = rw (eq-eqb _ _ c.if-code-card.false) (ap (λ (l : Lines). l.pulled) c.lines_of-l.ensures)
+returns c = rw (eq-eqb _ _ c.if-code-card.false) (ap (λ (l : Lines). l.pulled) c.lines_of.ensures)

@@ -1,13 +1,8 @@
 -- `rack::supply::draw` meets its contract: the larger of the two.
-use mathlib.Core.Path.{sym}
-use borrow.Author.Tests.{lt-ltb, le-ltb}
-use Rattle.rack.specs.Supply.{share, draw}
+use Rattle.std.proofs.Common.{arith}
+use Rattle.rack.specs.Supply.{draw}
 use Rattle.rack.proofs.supply.draw.Goals as goal
 
-pub returns-then-m-lt-SHARE : goal.returns-then-m-lt-SHARE
+pub returns : goal.returns
 unfolding draw
-returns-then-m-lt-SHARE c = rw (sym c.pushes-m.ensures, lt-ltb c.pushes-m.result share c.if-m-lt-SHARE.true)
-
-pub returns-else-m-lt-SHARE : goal.returns-else-m-lt-SHARE
-unfolding draw
-returns-else-m-lt-SHARE c = rw (sym c.pushes-m.ensures, le-ltb c.pushes-m.result share c.if-m-lt-SHARE.false)
+returns c = omega (arith, c.pushes.ensures, c.max.ensures)

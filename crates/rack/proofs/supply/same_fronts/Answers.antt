@@ -1,36 +1,16 @@
--- `rack::supply::same_fronts` meets its contract: after k turns the first k connectors are compared.
-use Prim.Native.Nat.{ℕ, ◌+◌, zero-le}
-use mathlib.Core.Path.{◌≡◌, refl, sym, ap, ap₂, ◌∙◌}
-use mathlib.Core.Bool.{◌&&◌}
-use native.Mathlib.Numerals.{add-one}
-use native.Mathlib.Omega.{arith}
+-- `rack::supply::same_fronts` meets its contract: the kinds are compared from the first on.
+use Rattle.std.proofs.Common.{rules, tests, refl, ◌∙◌, ℕ}
 use lib.Dec.{eqb}
-use Rattle.card.specs.declared.card.Connectors.{Connectors}
-use Rattle.card.specs.Address.{front_count}
+use Rattle.std.proofs.Math.Bool.{and_assoc, and-true}
+use Rattle.std.proofs.lemmas.Iterator.{YieldsList-from_range}
+use Rattle.std.proofs.lemmas.Iterator.Search.{all_from_yields_List}
 use Rattle.card.specs.Connectors.{kind_at}
 use Rattle.rack.specs.Supply.{same_kinds}
 use Rattle.rack.proofs.supply.same_fronts.Goals as goal
 
-same_next : (k : ℕ) (a b : Connectors) → same_kinds (k + 1) a b ≡ (same_kinds k a b && eqb (kind_at a k) (kind_at b k))
-unfolding same_kinds
-same_next k a b = rw add-one
-
-pub loop-k-init : goal.loop-k-init
-unfolding same_kinds
-loop-k-init c = (zero-le, refl)
-
-pub loop-k-preserved : goal.loop-k-preserved
-loop-k-preserved c =
-    let l = c.loop-k in
-    let args = c.args in (
-      omega arith,
-      ap₂ ◌&&◌ l.invariant.1 (ap₂ eqb c.kind_at-x.ensures c.kind_at-y.ensures)
-          ∙ sym (same_next l.k args.a args.b),
-    )
-
 pub returns : goal.returns
+unfolding same_kinds
 returns c =
-    let l = c.loop-k in
-    let args = c.args in
-    let end : l.k ≡ front_count = omega arith in
-    l.invariant.1 ∙ ap (λ (m : ℕ). same_kinds m args.a args.b) end
+    all_from_yields_List (λ (k : ℕ). eqb (kind_at c.args.a k) (kind_at c.args.b k)) _ _ _ c.all.ensures.ran (YieldsList-from_range 0 8 8 refl refl)
+    (λ x b q k. search (rules, tests))
+    ∙ simp (and_assoc, and-true) refl

@@ -1,9 +1,9 @@
--- `rack::pass::start_card` meets its contract: a fresh card with other connectors.
+-- `rack::row::start_card` meets its contract: a fresh card with other connectors.
 use mathlib.Core.Path.{ap}
 use Rattle.card.specs.declared.card.Card.{Card}
 use Rattle.card.specs.Fresh.{fresh}
 use Rattle.rack.specs.Rack.{inputs_only}
-use Rattle.rack.proofs.pass.start_card.Goals as goal
+use Rattle.rack.proofs.row.start_card.Goals as goal
 
 pub returns : goal.returns
 unfolding fresh
@@ -18,4 +18,4 @@ returns c =
       size = x.size;
       tallies = x.tallies;
     })
-    c.fresh-c.ensures
+    c.fresh.ensures
