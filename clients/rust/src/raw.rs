@@ -144,7 +144,7 @@ pub struct Surveyed {
 }
 
 /// What comes in at the front of one card of a rack.
-// crates/rack/src/pass.rt
+// crates/rack/src/tick.rt
 #[repr(C)]
 #[derive(Clone, Copy, Debug, PartialEq, Eq, Default)]
 pub struct Front {
@@ -155,7 +155,7 @@ pub struct Front {
 }
 
 /// What comes in with a tick of a rack.
-// crates/rack/src/pass.rt
+// crates/rack/src/tick.rt
 #[repr(C)]
 #[derive(Clone, Copy, Debug, PartialEq, Eq, Default)]
 pub struct RackInput {
@@ -173,7 +173,7 @@ pub struct RackInput {
 
 /// The number of the refusal, and the answers of the cards; those past the row are idle, and with a
 /// refusal all are.
-// crates/rack/src/pass.rt
+// crates/rack/src/tick.rt
 #[repr(C)]
 #[derive(Clone, Copy, Debug, PartialEq, Eq)]
 pub struct RackTicked {
@@ -257,7 +257,7 @@ pub mod calls {
         pub len: usize,
     }
 
-    // crates/rack/src/job.rt
+    // crates/rack/src/rack_calls.rt
     #[repr(C)]
     pub struct Replied {
         pub k: u8,
