@@ -6,6 +6,7 @@
 // lead to. A counter's bit is "active", where it keeps that. A row of a gate: the type, the
 // readings X Y Z F, and how many slots it looks at.
 use crate::{put, put_byte, put_field, put_number};
+use Slot::{F, X, Y, Z};
 use cells::cell::{Cell, Config, Pulses, State, Worked};
 use cells::reading::QUARTERS;
 use cells::table::{Row, Slots, TYPES, packed, row_of, unpacked};
@@ -16,54 +17,44 @@ const DURATION: Config = 2;
 
 const KINDS: u8 = TYPES as u8;
 
-// A step of a course is the readings X Y Z F, as bits.
-const TRIGGER: u8 = 1;
+// The slots of a cell.
+#[derive(Clone, Copy, PartialEq, Eq)]
+enum Slot {
+    X,
+    Y,
+    Z,
+    F,
+}
 
-const CLOCK: u8 = 2;
-
-const BOTH: u8 = TRIGGER | CLOCK;
-
-const RESET: u8 = 4;
+// A step of a course is the slots that read 1: X is a timer's trigger, and a counter's A or start;
+// Y is the clock, and Z the reset; F is a counter's B or stop.
+type Step = &'static [Slot];
 
 // The pulse starts where the count reaches 0, and the next clock edge ends it.
-const DELAY: [u8; 6] = [TRIGGER, CLOCK, CLOCK, CLOCK, BOTH, RESET];
+const DELAY: [Step; 6] = [&[X], &[Y], &[Y], &[Y], &[X, Y], &[Z]];
 
 // Two triggers come while it runs, and are ignored. The second brings a clock edge, which counts.
-const ONE_SHOT: [u8; 6] = [TRIGGER, CLOCK, TRIGGER, BOTH, BOTH, RESET];
-
-// Of a counter X is A, or start, and F is B, or stop.
-const A: u8 = 1;
-
-const B: u8 = 8;
-
-const ALL_THREE: u8 = A | CLOCK | B;
+const ONE_SHOT: [Step; 6] = [&[X], &[Y], &[X], &[X, Y], &[X, Y], &[Z]];
 
 // Type 19 counts while A and B are high; its reset takes the count and leaves the output.
-const WHILE_BOTH: [u8; 6] = [
-    A | CLOCK,
-    ALL_THREE,
-    ALL_THREE,
-    CLOCK | B,
-    ALL_THREE | RESET,
-    ALL_THREE,
+const WHILE_BOTH: [Step; 6] = [
+    &[X, Y],
+    &[X, Y, F],
+    &[X, Y, F],
+    &[Y, F],
+    &[X, Y, Z, F],
+    &[X, Y, F],
 ];
 
 // Type 20 counts while one of them is.
-const WHILE_EITHER: [u8; 6] = [A | CLOCK, CLOCK | B, CLOCK, ALL_THREE, A | RESET, A | CLOCK];
+const WHILE_EITHER: [Step; 6] = [&[X, Y], &[Y, F], &[Y], &[X, Y, F], &[X, Z], &[X, Y]];
 
 // Type 21 counts in the tick that starts it and not in the one that stops it; stop wins over start,
 // reset over all; a start keeps the count.
-const FROM_START: [u8; 6] = [
-    A | CLOCK,
-    CLOCK,
-    CLOCK | B,
-    A | CLOCK,
-    ALL_THREE,
-    ALL_THREE | RESET,
-];
+const FROM_START: [Step; 6] = [&[X, Y], &[Y], &[Y, F], &[X, Y], &[X, Y, F], &[X, Y, Z, F]];
 
 // Type 22 does not start again until its count is 0.
-const FROM_START_AT_ZERO: [u8; 6] = [A | CLOCK, CLOCK, CLOCK | B, A | CLOCK, RESET, A | CLOCK];
+const FROM_START_AT_ZERO: [Step; 6] = [&[X, Y], &[Y], &[Y, F], &[X, Y], &[Z], &[X, Y]];
 
 // Nothing is kept yet.
 const CLEAR: State = State {
@@ -72,8 +63,13 @@ const CLEAR: State = State {
     pulse: false,
 };
 
-fn reading(step: u8) -> Slots {
-    unpacked(step as u32)
+fn reading(step: Step) -> Slots {
+    Slots {
+        x: step.contains(&Slot::X),
+        y: step.contains(&Slot::Y),
+        z: step.contains(&Slot::Z),
+        f: step.contains(&Slot::F),
+    }
 }
 
 fn put_letter(shown: bool, letter: u8) {
@@ -87,7 +83,7 @@ fn put_slots(set: Slots) {
     put_letter(set.y, b'Y');
     put_letter(set.z, b'Z');
     put_letter(set.f, b'F');
-    put_letter(!((set.x | set.y) | (set.z | set.f)), b'-');
+    put_letter(!(set.x || set.y || set.z || set.f), b'-');
     put_byte(b' ');
 }
 
@@ -109,10 +105,8 @@ fn put_row(kind: u8) {
 }
 
 fn put_chart() {
-    let mut kind: u8 = 0;
-    while kind < KINDS {
+    for kind in 0..KINDS {
         put_row(kind);
-        kind += 1;
     }
 }
 
@@ -137,52 +131,30 @@ fn levels(r: Slots) -> [u64; QUARTERS] {
 
 // What a cell of state s keeps and puts out, where its last output was low.
 fn worked(s: State, e: Effect) -> Worked {
-    let mut next = s;
-    let mut high = false;
-    match e {
-        Effect::Slept => {}
-        Effect::Same(out) => high = out,
-        Effect::Bit(bit) => {
-            next.bit = bit;
-            high = bit;
-        }
-        Effect::Count(count) => {
-            next.count = count;
-            high = 0 < count.0;
-        }
-        Effect::Timed(count, pulse) => {
-            next.count = count;
-            next.pulse = pulse;
-            high = pulse;
-        }
-        Effect::Counted(count, active, out) => {
-            next.count = count;
-            next.bit = active;
-            high = out;
-        }
-    }
-    Worked {
-        state: next,
-        out: high,
-    }
+    let (state, out) = match e {
+        Effect::Slept => (s, false),
+        Effect::Same(out) => (s, out),
+        Effect::Bit(bit) => (State { bit, ..s }, bit),
+        Effect::Count(count) => (State { count, ..s }, 0 < count.0),
+        Effect::Timed(count, pulse) => (State { count, pulse, ..s }, pulse),
+        Effect::Counted(count, bit, out) => (State { count, bit, ..s }, out),
+    };
+    Worked { state, out }
 }
 
 // Works out a cell and prints the step. The result is the state that the cell keeps.
 fn step(kind: u8, s: State, r: Slots) -> State {
     let q = levels(r);
-    let count = s.count;
-    let slots = [0, 1, 2, 3];
     let cell = Cell {
         config: DURATION,
-        count: count,
-        slots: slots,
-        kind: kind,
+        count: s.count,
+        slots: [0, 1, 2, 3],
+        kind,
         bit: s.bit,
         pulse: s.pulse,
     };
     let t = cells::step::step(true, false, cell, 0, 1, 2, 3, &q, &q);
-    let effect = t.effect;
-    let w = worked(s, effect);
+    let w = worked(s, t.effect);
     put_step(r, w);
     w.state
 }
@@ -202,13 +174,11 @@ fn put_head(kind: u8) {
 }
 
 // A cell's course from nothing kept.
-fn put_course(kind: u8, steps: [u8; 6]) {
+fn put_course(kind: u8, steps: &[Step]) {
     put_head(kind);
     let mut s = CLEAR;
-    let mut i: usize = 0;
-    while i < 6 {
-        s = step(kind, s, reading(steps[i]));
-        i += 1;
+    for read in steps {
+        s = step(kind, s, reading(*read));
     }
 }
 
@@ -241,21 +211,20 @@ fn readings(n: u32) -> Slots {
 
 // A gate under all sixteen readings.
 fn put_looks(kind: u8, deciding: bool) {
-    for n in 0..16u32 {
+    for n in 0..16 {
         let r = readings(n);
-        let l = look_at(deciding, r);
-        put_look(kind, r, l);
+        put_look(kind, r, look_at(deciding, r));
     }
 }
 
 pub fn put_table() {
     put_chart();
-    put_course(9, DELAY);
-    put_course(14, ONE_SHOT);
-    put_course(19, WHILE_BOTH);
-    put_course(20, WHILE_EITHER);
-    put_course(21, FROM_START);
-    put_course(22, FROM_START_AT_ZERO);
+    put_course(9, &DELAY);
+    put_course(14, &ONE_SHOT);
+    put_course(19, &WHILE_BOTH);
+    put_course(20, &WHILE_EITHER);
+    put_course(21, &FROM_START);
+    put_course(22, &FROM_START_AT_ZERO);
     put_looks(10, DECIDES_AND);
     put_looks(11, DECIDES_OR);
 }

@@ -7,7 +7,7 @@
 // loaded card writes, `-` where the load was refused. A conversion prints `K LENGTH RESULT`, with 0
 // and `-` where it is refused. A row of another form, of more than 1100 bytes, or with a buffer
 // over 620 bytes prints `?`.
-ghost use Rattle.std.specs.Prelude.{◌≤◌, length};
+ghost use Rattle.std.specs.Prelude.{◌≤◌, ◌<◌, length, IfSome};
 
 use crate::{put, put_field, put_number};
 use card::limits::{LARGE, SMALL};
@@ -29,71 +29,50 @@ const KEPT: usize = 1104;
 
 const BUFFER: usize = KEPT + BLOCK;
 
-// The bytes that a row says, of which there are so many at the front of a buffer, or a row of
-// another form.
-#[derive(Clone, Copy)]
-enum Record {
-    Bytes(usize),
-    Malformed,
-}
-
 fn wide(b: u8) -> u64 {
     b as u64
 }
 
 // ---- hex digits
 
-// The value of a hex digit, and 256 for another byte: a byte made of one is then above 255.
-fn digit(b: u8) -> u16
-    ensures { result ≤ 256 }
+fn digit(b: u8) -> Option<u8>
+    ensures { IfSome result (λ d. d < 16) }
 {
-    if !text::is_hex(b) {
-        return 256;
+    match b {
+        b'0'..=b'9' => Some(b - b'0'),
+        b'a'..=b'f' => Some(b - b'a' + 10),
+        _ => None,
     }
-    let low = (b % 16) as u16;
-    if text::is_digit(b) { low } else { low + 9 }
 }
 
-fn bytes_in(row: &[u8], bytes: &mut [u8; MOST_BYTES]) -> Record {
-    if check::same(row, b"-") {
-        return Record::Bytes(0);
+// The bytes that a row says, at the front of a buffer: how many they are.
+fn bytes_in(row: &[u8], bytes: &mut [u8; MOST_BYTES]) -> Option<usize>
+    ensures { IfSome result (λ n. n ≤ 550) }
+{
+    if matches!(row, [b'-']) {
+        return Some(0);
     }
-    let n = row.len() / 2;
-    if row.len() % 2 != 0 {
-        return Record::Malformed;
+    if 2 * MOST_BYTES < row.len() {
+        return None;
     }
-    if MOST_BYTES < n {
-        return Record::Malformed;
+    for (byte, digits) in bytes.iter_mut().zip(row.chunks(2)) {
+        let [high, low] = digits else {
+            return None;
+        };
+        *byte = digit(*high)? * 16 + digit(*low)?;
     }
-    for k in 0..n {
-        let byte = digit(row[2 * k]) * 16 + digit(row[2 * k + 1]);
-        if 255 < byte {
-            return Record::Malformed;
-        }
-        bytes[k] = byte as u8;
-    }
-    Record::Bytes(n)
+    Some(row.len() / 2)
 }
 
 fn put_hex(bytes: &[u8]) {
-    for i in 0..bytes.len() {
-        io::print_hex(STDOUT, wide(bytes[i]), 2);
+    for byte in bytes {
+        io::print_hex(STDOUT, wide(*byte), 2);
     }
 }
 
 // The first n bytes, or all where there are fewer.
-fn front(bytes: &[u8], n: usize) -> &[u8] {
-    let len = least(n, bytes.len());
-    &bytes[0..len]
-}
-
-// The bytes that a row says.
-fn said(bytes: &[u8; MOST_BYTES], n: usize) -> &[u8] {
-    front(bytes, n)
-}
-
 fn put_front(bytes: &[u8], n: usize) {
-    put_hex(front(bytes, n));
+    put_hex(&bytes[..least(n, bytes.len())]);
     put(b"\n");
 }
 
@@ -125,64 +104,42 @@ fn put_conversion(bytes: &[u8], buffer: &mut [u8]) {
     put_front(buffer, done.len);
 }
 
-// A load of the record that some digits say.
-fn put_record(digits: &[u8], size: u8) {
+// A load of the record that some digits say, unless they have another form.
+fn put_record(digits: &[u8], size: u8) -> Option<()> {
     let mut bytes = [0u8; MOST_BYTES];
-    let record = bytes_in(digits, &mut bytes);
-    match record {
-        Record::Bytes(n) => put_load(said(&bytes, n), size),
-        Record::Malformed => put(b"?\n"),
-    }
+    let n = bytes_in(digits, &mut bytes)?;
+    put_load(&bytes[..n], size);
+    Some(())
 }
 
 // The conversion of the record that some digits say. The buffer is not empty, so that a byte of it
 // which is no part of the result would show.
-fn put_converted(room: Option<u16>, digits: &[u8]) {
-    let Some(room) = room else {
-        put(b"?\n");
-        return;
-    };
-    let length = room as usize;
-    if MOST_ROOM < length {
-        put(b"?\n");
-        return;
-    }
-    let mut bytes = [0u8; MOST_BYTES];
+fn put_converted(room: u16, digits: &[u8]) -> Option<()> {
     let mut buffer = [165u8; MOST_ROOM];
-    let record = bytes_in(digits, &mut bytes);
-    match record {
-        Record::Bytes(n) => put_conversion(said(&bytes, n), &mut buffer[0..length]),
-        Record::Malformed => put(b"?\n"),
-    }
+    let room = buffer.get_mut(..room as usize)?;
+    let mut bytes = [0u8; MOST_BYTES];
+    let n = bytes_in(digits, &mut bytes)?;
+    put_conversion(&bytes[..n], room);
+    Some(())
 }
 
-fn put_large(cells: &[u8], digits: &[u8]) {
-    if !check::same(cells, b"32") {
-        put(b"?\n");
-        return;
+// What a row comes to, unless it has another form.
+fn put_answer(row: &[u8]) -> Option<()> {
+    if LONGEST_ROW < row.len() {
+        return None;
     }
-    put_record(digits, LARGE);
+    match row {
+        [_, _, _, _, b' ', digits @ ..] => put_converted(text::hex4_at(row, 0)?, digits),
+        [b'3', b'2', b' ', digits @ ..] => put_record(digits, LARGE),
+        [_, _, b' ', ..] => None,
+        _ => put_record(row, SMALL),
+    }
 }
 
 fn put_row(row: &[u8]) {
-    let n = row.len();
-    if LONGEST_ROW < n {
+    if put_answer(row).is_none() {
         put(b"?\n");
-        return;
     }
-    if 4 < n {
-        if row[4] == b' ' {
-            put_converted(text::hex4_at(row, 0), &row[5..n]);
-            return;
-        }
-    }
-    if 2 < n {
-        if row[2] == b' ' {
-            put_large(&row[0..2], &row[3..n]);
-            return;
-        }
-    }
-    put_record(row, SMALL);
 }
 
 // ---- the input
@@ -192,12 +149,9 @@ fn put_given(r: Reader, block: &[u8])
     requires start_le_end { r.start ≤ r.end }
     requires end_in_bounds { r.end ≤ length block.now }
 {
-    if !r.going {
-        return;
+    if r.going {
+        put_row(&block[r.start..r.end]);
     }
-    let start = r.start;
-    let end = r.end;
-    put_row(&block[start..end]);
 }
 
 pub fn put_table(rt: &HostRuntime) {

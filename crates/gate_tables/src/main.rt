@@ -16,8 +16,7 @@ fn put(text: &[u8]) {
 }
 
 fn put_byte(b: u8) {
-    let text = [b];
-    put(&text);
+    put(&[b]);
 }
 
 fn put_number(n: u64) {

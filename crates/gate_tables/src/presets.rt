@@ -19,20 +19,19 @@ fn put_part(mark: u8, n: u8) {
     put_number(n as u64);
 }
 
-fn put_cell(i: u32, cell: Cell) {
-    let slots = cell.slots;
+fn put_cell(i: usize, cell: Cell) {
     put_byte(b' ');
     put_number(i as u64);
     put_part(b':', cell.kind);
     put_byte(b'/');
     put_number(cell.config as u64);
-    put_part(b'/', slots[0]);
-    put_part(b',', slots[1]);
-    put_part(b',', slots[2]);
-    put_part(b',', slots[3]);
+    put_part(b'/', cell.slots[0]);
+    put_part(b',', cell.slots[1]);
+    put_part(b',', cell.slots[2]);
+    put_part(b',', cell.slots[3]);
 }
 
-fn put_connector(k: u32, c: Connector) {
+fn put_connector(k: usize, c: Connector) {
     put_byte(b' ');
     put_number(k as u64);
     put_part(b'=', c.source);
@@ -41,11 +40,10 @@ fn put_connector(k: u32, c: Connector) {
 
 // The edited cells. The result is whether there are any.
 fn put_cells(card: Card) -> bool {
-    let cells = card.cells;
     let mut any = false;
-    for i in 0..16u32 {
-        if words::bit(card.edited, i) {
-            put_cell(i + 1, cells[i as usize]);
+    for (i, cell) in card.cells.iter().take(16).enumerate() {
+        if words::bit(card.edited, i as u32) {
+            put_cell(i + 1, *cell);
             any = true;
         }
     }
@@ -54,17 +52,12 @@ fn put_cells(card: Card) -> bool {
 
 // The connectors that changed. The result is whether there are any.
 fn put_connectors(before: Card, after: Card) -> bool {
-    let old_row = before.connectors;
-    let new_row = after.connectors;
-    let olds = each_of(old_row);
-    let news = each_of(new_row);
+    let olds = each_of(before.connectors);
+    let news = each_of(after.connectors);
     let mut any = false;
-    for k in 0..16u32 {
-        let at = k as usize;
-        let old = olds[at];
-        let new = news[at];
-        if (old.kind != new.kind) | (old.source != new.source) {
-            put_connector(k + 33, new);
+    for (k, (old, new)) in olds.iter().zip(&news).enumerate() {
+        if old.kind != new.kind || old.source != new.source {
+            put_connector(k + 33, *new);
             any = true;
         }
     }
@@ -76,7 +69,7 @@ fn refusal(card: Card, v: Number) -> u64 {
     if bad_preset(v, card.size) {
         return 8;
     }
-    if (card.trigger == 4) & sets_front(v, card.size) {
+    if card.trigger == 4 && sets_front(v, card.size) {
         return 13;
     }
     0
@@ -88,21 +81,21 @@ fn put_line(card: Card, v: Number) {
     put_number(refusal(card, v));
     let cells = put_cells(after);
     let connectors = put_connectors(card, after);
-    if !(cells | connectors) {
+    if !cells && !connectors {
         put(b" -");
     }
     put_byte(b'\n');
 }
 
 fn put_all(card: Card) {
-    for v in 0..66u64 {
+    for v in 0..66 {
         put_line(card, v);
     }
 }
 
 fn marked() -> Card {
     let mut card = card::card::fresh();
-    for p in 33..41u8 {
+    for p in 33..41 {
         card = set_source(set_connector_type(move_to(card, p), 1), 16);
     }
     card

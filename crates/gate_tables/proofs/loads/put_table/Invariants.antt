@@ -2,7 +2,6 @@
 use Prim.Native.Nat.{◌≤◌}
 use mathlib.Core.Path.{◌≡◌}
 use lib.ListN.{length}
-use borrow.Author.Rules.{rules}
 use Rattle.gate_tables.proofs.loads.put_table.Given as goal
 
 abbrev pub invariant-loop-r : goal.invariant-loop-r
