@@ -51,19 +51,19 @@ fn put_chart(out: &mut [u8; TEXT_MOST]) -> usize
     ensures value { result ≡ length (chart_text cell_count) }
     ensures upper_bound { result ≤ text_most }
 {
-    let c = chart();
+    let chart = chart();
     let mut at = 0;
     for a in 0..ADDRESSES {
-        let e = entry_of(&c, a as u8, SMALL);
-        at = put_row(out, at, a as u8, e);
+        let a = a as u8;
+        at = put_row(out, at, a, entry_of(&chart, a, SMALL));
     }
     at
 }
 
 fn print_chart() {
-    let mut out: [u8; TEXT_MOST] = [0; TEXT_MOST];
+    let mut out = [0u8; TEXT_MOST];
     let n = put_chart(&mut out);
-    program::writer::write(&out[0..n]);
+    program::writer::write(&out[..n]);
 }
 
 fn main(rt: HostRuntime) {

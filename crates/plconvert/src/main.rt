@@ -5,33 +5,35 @@
 
 use input::system::{STDERR, Source, fail};
 use program::arguments::has_input;
+use saved::record::RECORD_LENGTH;
 
 // `:N-k` and LF.
 fn refuse(k: u8) {
     let mut line = [0u8; 16];
     let n = text::put_numbered(&mut line, b":N-", k as u32, b"\n");
-    io::write_all(STDERR, &line[0..n]);
+    io::write_all(STDERR, &line[..n]);
 }
 
-// One byte more than the longest record is read: an input that goes on is of no form's length.
-const ROOM: usize = 517;
+// The longest record, that of a card of 32 cells. One byte more is read: an input that goes on is of
+// no form's length.
+const LONGEST: usize = 516;
+
+const ROOM: usize = LONGEST + 1;
 
 fn convert_from(input: &mut Source) {
     let mut bytes = [0u8; ROOM];
-    let mut result = [0u8; 308];
+    let mut result = [0u8; RECORD_LENGTH];
     let got = input::read_all(input, &mut bytes);
     if got.failed {
         fail(b"the input");
         return;
     }
-    let given = input::least(got.n, ROOM);
-    let done = convert::convert(&bytes[0..given], &mut result);
-    if done.k != 0 {
+    let done = convert::convert(&bytes[..got.n], &mut result);
+    if done.k == 0 {
+        program::writer::write(&result[..done.len]);
+    } else {
         refuse(done.k);
-        return;
     }
-    let n = done.len;
-    program::writer::write(&result[0..n]);
 }
 
 fn main(rt: HostRuntime) {

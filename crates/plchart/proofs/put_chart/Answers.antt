@@ -21,7 +21,7 @@ unfolding cells_for
 loop-a-preserved c =
     let l = c.loop-a in
     let r = c.put_row-at.ensures in
-    written_next c.entry_of-e.result l.invariant (search rules) c.entry_of-e.ensures r.out_after r.value r.upper_bound
+    written_next c.entry_of.result l.invariant (search rules) c.entry_of.ensures r.out_after r.value r.upper_bound
 
 pub returns : goal.returns
 returns c =

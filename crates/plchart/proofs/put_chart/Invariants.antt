@@ -1,11 +1,7 @@
 -- `plchart::put_chart` meets its contract: after a turns the rows of the first a addresses are written.
-use Prim.Native.Nat.{◌-◌}
-use Rattle.card.specs.Address.{cell_count, address_count}
+use Rattle.card.specs.Address.{cell_count}
 use Rattle.plchart.proofs.RowLaws.{Written}
 use Rattle.plchart.proofs.put_chart.Given as goal
 
 abbrev pub invariant-loop-a : goal.invariant-loop-a
 invariant-loop-a l = Written cell_count l.initial.out l.out l.at l.a
-
-abbrev pub decreases-loop-a : goal.decreases-loop-a
-decreases-loop-a l = address_count - l.a
