@@ -4,6 +4,7 @@ use Prim.Native.Nat.{ℕ, ◌<◌}
 use mathlib.Core.Path.{◌≡◌, refl, sym, ap, ap₂, ◌∙◌}
 use mathlib.Core.Bool.{Bool, true, false, not, ◌&&◌, ◌||◌, cond}
 use mathlib.Core.List.{[], ◌∷◌}
+use native.Mathlib.Omega.{arith}
 use lib.Dec.{eqb}
 use lib.ListN.{replicate}
 use lib.Seq.{sets}
@@ -47,14 +48,7 @@ module _ (n : ℕ) where
 
   -- on the backplane, where the connector is not push-pull
   back-rule : (o s d : Bool) → (s && not (true && ((false || o) && not d))) ≡ level_bit false o s d
-  back-rule true true true = refl
-  back-rule true true false = refl
-  back-rule true false true = refl
-  back-rule true false false = refl
-  back-rule false true true = refl
-  back-rule false true false = refl
-  back-rule false false true = refl
-  back-rule false false false = refl
+  back-rule o s d = grind arith
 
   level-alone : (c : Card) (d : Connectors) (driven sample low k : ℕ) → k < connector_count
       → bit_at low k ≡ pulled_at d driven k

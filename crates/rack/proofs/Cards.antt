@@ -1,7 +1,7 @@
 -- A card in a rack is a card: each rack call is its own call, a new start, or nothing, and lists follow by one induction.
 use Prim.Native.Nat.{ℕ, zero, suc, ◌+◌, ◌-◌, ◌≤◌, ◌<◌}
 use mathlib.Core.Path.{◌≡◌, refl, sym, ap, ap₂, subst, ◌∙◌}
-use mathlib.Core.Bool.{Bool, true, false, not, ◌&&◌, ◌||◌, cond, true≢false}
+use mathlib.Core.Bool.{Bool, true, false, not, ◌&&◌, ◌||◌, cond}
 use mathlib.Core.List.{List, [], ◌∷◌, ◌++◌}
 use native.Mathlib.Nat.{not-suc-le-zero, le_of_suc-le-suc, le_refl}
 use native.Mathlib.Omega.{arith}
@@ -45,6 +45,7 @@ use Rattle.rack.specs.Cards.{Part, goes_to, answer_to, Heard, nothing, heard_mor
 use Rattle.rack.specs.Cards.{Reached, RackTallied, RackValid, RackWakes}
 use Rattle.rack.specs.Cards.Part.{none, own, anew}
 use Rattle.words.proofs.Bools.{or_left, or_right}
+use Rattle.rack.proofs.Ticks.{ticks_long}
 use Rattle.rack.proofs.Supplies.{call_long}
 use Rattle.rack.proofs.Started.{start-reached}
 
@@ -61,12 +62,7 @@ module _ (n : ℕ) where
   -- ---- a line or a load, by its outcome
 
   refused-by : (k : ℕ) → (eqb k over_supply || eqb k no_rack) ≡ true → eqb k 0 ≡ false
-  refused-by k = go (eqb k over_supply) refl (eqb k no_rack) refl
-    where
-      go : (a : Bool) → eqb k over_supply ≡ a → (b : Bool) → eqb k no_rack ≡ b → (a || b) ≡ true → eqb k 0 ≡ false
-      go true p b q e = ap (λ (m : ℕ). eqb m 0) (eqb-true k over_supply p)
-      go false p true q e = ap (λ (m : ℕ). eqb m 0) (eqb-true k no_rack q)
-      go false p false q e = absurd (true≢false (sym e))
+  refused-by k e = grind arith
 
   module _ (cards : List Card) (i : ℕ) (h : i < length cards) (number : ℕ) (call : Call) (o : Outcome) (reply : Outcome → Reply)
       (kept : eqb o.k 0 ≡ false → o.card ≡ card_of n cards number)
@@ -120,11 +116,6 @@ module _ (n : ℕ) where
         ap (λ (m : ℕ). shared_tick n full c (input_for r m) low) same
     at_tick j (c ∷ cs) (suc i) k t h e = at_tick (suc j) cs i k t (le_of_suc-le-suc h) (omega (arith, e))
 
-    ticks-long : (j : ℕ) (cards : List Card) → length (ticks_from n full r low j cards) ≡ length cards
-    unfolding ticks_from
-    ticks-long j [] = refl
-    ticks-long j (c ∷ cs) = ap suc (ticks-long (suc j) cs)
-
     abbrev none_yet : Ticked
     none_yet = record { card = start_card n; answer = idle_answer }
 
@@ -139,7 +130,7 @@ module _ (n : ℕ) where
         ≡ (shared_tick n full (here cards i) (input_for r i) low).answer
     answer-ticked cards i h few =
         let ts = ticks_from n full r low 0 cards in
-        let long : length (Rack.answers_of ts) ≡ length cards = length-map ts (λ (t : Ticked). t.answer) ∙ ticks-long 0 cards in
+        let long : length (Rack.answers_of ts) ≡ length cards = length-map ts (λ (t : Ticked). t.answer) ∙ ticks_long n full r low 0 cards in
         ap (λ (l : List Answer). get_or l i idle_answer) (sets-eq (Rack.answers_of ts) (replicate most_cards idle_answer) 0 (omega (arith, long, few)))
         ∙ get_or-append (Rack.answers_of ts) _ idle_answer i (omega (arith, long, h))
         ∙ get_or-map (λ (t : Ticked). t.answer) ts i none_yet

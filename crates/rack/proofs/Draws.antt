@@ -11,6 +11,7 @@ use lib.ListN.{length, get_or, get_or-map, set, length-map}
 use Rattle.std.specs.List.{sum}
 use lib.Dec.{eqb, ltb, lit<}
 use borrow.Author.Tests.{eqb-true}
+use Rattle.std.proofs.Math.Bool.{and-true}
 use Rattle.std.proofs.lemmas.List.Sums.{sum_by-le, sum_by-set, sum-map}
 use Rattle.words.specs.Bits.{bit_at, bit_number, word_of, count_of}
 use Rattle.words.proofs.Bools.{and_left, and_right}
@@ -34,16 +35,12 @@ front = 255
 abbrev push_at : Connectors → ℕ → Bool
 push_at d k = eqb (kind_at d k) push_pull_type
 
-all_true : (b : Bool) → (b && true) ≡ b
-all_true true = refl
-all_true false = refl
-
 front-word : (d : Connectors) → bit_and d.push_pull front ≡ word_of (push_at d) front_count
 front-word d =
     let w = bit_and d.push_pull front in
     sym (built-of-bits w front_count (lt_of_le_of_lt (and_le_r d.push_pull front) (lit< tt)))
     ∙ built-same (bit_at w) (push_at d) front_count (λ k h. bit-and d.push_pull front k
-    ∙ ap (λ (x : Bool). bit_at d.push_pull k && x) (bit-ones front_count k h) ∙ all_true (bit_at d.push_pull k) ∙ sym (kind-push d k))
+    ∙ ap (λ (x : Bool). bit_at d.push_pull k && x) (bit-ones front_count k h) ∙ and-true (bit_at d.push_pull k) ∙ sym (kind-push d k))
 
 pub front-ones : (d : Connectors) → ones (bit_and d.push_pull front) ≡ count_of (push_at d) front_count
 front-ones d = ap ones (front-word d) ∙ ones-built (push_at d) front_count

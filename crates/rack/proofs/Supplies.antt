@@ -1,19 +1,21 @@
 -- The supply of a rack: from the start on the sum is never over 16, so each card always gets its four.
-use Prim.Native.Nat.{ℕ, suc, ◌+◌, ◌-◌, ◌*◌, ◌≤◌, ◌<◌}
+use Prim.Native.Nat.{ℕ, suc, ◌-◌, ◌*◌, ◌≤◌, ◌<◌}
 use mathlib.Core.Path.{◌≡◌, refl, sym, ap, ap₂, ◌∙◌, subst}
 use mathlib.Core.Bool.{Bool, true, false, not, ◌&&◌, cond}
 use mathlib.Core.List.{List, [], ◌∷◌}
 use native.Mathlib.Nat.{le_refl}
 use native.Mathlib.Omega.{arith}
 use lib.Dec.{eqb, ltb}
-use lib.ListN.{length, get_or, set, replicate, length-set, length-replicate}
+use lib.ListN.{length, get_or, set, replicate, length-map, length-set, length-replicate}
 use Rattle.std.specs.List.{sum}
 use Rattle.std.proofs.lemmas.List.{map-set, set-get_or}
 use Rattle.std.proofs.lemmas.List.Sums.{sum-map}
+use Rattle.std.proofs.Math.Bool.{and-false}
 use Rattle.std.proofs.lemmas.List.Folds.{sum_by-replicate}
 use borrow.Author.Tests.{ltb-false, le-ltb}
 use Rattle.card.specs.declared.card.Card.{Card}
 use Rattle.card.specs.declared.card.Connectors.{Connectors}
+use Rattle.ticks.specs.declared.tick.Ticked.{Ticked}
 use Rattle.saved.specs.Record.{load_number, loaded}
 use Rattle.lines.specs.declared.line.Outcome.{Outcome}
 use Rattle.lines.specs.Line.{line_outcome}
@@ -22,13 +24,14 @@ use Rattle.calls.proofs.Runs.{invariant}
 use Rattle.rack.specs.declared.tick.RackInput.{RackInput}
 use Rattle.rack.specs.Supply.{most_cards, supply, share, pushes, draw, same_fronts, draws_of, draws, over}
 use Rattle.rack.specs.Rack.{no_rack, over_supply, bad_length, bad_row, bad_fronts, bad_number, start_card, started_row, input_for, low_lines}
-use Rattle.rack.specs.Rack.{ticks_from, cards_of, ticked_row}
+use Rattle.rack.specs.Rack.{ticks_from, row_ticks, cards_of, ticked_row}
 use Rattle.rack.specs.Rack.{card_of, outcome_by, number_by, outcome_in, row_outcome, lined_row, row_load_number, loaded_row}
 use Rattle.rack.specs.Calls.{RackCall, after_call, end}
 use Rattle.rack.specs.Calls.RackCall.{start, line, load, tick}
 use Rattle.rack.specs.Demand3.{WithinSupply, ShareGuaranteed}
 use Rattle.words.proofs.Bools.{or_left, or_right}
 use Rattle.rack.proofs.Rows.{in-range}
+use Rattle.rack.proofs.Ticks.{ticks_long}
 use Rattle.rack.proofs.Draws.{drawn, draws-set, same-draw, tick-draw, start-draw}
 
 -- ---- what one card draws
@@ -45,10 +48,9 @@ draw-least a h = omega arith
 
 -- a card that draws no more than the one in its place
 no_more : (cards : List Card) (i : ℕ) (x d : Card) → i < length cards → drawn d ≤ drawn (get_or cards i x) → sum (set (draws_of cards) i (drawn d)) ≤ draws cards
-no_more cards i x d h less = below _ _ (drawn (get_or cards i x)) (drawn d) (draws-set cards i x (drawn d) h) less
-  where
-    below : (x y a b : ℕ) → x + a ≡ y + b → b ≤ a → x ≤ y
-    below x y a b e l = omega (arith, e, l)
+no_more cards i x d h less =
+    let e = draws-set cards i x (drawn d) h in
+    omega (arith, e, less)
 
 set-draws : (cards : List Card) (i : ℕ) (d : Card) → sum (set (draws_of cards) i (drawn d)) ≤ supply → draws (set cards i d) ≤ supply
 set-draws cards i d h = subst (λ (l : List ℕ). sum l ≤ supply) (sym (map-set drawn cards i d)) h
@@ -77,11 +79,7 @@ four-free cards i x d h within few =
     (draw-share (get_or cards i x).connectors) in
     let l = no_more cards i x d h least in
     let under : sum (set (draws_of cards) i (drawn d)) ≤ supply = omega (arith, l, within) in
-    rw (le-ltb supply (sum (set (draws_of cards) i (drawn d))) under) (none (not (same_fronts (get_or cards i x).connectors d.connectors)))
-  where
-    none : (b : Bool) → (b && false) ≡ false
-    none true = refl
-    none false = refl
+    rw (le-ltb supply (sum (set (draws_of cards) i (drawn d))) under) (and-false (not (same_fronts (get_or cards i x).connectors d.connectors)))
 
 same_place : (cards : List Card) (i : ℕ) (x : Card) → draws cards ≤ supply → draws (set cards i (get_or cards i x)) ≤ supply
 same_place cards i x within = subst (λ (l : List Card). draws l ≤ supply) (sym (set-get_or cards i x)) within
@@ -97,11 +95,6 @@ module _ (n : ℕ) where
   unfolding ticks_from
   ticks-draw full r low i [] = refl
   ticks-draw full r low i (c ∷ cs) = ap₂ (λ (x : ℕ) (xs : List ℕ). x ∷ xs) (tick-draw n full c (input_for r i) low) (ticks-draw full r low (suc i) cs)
-
-  ticks-long : (full : Bool) (r : RackInput) (low i : ℕ) (cards : List Card) → length (cards_of (ticks_from n full r low i cards)) ≡ length cards
-  unfolding ticks_from
-  ticks-long full r low i [] = refl
-  ticks-long full r low i (c ∷ cs) = ap suc (ticks-long full r low (suc i) cs)
 
   -- ---- a start
 
@@ -181,7 +174,8 @@ module _ (n : ℕ) where
   call_long cards start = cond-long cards (bad_row cards) _ (length-replicate (length cards) (start_card n))
   call_long cards (line number text reply store) = length-set cards (number - 1) _
   call_long cards (load number bytes) = length-set cards (number - 1) _
-  call_long cards (tick full input) = cond-long cards (bad_fronts cards input) _ (ticks-long full input (low_lines n input.code 0 cards) 0 cards)
+  call_long cards (tick full input) = cond-long cards (bad_fronts cards input) _ (length-map (row_ticks n full input cards) (λ (t : Ticked). t.card)
+      ∙ ticks_long n full input (low_lines n input.code 0 cards) 0 cards)
 
   -- ---- lists
 

@@ -1,5 +1,5 @@
 -- A rack tick on its way: the cards before place i have ticked, those from it on are as they were.
-use Prim.Native.Nat.{ℕ, ◌+◌, ◌<◌, ◌≤◌}
+use Prim.Native.Nat.{ℕ, suc, ◌+◌, ◌<◌, ◌≤◌}
 use mathlib.Core.Path.{◌≡◌, refl, sym, ap, ◌∙◌}
 use mathlib.Core.Bool.{Bool, false}
 use mathlib.Core.List.{List, [], ◌∷◌, ◌++◌}
@@ -28,6 +28,12 @@ low-small code low [] e = refl
 low-small code low (c ∷ cs) e =
     low-small code (bit_or low (pulls (cells_for c.size) code c)) cs (or_right (is_large c) (any_large cs) e)
     ∙ ap (λ (n : ℕ). low_lines cell_count code (bit_or low (pulls n code c)) cs) (small c (or_left (is_large c) (any_large cs) e))
+
+-- each card ticks once
+pub ticks_long : (n : ℕ) (full : Bool) (r : RackInput) (low i : ℕ) (cards : List Card) → length (ticks_from n full r low i cards) ≡ length cards
+unfolding ticks_from
+ticks_long n full r low i [] = refl
+ticks_long n full r low i (c ∷ cs) = ap suc (ticks_long n full r low (suc i) cs)
 
 module _ (full : Bool) (r : RackInput) (low : ℕ) where
   abbrev ts : ℕ → List Card → List Ticked

@@ -1,8 +1,9 @@
 -- `rack::shared::levels_on` meets its contract: bit by bit.
 use mathlib.Core.Path.{◌≡◌, refl, sym, ap, ap₂, ◌∙◌}
 use Prim.Native.Nat.{ℕ, ◌<◌}
-use mathlib.Core.Bool.{Bool, true, false, not, ◌&&◌, ◌||◌, cond, beq}
+use mathlib.Core.Bool.{Bool, true, not, ◌&&◌, ◌||◌, cond, beq}
 use native.Mathlib.Nat.{lt_of_le_of_lt}
+use native.Mathlib.Omega.{arith}
 use lib.Bits.{bit_and, bit_or, bit_xor, and_le_l, and_le_r, or_lt}
 use lib.Dec.{lit<}
 use borrow.Author.Rules.{rules}
@@ -28,22 +29,7 @@ front-bit k h = ap (λ (w : ℕ). bit_at w k) (sym front-built) ∙ bit-built (�
 
 -- what the masks give is the rule
 rule : (o s l b : Bool) → ((o && not b) || (s && (b && not (beq l true)))) ≡ cond b (s && not l) o
-rule true true true true = refl
-rule true true true false = refl
-rule true true false true = refl
-rule true true false false = refl
-rule true false true true = refl
-rule true false true false = refl
-rule true false false true = refl
-rule true false false false = refl
-rule false true true true = refl
-rule false true true false = refl
-rule false true false true = refl
-rule false true false false = refl
-rule false false true true = refl
-rule false false true false = refl
-rule false false false true = refl
-rule false false false false = refl
+rule o s l b = grind arith
 
 bits : (own sample low k : ℕ) → k < connector_count → bit_at (shown own sample low) k ≡ shared_at own sample low k
 bits own sample low k h =
