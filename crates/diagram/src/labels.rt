@@ -5,15 +5,8 @@ ghost use Rattle.diagram.specs.Page.{most_rows};
 use card::card::Card;
 use card::connectors::connector_at;
 use card::limits::{CONNECTORS_END, FIRST_CONNECTOR, OPEN_DRAIN};
-use phrases::names::{CONNECTOR_NAME, LONGEST_NAME};
+use phrases::names::{connector, type_name};
 use program::writer::{Room, Writer, put, put_with};
-
-// The name of a cell type.
-fn put_kind(out: &mut Room, w: Writer, kind: u8) -> Writer {
-    let mut name = [0u8; LONGEST_NAME];
-    let n = phrases::names::put_type(&mut name, 0, kind);
-    put(out, w, &name[0..n])
-}
 
 fn put_cell_name(out: &mut Room, w: Writer, card: Card, i: u32) -> Writer
     requires { i < 32 }
@@ -21,14 +14,12 @@ fn put_cell_name(out: &mut Room, w: Writer, card: Card, i: u32) -> Writer
     let cells = card.cells;
     let cell = cells[i as usize];
     let a = put_with(out, w, b"cell ", i as u64 + 1, b" ");
-    put_kind(out, a, cell.kind)
+    put(out, a, type_name(cell.kind).as_bytes())
 }
 
 // Connector k, BNC1 first.
 fn put_connector(out: &mut Room, w: Writer, k: u8) -> Writer {
-    let mut name = [0u8; CONNECTOR_NAME];
-    phrases::names::put_connector(&mut name, 0, k);
-    put(out, w, &name)
+    put(out, w, &connector(k))
 }
 
 // What is at a base: a cell or a connector.

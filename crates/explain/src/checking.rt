@@ -1,393 +1,261 @@
 // A transcript, line by line: what is entered, what must come, and what is said where something
 // else comes.
-use crate::facts::{Facts, Run, more, step};
-use crate::line::{put_answer, put_why};
-use crate::shape::{ends_blank, ends_with, is_input, plain_end, return_start};
-use check::same;
-use grammar::grammar::Parsed;
-use input::{LINE, keep, least};
-use phrases::out::{Page, put, put_text};
-use phrases::say::{Part, say, say2};
-use session::{Event, LONGEST_PRINT, refusal_of};
+use crate::facts::{Facts, Run, step};
+use crate::line::{answer_in, put_why};
+use crate::shape::{ends_blank, is_input, plain};
+use input::{LINE, keep};
+use phrases::page::{Page, Shown};
+use session::{LONGEST_PRINT, refusal_of};
 
-// What a program gives for the whole of a transcript: the line that was entered last, and its
-// answer, which wait for the answer that must come.
-pub type Text = [u8; LINE];
-
-pub type Answer = [u8; LONGEST_PRINT];
+// A line that was entered: which of the lines that were read it is, and what it did.
+#[derive(Clone, Copy)]
+struct Entry {
+    line: u32,
+    facts: Facts,
+}
 
 // Between two lines of a transcript.
 #[derive(Clone, Copy)]
 pub struct Check {
-    // what the line that was entered last did
-    pub last: Facts,
-    // the lines that were read, and which of them that line is
-    pub line: u32,
-    pub place: u32,
-    // how many bytes that line has, and whether it waits for the answer that must come
-    pub long: usize,
-    pub asked: bool,
+    run: Run,
+    // the lines that were read
+    line: u32,
+    // the line that was entered last: its first bytes, how many these are, and its answer
+    kept: [u8; LINE],
+    long: usize,
+    answer: [u8; LONGEST_PRINT],
+    // that line, where it waits for the answer that must come
+    asked: Option<Entry>,
     // answers that came as they must, and those that did not
-    pub agree: u32,
-    pub differ: u32,
+    agree: u32,
+    differ: u32,
     // lines without `> ` that were refused; lines with it that have no answer below them, and the
     // first of these
-    pub refused: u32,
-    pub open: u32,
-    pub first_open: u32,
-    // the first lines that end in CR, in blanks, and without LF, or 0: these are left out or added
-    pub returned: u32,
-    pub blank: u32,
-    pub unended: u32,
-    // how many bytes of the page are to be written
-    pub len: usize,
-}
-
-// Before the first line, on a card of 16 or 32 cells.
-pub fn start(size: u8) -> Check {
-    let run = crate::facts::start(size);
-    let last = Facts {
-        before: run,
-        after: run,
-        event: Event::Line(0),
-        parsed: Parsed::Malformed,
-        edits: 0,
-        len: 0,
-    };
-    Check {
-        last: last,
-        line: 0,
-        place: 0,
-        long: 0,
-        asked: false,
-        agree: 0,
-        differ: 0,
-        refused: 0,
-        open: 0,
-        first_open: 0,
-        returned: 0,
-        blank: 0,
-        unended: 0,
-        len: 0,
-    }
+    refused: u32,
+    open: u32,
+    first_open: Option<u32>,
+    // the first lines that end in CR, in blanks, and without LF: these are left out or added
+    returned: Option<u32>,
+    blank: Option<u32>,
+    unended: Option<u32>,
 }
 
 // ---- what is said
 
 // Which tick a line is, ", tick 2", or which it comes after, ", after tick 2".
-fn put_tick(out: &mut Page, at: usize, before: u32, ticks: u32) -> usize {
-    let number = Part::Number(ticks);
+fn put_tick(page: &mut Page, before: u32, ticks: u32) {
     if before < ticks {
-        return say(out, at, b", tick %", number);
+        page.say(format_args!(", tick {ticks}"));
+    } else if 0 < ticks {
+        page.say(format_args!(", after tick {ticks}"));
     }
-    if 0 < ticks {
-        return say(out, at, b", after tick %", number);
-    }
-    at
-}
-
-// "Line 9, tick 2: T 0 0100 ffff Q".
-fn put_head(out: &mut Page, at: usize, c: Check, kept: &[u8]) -> usize {
-    let last = c.last;
-    let before = last.before;
-    let run = last.after;
-    let a = say(out, at, b"Line %", Part::Number(c.place));
-    let b = put_tick(out, a, before.ticks, run.ticks);
-    let d = put(out, b, b": ");
-    let long = least(c.long, kept.len());
-    let e = put_text(out, d, &kept[0..long]);
-    put(out, e, b"\n")
 }
 
 // The facts of a line as if no hint had been given before it.
 fn unhinted(f: Facts) -> Facts {
-    let old = f.before;
-    let card = old.card;
-    let blank = card::card::fresh_of(card.size);
-    let mut before = f.before;
-    before.hinted = blank;
     let mut g = f;
-    g.before = before;
+    g.before.hinted = card::card::fresh_of(f.before.card.size);
     g
 }
 
-// What the line that was entered last did, in the words of plexplain, with all hints on its card.
-fn put_words(out: &mut Page, at: usize, c: Check, kept: &[u8]) -> usize {
-    let last = c.last;
-    let long = least(c.long, kept.len());
-    put_why(out, at, &kept[0..long], false, unhinted(last))
+// A line that has a number, where there is one.
+fn put_first(page: &mut Page, text: &str, line: Option<u32>, end: &str) {
+    if let Some(n) = line {
+        page.say(format_args!("{text}{n}{end}"));
+    }
 }
 
-// Its answer.
-fn put_came(out: &mut Page, at: usize, c: Check, answer: &[u8]) -> usize {
-    let last = c.last;
-    let a = put(out, at, b"    came      ");
-    put_answer(out, a, answer, last.len)
-}
-
-// ---- lines
-
-// A line of the card.
-fn enter(c: Check, text: &[u8], store: &mut [u8], kept: &mut Text, answer: &mut Answer) -> Check {
-    let last = c.last;
-    let run = last.after;
-    let done = step(run, text, store, answer);
-    let long = keep(kept, text);
-    let mut d = c;
-    d.last = done;
-    d.place = c.line;
-    d.long = long;
-    d
-}
-
-// A line of a wiring was refused; the first is reported.
-fn report_refused(c: Check, kept: &[u8], answer: &[u8], out: &mut Page) -> Check {
-    let mut d = c;
-    d.refused = more(c.refused);
-    if 0 < c.refused {
-        return d;
+impl Check {
+    // Before the first line, on a card of 16 or 32 cells.
+    pub fn new(size: u8) -> Self {
+        Check {
+            run: crate::facts::start(size),
+            line: 0,
+            kept: [0; LINE],
+            long: 0,
+            answer: [0; LONGEST_PRINT],
+            asked: None,
+            agree: 0,
+            differ: 0,
+            refused: 0,
+            open: 0,
+            first_open: None,
+            returned: None,
+            blank: None,
+            unended: None,
+        }
     }
-    let a = put_head(out, 0, c, kept);
-    let b = put_came(out, a, c, answer);
-    d.len = put_words(out, b, c, kept);
-    d
-}
 
-// A line of a wiring. Nothing is compared.
-fn take_plain(
-    c: Check,
-    text: &[u8],
-    store: &mut [u8],
-    kept: &mut Text,
-    answer: &mut Answer,
-    out: &mut Page,
-) -> Check {
-    let d = enter(c, text, store, kept, answer);
-    let last = d.last;
-    let event = last.event;
-    if refusal_of(event) == 0 {
-        return d;
+    // The line that was entered last did something else than it was to: "Line 9, tick 2:
+    // T 0 0100 ffff Q", the answer that must come, where there is one, the answer that came, and
+    // what the line did, in the words of plexplain, with all hints on its card.
+    fn report(&self, page: &mut Page, entry: Entry, expected: Option<&[u8]>) {
+        let f = entry.facts;
+        let text = &self.kept[..self.long.min(LINE)];
+        page.say(format_args!("Line {}", entry.line));
+        put_tick(page, f.before.ticks, f.after.ticks);
+        page.say(format_args!(": {}\n", Shown(text)));
+        if let Some(answer) = expected {
+            page.say(format_args!("    expected  {}\n", Shown(answer)));
+        }
+        page.say("    came      ");
+        page.put(answer_in(&self.answer, &f));
+        put_why(page, text, false, &unhinted(f));
     }
-    report_refused(d, kept, answer, out)
-}
 
-// An input of a transcript, whose answer is below it. `<CR>` at its end means the byte CR; one
-// that ends `<no LF>` is no line, and has no answer.
-fn take_input(
-    c: Check,
-    text: &[u8],
-    store: &mut [u8],
-    kept: &mut Text,
-    answer: &mut Answer,
-) -> Check {
-    if ends_with(text, b"<no LF>") {
-        return c;
+    // A line of the card.
+    fn enter(&mut self, text: &[u8], store: &mut [u8]) -> Entry {
+        let facts = step(self.run, text, store, &mut self.answer);
+        self.run = facts.after;
+        self.long = keep(&mut self.kept, text);
+        Entry {
+            line: self.line,
+            facts,
+        }
     }
-    if ends_with(text, b"<CR>") {
-        return take_returned(c, text, store, kept, answer);
-    }
-    let mut d = enter(c, text, store, kept, answer);
-    d.asked = true;
-    d
-}
 
-// A text and a CR after it; how many bytes these are.
-fn put_returned(line: &mut [u8], text: &[u8]) -> usize {
-    let n = keep(line, text);
-    if line.len() <= n {
-        return n;
+    // A line of a wiring. Nothing is compared; the first that is refused is reported.
+    fn take_plain(&mut self, text: &[u8], store: &mut [u8], page: &mut Page) {
+        let entry = self.enter(text, store);
+        if refusal_of(entry.facts.event) == 0 {
+            return;
+        }
+        if self.refused == 0 {
+            self.report(page, entry, None);
+        }
+        self.refused = self.refused.saturating_add(1);
     }
-    line[n] = b'\r';
-    n + 1
-}
 
-// One that ends in CR.
-fn take_returned(
-    c: Check,
-    text: &[u8],
-    store: &mut [u8],
-    kept: &mut Text,
-    answer: &mut Answer,
-) -> Check {
-    let n = text.len();
-    if n < 4 {
-        return c;
+    // An input of a transcript, whose answer is below it.
+    fn ask(&mut self, text: &[u8], store: &mut [u8]) {
+        let entry = self.enter(text, store);
+        self.asked = Some(entry);
     }
-    let mut line = [0u8; LINE];
-    let end = put_returned(&mut line, &text[0..n - 4]);
-    if LINE < end {
-        return c;
-    }
-    let mut d = enter(c, &line[0..end], store, kept, answer);
-    d.asked = true;
-    d
-}
 
-// The answer that must come, below its line.
-fn compare(c: Check, expected: &[u8], kept: &[u8], answer: &[u8], out: &mut Page) -> Check {
-    let last = c.last;
-    let mut d = c;
-    d.asked = false;
-    if is_answer(expected, last.len, answer) {
-        d.agree = more(c.agree);
-        return d;
+    // One that ends in CR, which is not there yet.
+    fn ask_returned(&mut self, text: &[u8], store: &mut [u8]) {
+        let mut line = [0; LINE];
+        let n = keep(&mut line, text);
+        if n < LINE {
+            line[n] = b'\r';
+            self.ask(&line[..n + 1], store);
+        } else {
+            self.ask(&line, store);
+        }
     }
-    d.differ = more(c.differ);
-    if 0 < c.differ {
-        return d;
+
+    // An input of a transcript: `<CR>` at its end means the byte CR; one that ends `<no LF>` is no
+    // line, and has no answer.
+    fn take_input(&mut self, text: &[u8], store: &mut [u8]) {
+        if text.ends_with(b"<no LF>") {
+            return;
+        }
+        match text.strip_suffix(b"<CR>") {
+            Some(line) => self.ask_returned(line, store),
+            None => self.ask(text, store),
+        }
     }
-    let a = put_head(out, 0, c, kept);
-    let b = put(out, a, b"    expected  ");
-    let e = put_text(out, b, expected);
-    let f = put(out, e, b"\n");
-    let g = put_came(out, f, c, answer);
-    d.len = put_words(out, g, c, kept);
-    d
-}
 
-// Whether a text is the answer of n bytes, the last of which is LF.
-fn is_answer(text: &[u8], n: usize, answer: &[u8]) -> bool {
-    if n == 0 {
-        return false;
+    // The answer that must come, below its line. The first that is another one is reported.
+    fn compare(&mut self, entry: Entry, expected: &[u8], page: &mut Page) {
+        let came = answer_in(&self.answer, &entry.facts);
+        if came.strip_suffix(b"\n") == Some(expected) {
+            self.agree = self.agree.saturating_add(1);
+            return;
+        }
+        if self.differ == 0 {
+            self.report(page, entry, Some(expected));
+        }
+        self.differ = self.differ.saturating_add(1);
     }
-    if answer.len() < n {
-        return false;
+
+    // An input of a transcript comes, or the end: one that waits for its answer does not get it.
+    fn leave_open(&mut self) {
+        if let Some(entry) = self.asked.take() {
+            self.open = self.open.saturating_add(1);
+            self.first_open = self.first_open.or(Some(entry.line));
+        }
     }
-    same(text, &answer[0..n - 1])
-}
 
-// An input of a transcript comes, or the end: one that waits for its answer does not get it.
-fn unasked(c: Check) -> Check {
-    let mut d = c;
-    if !c.asked {
-        return d;
+    // A line without its line end, CR too. Blanks at its end are left out, but not those of an
+    // input, which is entered as it is written.
+    fn take_line(&mut self, text: &[u8], store: &mut [u8], page: &mut Page) {
+        if is_input(text) {
+            self.leave_open();
+            return self.take_input(&text[text.len().min(2)..], store);
+        }
+        let line = plain(text);
+        if line.is_empty() {
+            return;
+        }
+        let blank = ends_blank(text).then_some(self.line);
+        self.blank = self.blank.or(blank);
+        match self.asked.take() {
+            Some(entry) => self.compare(entry, line, page),
+            None => self.take_plain(line, store, page),
+        }
     }
-    d.asked = false;
-    d.open = more(c.open);
-    if c.open == 0 {
-        d.first_open = c.place;
+
+    // The next line, without its LF. Of one that is longer the first bytes, as many as are kept of
+    // a line that has not ended. The page has what is said of it.
+    pub fn take(&mut self, text: &[u8], store: &mut [u8], page: &mut Page) {
+        page.clear();
+        self.line = self.line.saturating_add(1);
+        match text.strip_suffix(b"\r") {
+            Some(line) => {
+                self.returned = self.returned.or(Some(self.line));
+                self.take_line(line, store, page);
+            }
+            None => self.take_line(text, store, page),
+        }
     }
-    d
-}
 
-// The first line of which something holds: the one that is known, or this one.
-fn first_of(known: u32, holds: bool, line: u32) -> u32 {
-    if (known == 0) & holds { line } else { known }
-}
-
-// A line without its line end, CR too. Blanks at its end are left out, but not those of an input,
-// which is entered as it is written.
-fn take_line(
-    c: Check,
-    text: &[u8],
-    store: &mut [u8],
-    kept: &mut Text,
-    answer: &mut Answer,
-    out: &mut Page,
-) -> Check {
-    if is_input(text) {
-        let start = least(2, text.len());
-        let e = unasked(c);
-        return take_input(e, &text[start..], store, kept, answer);
+    // The bytes after the last LF: a line all the same.
+    pub fn take_last(&mut self, text: &[u8], store: &mut [u8], page: &mut Page) {
+        page.clear();
+        if !text.is_empty() {
+            self.unended = Some(self.line.saturating_add(1));
+            self.take(text, store, page);
+        }
     }
-    let n = plain_end(text);
-    if n == 0 {
-        return c;
+
+    // What was mended, and the first line of it.
+    fn put_mended(&self, page: &mut Page) {
+        put_first(
+            page,
+            "Line ",
+            self.returned,
+            " ends in CR LF. The CR is left out, there and in all lines.\n",
+        );
+        put_first(
+            page,
+            "Line ",
+            self.blank,
+            " ends in a blank. Blanks at the end of lines are left out.\n",
+        );
+        put_first(
+            page,
+            "Line ",
+            self.unended,
+            " is the last and has no LF after it. It is taken all the same.\n",
+        );
     }
-    let mut d = c;
-    d.blank = first_of(c.blank, ends_blank(text), c.line);
-    if d.asked {
-        return compare(d, &text[0..n], kept, answer, out);
+
+    // What is said at the end: the page has it.
+    pub fn end(&mut self, page: &mut Page) {
+        page.clear();
+        self.leave_open();
+        self.put_mended(page);
+        if self.refused != 0 {
+            page.say(format_args!("Refused of the lines without >: {}.\n", self.refused));
+        }
+        if self.open != 0 {
+            page.say(format_args!(
+                "Lines with no answer below them, which were not compared: {}. ",
+                self.open
+            ));
+        }
+        put_first(page, "The first is line ", self.first_open, ".\n");
+        page.say(format_args!("{} answers agree, {} differ\n", self.agree, self.differ));
     }
-    take_plain(d, &text[0..n], store, kept, answer, out)
-}
-
-// The next line, without its LF. Of one that is longer the first bytes, as many as are kept of a
-// line that has not ended.
-pub fn take(
-    c: Check,
-    text: &[u8],
-    store: &mut [u8],
-    kept: &mut Text,
-    answer: &mut Answer,
-    out: &mut Page,
-) -> Check {
-    let n = return_start(text);
-    let mut d = c;
-    d.line = more(c.line);
-    d.len = 0;
-    d.returned = first_of(c.returned, n < text.len(), d.line);
-    take_line(d, &text[0..n], store, kept, answer, out)
-}
-
-// The bytes after the last LF: a line all the same.
-pub fn take_last(
-    c: Check,
-    text: &[u8],
-    store: &mut [u8],
-    kept: &mut Text,
-    answer: &mut Answer,
-    out: &mut Page,
-) -> Check {
-    let mut d = c;
-    d.len = 0;
-    if text.len() == 0 {
-        return d;
-    }
-    d.unended = more(c.line);
-    take(d, text, store, kept, answer, out)
-}
-
-// ---- the end
-
-// A line that has a number, unless it is 0.
-fn put_numbered(out: &mut Page, at: usize, n: u32, text: &[u8]) -> usize {
-    if n == 0 {
-        return at;
-    }
-    say(out, at, text, Part::Number(n))
-}
-
-// What was mended, and the first line of it.
-fn put_mended(out: &mut Page, at: usize, c: Check) -> usize {
-    let a = put_numbered(
-        out,
-        at,
-        c.returned,
-        b"Line % ends in CR LF. The CR is left out, there and in all lines.\n",
-    );
-    let b = put_numbered(
-        out,
-        a,
-        c.blank,
-        b"Line % ends in a blank. Blanks at the end of lines are left out.\n",
-    );
-    put_numbered(
-        out,
-        b,
-        c.unended,
-        b"Line % is the last and has no LF after it. It is taken all the same.\n",
-    )
-}
-
-// Lines that were not compared.
-fn put_open(out: &mut Page, at: usize, c: Check) -> usize {
-    let a = put_numbered(
-        out,
-        at,
-        c.open,
-        b"Lines with no answer below them, which were not compared: %. ",
-    );
-    put_numbered(out, a, c.first_open, b"The first is line %.\n")
-}
-
-// What is said at the end.
-pub fn end(c: Check, out: &mut Page) -> usize {
-    let d = unasked(c);
-    let a = put_mended(out, 0, d);
-    let b = put_numbered(out, a, d.refused, b"Refused of the lines without >: %.\n");
-    let e = put_open(out, b, d);
-    let agree = Part::Number(d.agree);
-    let differ = Part::Number(d.differ);
-    say2(out, e, b"% answers agree, % differ\n", agree, differ)
 }

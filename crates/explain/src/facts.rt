@@ -40,7 +40,7 @@ pub struct Facts {
 pub fn start(size: u8) -> Run {
     let card = card::card::fresh_of(size);
     Run {
-        card: card,
+        card,
         hinted: card,
         lines: 0,
         ticks: 0,
@@ -48,20 +48,9 @@ pub fn start(size: u8) -> Run {
     }
 }
 
-// One more. A count that has reached the largest number stays there.
-pub fn more(n: u32) -> u32 {
-    if n < 4294967295 { n + 1 } else { n }
-}
-
 // Whether an event is a tick that ran.
 pub fn is_ran(event: Event) -> bool {
-    match event {
-        Event::Tick(t) => {
-            let answer = t.answer;
-            answer.ran
-        }
-        _ => false,
-    }
+    matches!(event, Event::Tick(t) if t.answer.ran)
 }
 
 // What a line is read as. Ticks and loads have no form of a card line.
@@ -76,8 +65,7 @@ fn parsed_as(event: Event, text: &[u8], size: u8) -> Parsed {
 fn changes_of(card: Card, change: Change) -> u64 {
     let mut blank = card;
     blank.edited = 0;
-    let after = apply(blank, change);
-    after.edited
+    apply(blank, change).edited
 }
 
 // The cells that an accepted line or load edits. A refused line has no change.
@@ -86,22 +74,15 @@ fn edits_of(event: Event, before: Card, after: Card, p: Parsed, store: usize) ->
         Event::Tick(_) => 0,
         Event::Load(k) => if k == 0 { after.edited } else { 0 },
         Event::Line(_) => {
-            let d = decide_for(context_of(before), store, p);
-            let change = d.change;
-            changes_of(before, change)
+            let decision = decide_for(context_of(before), store, p);
+            changes_of(before, decision.change)
         }
     }
 }
 
 // Whether a command moves the pointer.
 fn moves(p: Parsed) -> bool {
-    match p {
-        Parsed::Here(command) => match command {
-            Command::Move(_) => true,
-            _ => false,
-        },
-        _ => false,
-    }
+    matches!(p, Parsed::Here(Command::Move(_)))
 }
 
 // Whether the pointer is where the last line that was to move it did not want it.
@@ -122,24 +103,16 @@ fn strays(strayed: bool, event: Event, p: Parsed, text: &[u8]) -> bool {
 fn run_after(run: Run, next: Card, ran: bool, strayed: bool) -> Run
     ensures { result.card ≡ next }
 {
-    let lines = more(run.lines);
+    let mut after = run;
+    after.card = next;
+    after.strayed = strayed;
+    // a count that has reached the largest number stays there
+    after.lines = run.lines.saturating_add(1);
     if ran {
-        return Run {
-            card: next,
-            hinted: next,
-            lines: lines,
-            ticks: more(run.ticks),
-            strayed: strayed,
-        };
+        after.hinted = next;
+        after.ticks = run.ticks.saturating_add(1);
     }
-    let hinted = run.hinted;
-    Run {
-        card: next,
-        hinted: hinted,
-        lines: lines,
-        ticks: run.ticks,
-        strayed: strayed,
-    }
+    after
 }
 
 // What a line did that was entered so, with so many bytes of store.
@@ -157,10 +130,10 @@ fn facts_of(run: Run, text: &[u8], done: Entered, room: usize) -> Facts
     let after = run_after(run, next, is_ran(event), strayed);
     Facts {
         before: run,
-        after: after,
-        event: event,
-        parsed: parsed,
-        edits: edits,
+        after,
+        event,
+        parsed,
+        edits,
         len: done.len,
     }
 }

@@ -7,13 +7,12 @@
 use crate::accepted::{put_accepted, put_loaded};
 use crate::facts::{Facts, Run, is_ran, step};
 use crate::rows::put_row;
-use card::card::Card;
-use card::context::{Context, context_of};
+use card::context::context_of;
 use grammar::grammar::{Command, Parsed};
 use phrases::hints::put_hints;
-use phrases::out::{Page, put, put_text};
+use phrases::page::{Page, Shown};
 use phrases::refused::{put_refused, put_unloaded};
-use phrases::say::{Part, say};
+use phrases::terms::Place;
 use phrases::ticked::{Tick, put_tick};
 use phrases::wiring::put_edited;
 use session::{Event, LONGEST_PRINT, TickDone};
@@ -25,204 +24,127 @@ pub struct Style {
     pub asleep: bool,
 }
 
-// A run after a line, and how many bytes are written of the line.
-#[derive(Clone, Copy)]
-pub struct Explained {
-    pub run: Run,
-    pub len: usize,
-}
-
 // The line after its number and, where it is a tick that ran, the tick's.
-fn put_echo(out: &mut Page, at: usize, text: &[u8], f: Facts) -> usize {
-    let run = f.after;
-    let event = f.event;
-    let mut a = say(out, at, b"%", Part::Number(run.lines));
-    if is_ran(event) {
-        a = say(out, a, b", tick %", Part::Number(run.ticks));
+fn put_echo(page: &mut Page, text: &[u8], f: &Facts) {
+    page.say(f.after.lines);
+    if is_ran(f.event) {
+        page.say(format_args!(", tick {}", f.after.ticks));
     }
-    let b = put(out, a, b"> ");
-    let c = put_text(out, b, text);
-    put(out, c, b"\n")
-}
-
-// The first bytes of a buffer: so many of them are an answer, with its LF.
-pub fn put_answer(out: &mut Page, at: usize, answer: &[u8], len: usize) -> usize {
-    if answer.len() < len {
-        return at;
-    }
-    put(out, at, &answer[0..len])
+    page.say(format_args!("> {}\n", Shown(text)));
 }
 
 // Whether a command is about what is at the pointer.
 fn goes_to_pointer(command: Command) -> bool {
-    match command {
-        Command::SetKind(_) => true,
-        Command::SetConfig(_) => true,
-        Command::SetState(_) => true,
-        Command::SetSlots(_) => true,
-        Command::GetKind => true,
-        Command::GetConfig => true,
-        Command::GetState => true,
-        Command::GetSlot(_) => true,
-        _ => false,
-    }
-}
-
-// Whether a line goes to another place than the one that the last `M E=` named, which was refused.
-pub fn is_astray(f: Facts) -> bool {
-    let before = f.before;
-    let p = f.parsed;
-    match p {
-        Parsed::Here(command) => before.strayed & goes_to_pointer(command),
-        _ => false,
-    }
-}
-
-fn put_astray(out: &mut Page, at: usize, f: Facts, x: Context) -> usize {
-    if !is_astray(f) {
-        return at;
-    }
-    say(
-        out,
-        at,
-        b"    The pointer did not move: this line goes to %.\n",
-        Part::Place(x.pointer),
+    matches!(
+        command,
+        Command::SetKind(_)
+            | Command::SetConfig(_)
+            | Command::SetState(_)
+            | Command::SetSlots(_)
+            | Command::GetKind
+            | Command::GetConfig
+            | Command::GetState
+            | Command::GetSlot(_)
     )
 }
 
-// A card line that is accepted.
-fn put_obeyed(
-    out: &mut Page,
-    at: usize,
-    p: Parsed,
-    edits: u64,
-    before: Card,
-    after: Card,
-) -> usize {
-    match p {
-        Parsed::Here(command) => {
-            let a = put_accepted(out, at, command, before, after);
-            put_edited(out, a, edits, before.size)
-        }
-        _ => at,
+// Whether a line goes to another place than the one that the last `M E=` named, which was refused.
+pub fn is_astray(f: &Facts) -> bool {
+    match f.parsed {
+        Parsed::Here(command) => f.before.strayed & goes_to_pointer(command),
+        _ => false,
     }
 }
 
-// A card line.
-fn put_line(out: &mut Page, at: usize, text: &[u8], k: u8, f: Facts) -> usize {
-    let old = f.before;
-    let new = f.after;
-    let before = old.card;
-    let after = new.card;
-    let p = f.parsed;
-    let x = context_of(before);
-    let a = put_astray(out, at, f, x);
-    if k == 0 {
-        return put_obeyed(out, a, p, f.edits, before, after);
+// A card line, which was refused with k where that is not 0.
+fn put_line(page: &mut Page, text: &[u8], k: u8, f: &Facts) {
+    let before = &f.before.card;
+    let x = context_of(*before);
+    if is_astray(f) {
+        page.say(format_args!(
+            "    The pointer did not move: this line goes to {}.\n",
+            Place(x.pointer)
+        ));
     }
-    put_refused(out, a, text, k, x, p)
+    if k != 0 {
+        return put_refused(page, text, k, x, f.parsed);
+    }
+    if let Parsed::Here(command) = f.parsed {
+        put_accepted(page, command, before, &f.after.card);
+        put_edited(page, f.edits, before.size);
+    }
 }
 
 // A load of the store.
-fn put_load(out: &mut Page, at: usize, k: u8, f: Facts) -> usize {
-    let old = f.before;
-    let new = f.after;
-    let before = old.card;
-    let after = new.card;
-    if k == 0 {
-        let a = put_loaded(out, at, before, after);
-        return put_edited(out, a, f.edits, before.size);
+fn put_load(page: &mut Page, k: u8, f: &Facts) {
+    if k != 0 {
+        return put_unloaded(page, k);
     }
-    put_unloaded(out, at, k)
+    let before = &f.before.card;
+    put_loaded(page, before, &f.after.card);
+    put_edited(page, f.edits, before.size);
 }
 
 // What is known of a tick.
-pub fn tick_of(t: TickDone, f: Facts) -> Tick {
-    let old = f.before;
-    let new = f.after;
-    let before = old.card;
-    let after = new.card;
-    let input = t.input;
-    let answer = t.answer;
+pub fn tick_of(t: TickDone, f: &Facts) -> Tick {
     Tick {
-        input: input,
+        input: t.input,
         full: t.full,
-        answer: answer,
-        before: before,
-        after: after,
+        answer: t.answer,
+        before: f.before.card,
+        after: f.after.card,
     }
 }
 
 // A tick, and where it ran the hints that the run has not given.
-fn put_ticked(out: &mut Page, at: usize, asleep: bool, t: TickDone, f: Facts) -> usize {
-    let old = f.before;
-    let new = f.after;
-    let answer = t.answer;
-    let hinted = old.hinted;
-    let card = new.card;
-    let a = put_tick(out, at, asleep, tick_of(t, f));
-    if answer.ran {
-        return put_hints(out, a, false, hinted, card);
+fn put_ticked(page: &mut Page, asleep: bool, t: TickDone, f: &Facts) {
+    put_tick(page, asleep, &tick_of(t, f));
+    if t.answer.ran {
+        put_hints(page, false, &f.before.hinted, &f.after.card);
     }
-    a
 }
 
 // What the answer to a line means.
-pub fn put_why(out: &mut Page, at: usize, text: &[u8], asleep: bool, f: Facts) -> usize {
-    let event = f.event;
-    match event {
-        Event::Tick(t) => put_ticked(out, at, asleep, t, f),
-        Event::Load(k) => put_load(out, at, k, f),
-        Event::Line(k) => put_line(out, at, text, k, f),
+pub fn put_why(page: &mut Page, text: &[u8], asleep: bool, f: &Facts) {
+    match f.event {
+        Event::Tick(t) => put_ticked(page, asleep, t, f),
+        Event::Load(k) => put_load(page, k, f),
+        Event::Line(k) => put_line(page, text, k, f),
     }
 }
 
-fn put_sentences(
-    out: &mut Page,
-    at: usize,
-    text: &[u8],
-    answer: &[u8],
-    asleep: bool,
-    f: Facts,
-) -> usize {
-    let a = put_echo(out, at, text, f);
-    let b = put_answer(out, a, answer, f.len);
-    put_why(out, b, text, asleep, f)
+// The answer at the front of a buffer, with its LF.
+pub fn answer_in<'a>(buffer: &'a [u8; LONGEST_PRINT], f: &Facts) -> &'a [u8] {
+    &buffer[..f.len.min(LONGEST_PRINT)]
 }
 
-// One line of input, and all that is written of it.
-pub fn explain(run: Run, text: &[u8], store: &mut [u8], out: &mut Page, style: Style) -> Explained {
-    let mut answer = [0u8; LONGEST_PRINT];
-    let f = step(run, text, store, &mut answer);
-    let after = f.after;
+// One line of input, and all that is written of it: the page has that alone. The result is the run
+// after it.
+pub fn explain(run: Run, text: &[u8], store: &mut [u8], page: &mut Page, style: Style) -> Run {
+    let mut buffer = [0; LONGEST_PRINT];
+    let f = step(run, text, store, &mut buffer);
+    let answer = answer_in(&buffer, &f);
+    page.clear();
     if style.rows {
-        let end = put_row(out, 0, text, &answer, style.asleep, f);
-        return Explained {
-            run: after,
-            len: end,
-        };
+        put_row(page, text, answer, style.asleep, &f);
+    } else {
+        put_echo(page, text, &f);
+        page.put(answer);
+        put_why(page, text, style.asleep, &f);
     }
-    let end = put_sentences(out, 0, text, &answer, style.asleep, f);
-    Explained {
-        run: after,
-        len: end,
-    }
+    f.after
 }
 
-// The bytes after the last LF of an input, which are no line, and which line they would be.
-pub fn put_unended(out: &mut Page, at: usize, rows: bool, text: &[u8], line: u32) -> usize {
-    if text.len() == 0 {
-        return at;
+// The bytes after the last LF of an input, which are no line, and which line they would be: the
+// page has what is said of them.
+pub fn put_unended(page: &mut Page, rows: bool, text: &[u8], line: u32) {
+    page.clear();
+    if text.is_empty() {
+        return;
     }
     if rows {
-        return crate::rows::put_unended(out, at, text, line);
+        return crate::rows::put_unended(page, text, line);
     }
-    let a = say(
-        out,
-        at,
-        b"    Line % has no LF after it, so it is not entered: ",
-        Part::Number(line),
-    );
-    let b = put_text(out, a, text);
-    put(out, b, b"\n")
+    let text = Shown(text);
+    page.say(format_args!("    Line {line} has no LF after it, so it is not entered: {text}\n"));
 }

@@ -3,7 +3,7 @@
 // differ, a line says so. Plrun's card has sixteen cells.
 ghost use Rattle.std.specs.Prelude.{◌≤◌, length};
 
-use crate::put;
+use crate::{NotRun, put};
 use card::limits::SMALL;
 use input::read_all;
 use input::system::{Source, open_read};
@@ -12,17 +12,14 @@ use std::os::fd::AsRawFd;
 // No session is longer, and none prints more.
 const MOST: usize = 131072;
 
-// Plrun's loop over a named file. The result is whether both files could be opened.
-fn run_loop(rt: &HostRuntime, path: &[u8]) -> bool {
-    let Some(file) = open_read(rt, path) else {
-        return false;
-    };
+// Plrun's loop over a named file, where both files can be opened.
+fn run_loop(rt: &HostRuntime, path: &[u8]) -> Result<(), NotRun> {
+    let file = open_read(rt, path).ok_or(NotRun::Loop)?;
     let Ok(output) = std::fs::create(rt, "wrote") else {
-        return false;
+        return Err(NotRun::Loop);
     };
-    let mut input = Source::Named(file);
-    session::run::run_from(&mut input, output.as_raw_fd());
-    true
+    session::run::run_from(&mut Source::Named(file), output.as_raw_fd());
+    Ok(())
 }
 
 // The bytes that the loop wrote, at the front of a buffer.
@@ -55,15 +52,11 @@ fn compare(session: &[u8], wrote: &[u8], output: &mut [u8]) {
 }
 
 // The session of an open file, which has this name.
-pub fn run(rt: &HostRuntime, file: &mut Source, path: &[u8], size: u8) {
+pub fn run(rt: &HostRuntime, file: &mut Source, path: &[u8], size: u8) -> Result<(), NotRun> {
     if size != SMALL {
-        put(b"? plrun's card has sixteen cells\n");
-        return;
+        return Err(NotRun::Plrun);
     }
-    if !run_loop(rt, path) {
-        put(b"? plrun's loop cannot be run\n");
-        return;
-    }
+    run_loop(rt, path)?;
     let mut session = [0u8; MOST];
     let mut wrote = [0u8; MOST];
     let mut output = [0u8; MOST];
@@ -71,4 +64,5 @@ pub fn run(rt: &HostRuntime, file: &mut Source, path: &[u8], size: u8) {
     let n = read_wrote(rt, &mut wrote);
     put(&wrote[0..n]);
     compare(&session[0..got.n], &wrote[0..n], &mut output);
+    Ok(())
 }

@@ -9,12 +9,7 @@ use wiring::parts::TEXT_MOST;
 pub fn put_wiring(card: Card) {
     let mut text = [0u8; TEXT_MOST];
     let printed = wiring::print::print(card, &mut text);
-    let len = printed.len;
-    put(&text[0..len]);
-}
-
-fn wide(b: u8) -> usize {
-    b as usize
+    put(&text[..printed.len]);
 }
 
 // What depends on a place: `ADDRESS K CELLS CONNECTORS`, the words in hex. A cell word has a hex
@@ -25,30 +20,22 @@ fn put_survey(card: Card, place: Number) {
     put(b" ");
     put_number(s.k as u64);
     put(b" ");
-    io::print_hex(STDOUT, s.cells as u64, wide(card.size) / 4);
+    io::print_hex(STDOUT, s.cells as u64, card.size as usize / 4);
     put(b" ");
     io::print_hex(STDOUT, s.connectors as u64, 4);
     put(b"\n");
 }
 
-// The connectors, 33 to 48, and the place after the last.
-fn put_connectors(card: Card) {
-    for place in 33..50u64 {
+// Places at the ends of the cells, of the connectors, and of what reads them otherwise; among them
+// some that are no connector.
+pub fn put_surveys(card: Card) {
+    for place in [0, 1, 16, 17, 32] {
         put_survey(card, place);
     }
-}
-
-pub fn put_surveys(card: Card) {
-    put_survey(card, 0);
-    put_survey(card, 1);
-    put_survey(card, 16);
-    put_survey(card, 17);
-    put_survey(card, 32);
-    put_connectors(card);
-    put_survey(card, 64);
-    put_survey(card, 97);
-    put_survey(card, 161);
-    put_survey(card, 225);
-    put_survey(card, 255);
-    put_survey(card, 256);
+    for place in 33..50 {
+        put_survey(card, place);
+    }
+    for place in [64, 97, 161, 225, 255, 256] {
+        put_survey(card, place);
+    }
 }

@@ -3,18 +3,12 @@ ghost use Rattle.std.specs.Prelude.{◌≤◌, length};
 
 use crate::lines_of::STORE;
 use crate::put;
-use explain::facts::{Run, more};
+use explain::facts::Run;
 use explain::line::{Style, explain, put_unended};
 use input::system::Source;
 use input::{BUFFER, LINE, Reader, least, next_line};
-use phrases::out::Page;
+use phrases::page::Page;
 use saved::record::record_length;
-
-// The first n bytes of a page.
-pub fn put_front(out: &[u8], n: usize) {
-    let end = least(n, out.len());
-    put(&out[0..end]);
-}
 
 // The line that a reader has given, or what comes after the last LF.
 fn take_given(
@@ -22,7 +16,7 @@ fn take_given(
     r: Reader,
     block: &[u8],
     store: &mut [u8],
-    out: &mut Page,
+    page: &mut Page,
     style: Style,
 ) -> Run
     requires start_le_end { r.start ≤ r.end }
@@ -32,33 +26,25 @@ fn take_given(
     let long = least(r.end - start, LINE);
     let text = &block[start..start + long];
     if !r.going {
-        let n = put_unended(out, 0, style.rows, text, more(run.lines));
-        put_front(out, n);
+        put_unended(page, style.rows, text, run.lines.saturating_add(1));
+        put(page.bytes());
         return run;
     }
-    let card = run.card;
-    let room = least(record_length(card.size), store.len());
-    let done = explain(run, text, &mut store[0..room], out, style);
-    put_front(out, done.len);
-    done.run
-}
-
-pub fn style(rows: bool, asleep: bool) -> Style {
-    Style {
-        rows: rows,
-        asleep: asleep,
-    }
+    let room = least(record_length(run.card.size), store.len());
+    let next = explain(run, text, &mut store[0..room], page, style);
+    put(page.bytes());
+    next
 }
 
 pub fn run(file: &mut Source, size: u8, style: Style) {
     let mut block = [0u8; BUFFER];
     let mut line = [0u8; LINE];
     let mut store = [0u8; STORE];
-    let mut out = io::large_buffer();
+    let mut page = Page::new();
     let mut run = explain::facts::start(size);
     let mut r = input::start();
     while r.left > 0 && r.going {
         r = next_line(r, file, &mut block, &mut line);
-        run = take_given(run, r, &block, &mut store, &mut out, style);
+        run = take_given(run, r, &block, &mut store, &mut page, style);
     }
 }

@@ -24,8 +24,7 @@ mod tallies; // sessions that ask for the tallies
 ghost use Rattle.std.specs.Prelude.{◌≤◌, length};
 
 use card::limits::{LARGE, SMALL};
-use check::same;
-use explained::style;
+use explain::line::Style;
 use input::system::{STDOUT, Source, open_read};
 use input::{BUFFER, LINE, Reader, next_line, start};
 
@@ -37,12 +36,32 @@ enum Form {
     Survey,
     Rests,
     Tallies,
-    Explain,
-    Asleep,
-    Rows,
-    RowsAsleep,
+    Text(Style),
     Check,
-    Unknown,
+}
+
+// Why a row cannot be run.
+#[derive(Clone, Copy)]
+enum NotRun {
+    Row,
+    Size,
+    Form,
+    File,
+    Plrun,
+    Loop,
+}
+
+impl NotRun {
+    fn text(self) -> &'static [u8] {
+        match self {
+            NotRun::Row => b"? a row is SIZE FILE FORM\n",
+            NotRun::Size => b"? the size is not known\n",
+            NotRun::Form => b"? the form is not known\n",
+            NotRun::File => b"? the file cannot be read\n",
+            NotRun::Plrun => b"? plrun's card has sixteen cells\n",
+            NotRun::Loop => b"? plrun's loop cannot be run\n",
+        }
+    }
 }
 
 fn put(text: &[u8]) {
@@ -55,130 +74,88 @@ fn put_number(n: u64) {
 
 // ---- a row
 
-// The place of the first blank of a row from a place on, or the row's length.
-fn blank_from(row: &[u8], from: usize) -> usize
-    requires { from ≤ length row.now }
-    ensures lower_bound { from ≤ result }
-    ensures upper_bound { result ≤ length row.now }
-{
-    let mut i = from;
-    while i < row.len() {
-        if row[i] == b' ' {
-            return i;
-        }
-        i += 1;
+// The first word of a row, and what comes after the blank behind it.
+fn first_word(row: &[u8]) -> Result<(&[u8], &[u8]), NotRun> {
+    match row.iter().position(|b| *b == b' ') {
+        Some(n) => Ok((&row[..n], &row[n + 1..])),
+        None => Err(NotRun::Row),
     }
-    i
 }
 
-// The number of cells that a word says, and 0 for another word.
-fn size_of(word: &[u8]) -> u8 {
-    if same(word, b"small") {
-        return SMALL;
+// The number of cells that a word says.
+fn size_of(word: &[u8]) -> Result<u8, NotRun> {
+    match word {
+        b"small" => Ok(SMALL),
+        b"large" => Ok(LARGE),
+        _ => Err(NotRun::Size),
     }
-    if same(word, b"large") { LARGE } else { 0 }
 }
 
-fn form_of(word: &[u8]) -> Form {
-    if same(word, b"plrun") {
-        return Form::Plrun;
-    }
-    if same(word, b"session") {
-        return Form::Session;
-    }
-    if same(word, b"wiring") {
-        return Form::Wiring;
-    }
-    if same(word, b"survey") {
-        return Form::Survey;
-    }
-    if same(word, b"rests") {
-        return Form::Rests;
-    }
-    if same(word, b"tallies") {
-        return Form::Tallies;
-    }
-    text_form_of(word)
+// What plexplain writes.
+fn text_form(rows: bool, asleep: bool) -> Form {
+    Form::Text(Style { rows, asleep })
 }
 
-// The forms of a program for people.
-fn text_form_of(word: &[u8]) -> Form {
-    if same(word, b"explain") {
-        return Form::Explain;
-    }
-    if same(word, b"asleep") {
-        return Form::Asleep;
-    }
-    if same(word, b"rows") {
-        return Form::Rows;
-    }
-    if same(word, b"rows-asleep") {
-        return Form::RowsAsleep;
-    }
-    if same(word, b"check") {
-        return Form::Check;
-    }
-    Form::Unknown
+fn form_of(word: &[u8]) -> Result<Form, NotRun> {
+    Ok(match word {
+        b"plrun" => Form::Plrun,
+        b"session" => Form::Session,
+        b"wiring" => Form::Wiring,
+        b"survey" => Form::Survey,
+        b"rests" => Form::Rests,
+        b"tallies" => Form::Tallies,
+        b"explain" => text_form(false, false),
+        b"asleep" => text_form(false, true),
+        b"rows" => text_form(true, false),
+        b"rows-asleep" => text_form(true, true),
+        b"check" => Form::Check,
+        _ => return Err(NotRun::Form),
+    })
 }
 
 // The lines of an open file, and then what is printed of the card that they leave.
 fn run_lines(file: &mut Source, size: u8, form: Form) {
     let card = lines_of::run(file, size, form);
     match form {
-        Form::Session => ending::put_wiring(card),
-        Form::Wiring => ending::put_wiring(card),
+        Form::Session | Form::Wiring => ending::put_wiring(card),
         Form::Survey => ending::put_surveys(card),
         _ => {}
     }
 }
 
-// A run on an open file.
-fn run(rt: &HostRuntime, file: &mut Source, path: &[u8], size: u8, form: Form) {
+// A run on an open file, which has this name.
+fn run(
+    rt: &HostRuntime,
+    file: &mut Source,
+    path: &[u8],
+    size: u8,
+    form: Form,
+) -> Result<(), NotRun> {
     match form {
-        Form::Plrun => both::run(rt, file, path, size),
-        Form::Explain => explained::run(file, size, style(false, false)),
-        Form::Asleep => explained::run(file, size, style(false, true)),
-        Form::Rows => explained::run(file, size, style(true, false)),
-        Form::RowsAsleep => explained::run(file, size, style(true, true)),
+        Form::Plrun => both::run(rt, file, path, size)?,
+        Form::Text(style) => explained::run(file, size, style),
         Form::Check => checked::run(file, size),
         _ => run_lines(file, size, form),
     }
+    Ok(())
 }
 
-fn run_row(rt: &HostRuntime, size: u8, path: &[u8], form: Form) {
-    if size == 0 {
-        put(b"? the size is not known\n");
-        return;
-    }
-    if let Form::Unknown = form {
-        put(b"? the form is not known\n");
-        return;
-    }
-    let Some(file) = open_read(rt, path) else {
-        put(b"? the file cannot be read\n");
-        return;
-    };
-    let mut source = Source::Named(file);
-    run(rt, &mut source, path, size, form);
+fn run_row(rt: &HostRuntime, row: &[u8]) -> Result<(), NotRun> {
+    let (size, rest) = first_word(row)?;
+    let (path, form) = first_word(rest)?;
+    let size = size_of(size)?;
+    let form = form_of(form)?;
+    let file = open_read(rt, path).ok_or(NotRun::File)?;
+    run(rt, &mut Source::Named(file), path, size, form)
 }
 
+// A row, and where it cannot be run the reason.
 fn take_row(rt: &HostRuntime, row: &[u8]) {
     put(row);
     put(b"\n");
-    let n = row.len();
-    let first = blank_from(row, 0);
-    if first == n {
-        put(b"? a row is SIZE FILE FORM\n");
-        return;
+    if let Err(why) = run_row(rt, row) {
+        put(why.text());
     }
-    let second = blank_from(row, first + 1);
-    if second == n {
-        put(b"? a row is SIZE FILE FORM\n");
-        return;
-    }
-    let size = size_of(&row[0..first]);
-    let form = form_of(&row[second + 1..n]);
-    run_row(rt, size, &row[first + 1..second], form);
 }
 
 // ---- the rows

@@ -6,78 +6,45 @@ use card::card::Card;
 use card::tallies::{Tallies, no_tallies};
 use cells::cell::Ticks;
 
-// The most cells that a card has.
-const CELLS: usize = 32;
-
-fn wide(b: u8) -> usize {
-    b as usize
-}
-
-fn put_ticks(v: Ticks) {
-    put_number(v.0 as u64);
-}
-
-fn put_tallies(t: Tallies, cells: usize) {
-    put_ticks(t.total);
-    for i in 0..CELLS {
-        if i < cells {
-            let v = t.cells[i];
-            put(b" ");
-            put_ticks(v);
-        }
+fn put_tallies(t: Tallies, cells: u8) {
+    put_number(t.total.0 as u64);
+    for tally in t.cells.iter().take(cells as usize) {
+        put(b" ");
+        put_number(tally.0 as u64);
     }
     put(b"\n");
 }
 
 // A number with one more digit, of which 32 bits are kept.
 fn with_digit(n: u32, b: u8) -> u32 {
-    let digit = (b % 16) as u64;
-    let more = (n as u64) * 10 + digit;
-    (more % 4294967296) as u32
+    n.wrapping_mul(10).wrapping_add((b % 16) as u32)
 }
 
-// The tallies with one more number: the first is the total.
-fn with_number(t: Tallies, k: usize, n: u32) -> Tallies {
-    let mut next = t;
-    let v = Ticks(n);
-    if k == 0 {
-        next.total = v;
-        return next;
+fn number(digits: &[u8]) -> u32 {
+    let mut n = 0;
+    for b in digits {
+        n = with_digit(n, *b);
     }
-    if k <= CELLS {
-        next.cells[k - 1] = v;
-    }
-    next
+    n
 }
 
-// The numbers after the first two bytes of a line, one blank between them.
+// The numbers after the first two bytes of a line, one blank between them: the total, and then the
+// tally of each cell.
 fn given(line: &[u8]) -> Tallies {
     let mut t = no_tallies();
-    let mut k: usize = 0;
-    let mut n: u32 = 0;
-    let mut i: usize = 2;
-    while i < line.len() {
-        let b = line[i];
-        if b == b' ' {
-            t = with_number(t, k, n);
-            if k <= CELLS {
-                k = k + 1;
-            }
-            n = 0;
-        } else {
-            n = with_digit(n, b);
-        }
-        i = i + 1;
+    let mut numbers = line[line.len().min(2)..].split(|b| *b == b' ');
+    if let Some(total) = numbers.next() {
+        t.total = Ticks(number(total));
     }
-    with_number(t, k, n)
+    for (tally, digits) in t.cells.iter_mut().zip(numbers) {
+        *tally = Ticks(number(digits));
+    }
+    t
 }
 
 // Whether a line is one of the card's.
 fn is_plain(line: &[u8]) -> bool {
-    if line.len() == 0 {
-        return true;
-    }
-    line[0] != b'#'
+    line.first() != Some(&b'#')
 }
 
 pub fn take_line(card: Card, line: &[u8], store: &mut [u8]) -> Card {
@@ -85,7 +52,7 @@ pub fn take_line(card: Card, line: &[u8], store: &mut [u8]) -> Card {
         return answered(card, line, store);
     }
     if line.len() == 1 {
-        put_tallies(card.tallies, wide(card.size));
+        put_tallies(card.tallies, card.size);
         return card;
     }
     let t = given(line);

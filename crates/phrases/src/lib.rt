@@ -1,7 +1,7 @@
-// Sentences about a card for people, written piece by piece to a buffer that the caller gives:
-// names of types, slots, places and addresses; cells and connectors with their settings; why a line
-// was refused; what a tick did and why; and hints. plexplain and plcheck are made of them. Stored
-// output checks what they say.
+// Sentences about a card for people, written piece by piece to a page: names of types, slots,
+// places and addresses; cells and connectors with their settings; why a line was refused; what a
+// tick did and why; and hints. plexplain and plcheck are made of them. Stored output checks what
+// they say.
 #![tactic(auto)]
 
 mod causes; // why a cell was worked out
@@ -9,10 +9,8 @@ pub mod form; // what is wrong with a malformed line
 pub mod hints; // hints on legal wirings
 pub mod json; // pieces of JSON
 pub mod names; // the names of types and connectors
-pub mod out; // text, piece by piece
+pub mod page; // what is written of a line
 pub mod refused; // why a line was refused
-pub mod say; // texts with parts
-pub mod table; // entries of a table in a text
 pub mod terms; // the names of slots, places and addresses
 pub mod ticked; // what a tick did
 mod turns; // what a cell did in a tick

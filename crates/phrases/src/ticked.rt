@@ -2,16 +2,14 @@
 // changed; in sentences, or as the members of a row.
 ghost use Rattle.std.specs.Prelude.{◌<◌, ◌≤◌};
 
-use crate::out::{Page, either, put, put_if};
-use crate::say::{Part, say, say2, say4};
-use crate::terms::connector_kind;
-use crate::turns::{Turn, put_cell};
+use crate::page::Page;
+use crate::terms::{Level, Line, Source};
+use crate::turns::Turn;
 use crate::wiring::{put_high, put_set};
 use card::card::{Card, Connector};
-use card::connectors::each_of;
-use card::limits::{CELLS, CONNECTORS, CellWord, OPEN_DRAIN};
+use card::connectors::connector_at;
+use card::limits::{CELLS, CONNECTORS, OPEN_DRAIN};
 use card::place::cells_for;
-use cells::cell::Cell;
 use reasons::cell::{Reasons, any_reason};
 use ticks::tick::Answer;
 use ticks::view::Input;
@@ -26,323 +24,213 @@ pub struct Tick {
     pub after: Card,
 }
 
+// ---- cells
+
 // The set with cell i, where it belongs there.
 fn with_cell(set: u64, i: u32, belongs: bool) -> u64
     requires { i < 32 }
 {
     if belongs {
-        return words::with_set(set, i);
+        words::with_set(set, i)
+    } else {
+        set
     }
-    set
+}
+
+// A connector that shows another level, or may: which it is, its settings, and its level in the
+// last tick and in this one. `drove` and `drives` say whether it was driven in that and is in this.
+#[derive(Clone, Copy)]
+struct Moved {
+    line: Line,
+    connector: Connector,
+    was: bool,
+    is: bool,
+    drove: bool,
+    drives: bool,
+    attached: bool,
+}
+
+impl Tick {
+    // Why each cell of the card before it wakes in it.
+    fn found(&self) -> [Reasons; CELLS] {
+        reasons::reasons(self.before, self.input, self.full)
+    }
+
+    // How many cells the card has.
+    fn count(&self) -> u32
+        ensures { result ≤ 32 }
+    {
+        cells_for(self.before.size) as u32
+    }
+
+    // Cell i in the tick.
+    fn turn(&self, i: u32, found: Reasons) -> Turn
+        requires { i < 32 }
+    {
+        Turn {
+            i: i as u8,
+            old: self.before.cells[i as usize],
+            new: self.after.cells[i as usize],
+            was: words::bit(self.before.memory.outputs as u64, i),
+            is: words::bit(self.answer.cells as u64, i),
+            found,
+        }
+    }
+
+    // Connector k in the tick.
+    fn moved(&self, k: u32) -> Moved
+        requires { k < 16 }
+    {
+        let last = self.before.memory;
+        Moved {
+            line: Line(k as u8),
+            connector: connector_at(self.before.connectors, k),
+            was: words::bit(last.levels as u64, k),
+            is: words::bit(self.after.memory.levels as u64, k),
+            drove: words::bit(last.driven as u64, k),
+            drives: words::bit(self.answer.driven as u64, k),
+            attached: words::bit(self.input.attached as u64, k),
+        }
+    }
+}
+
+// All cells of a tick that are shown.
+fn put_cells(page: &mut Page, rows: bool, asleep: bool, t: &Tick, found: &[Reasons; CELLS]) {
+    let first = page.len();
+    for i in 0..t.count() {
+        t.turn(i, found[i as usize]).put(page, first, rows, asleep);
+    }
 }
 
 // The cells that the rules name.
-fn named_by(found: [Reasons; CELLS], count: u32) -> u64
+fn named_by(found: &[Reasons; CELLS], count: u32) -> u64
     requires { count ≤ 32 }
 {
     let mut set: u64 = 0;
     for i in 0..count {
-        let k = i as usize;
-        set = with_cell(set, i, any_reason(found[k]));
+        set = with_cell(set, i, any_reason(found[i as usize]));
     }
     set
 }
 
-// Whether cell i is a constant that keeps its output.
-fn is_still(cell: Cell, i: u32, before: CellWord, now: CellWord) -> bool
-    requires { i < 32 }
-{
-    let was = words::bit(before as u64, i);
-    let is = words::bit(now as u64, i);
-    (cell.kind == 0) & (was == is)
-}
-
-// Such constants in a set. They are many after a load, and nothing is to be said of them but that
-// they were edited.
-fn still_of(set: u64, cells: [Cell; CELLS], before: CellWord, now: CellWord, count: u32) -> u64
+// The constants among them that keep their output. They are many after a load, and nothing is to be
+// said of them but that they were edited.
+fn still_of(t: &Tick, found: &[Reasons; CELLS], count: u32) -> u64
     requires { count ≤ 32 }
 {
     let mut still: u64 = 0;
     for i in 0..count {
-        let k = i as usize;
-        let quiet = is_still(cells[k], i, before, now);
-        still = with_cell(still, i, quiet & words::bit(set, i));
+        let turn = t.turn(i, found[i as usize]);
+        let quiet = (turn.old.kind == 0) & (turn.was == turn.is);
+        still = with_cell(still, i, quiet & any_reason(turn.found));
     }
     still
 }
 
-// Cell i of a tick.
-fn put_turned(
-    out: &mut Page,
-    at: usize,
-    first: usize,
-    rows: bool,
-    asleep: bool,
-    i: u32,
-    t: Tick,
-    found: Reasons,
-) -> usize
-    requires { i < 32 }
-{
-    let before = t.before;
-    let after = t.after;
-    let answer = t.answer;
-    let m = before.memory;
-    let old = before.cells;
-    let new = after.cells;
-    let k = i as usize;
-    let was = old[k];
-    let is = new[k];
-    let turn = Turn {
-        old: was,
-        new: is,
-        was: words::bit(m.outputs as u64, i),
-        is: words::bit(answer.cells as u64, i),
-        found: found,
-    };
-    put_cell(out, at, first, rows, asleep, i as u8, turn)
-}
-
-// All cells of a tick that are shown.
-fn put_cells(
-    out: &mut Page,
-    at: usize,
-    rows: bool,
-    asleep: bool,
-    t: Tick,
-    found: [Reasons; CELLS],
-    count: u32,
-) -> usize
-    requires { count ≤ 32 }
-{
-    let mut n = at;
-    for i in 0..count {
-        let k = i as usize;
-        n = put_turned(out, n, at, rows, asleep, i, t, found[k]);
+// The cells of a tick that ran. In a quick tick those that the rules name are worked out, and a full
+// tick works out all. On a card that calls reach it leaves the others what they had, as a quick one
+// does.
+fn put_worked(page: &mut Page, asleep: bool, t: &Tick) {
+    let found = t.found();
+    let named = named_by(&found, t.count());
+    let still = still_of(t, &found, t.count());
+    if t.full {
+        page.say("    The rules name:");
+        put_set(page, named);
+    } else if named == 0 {
+        page.say("    No cell wakes.\n");
     }
-    n
-}
-
-// Constants that were edited, and nothing more.
-fn put_still(out: &mut Page, at: usize, still: u64) -> usize {
-    if still == 0 {
-        return at;
+    put_cells(page, false, asleep, t, &found);
+    if still != 0 {
+        page.say("    Constants that were edited, and stay as they were:");
+        put_set(page, still);
     }
-    let a = put(
-        out,
-        at,
-        b"    Constants that were edited, and stay as they were:",
-    );
-    put_set(out, a, still)
-}
-
-// Which cells the rules name: in a quick tick they are those that are worked out, and a full tick
-// works out all.
-fn put_named(out: &mut Page, at: usize, full: bool, named: u64) -> usize {
-    if full {
-        let a = put(out, at, b"    The rules name:");
-        return put_set(out, a, named);
+    if t.full & (named.count_ones() < t.count()) {
+        page.say(
+            "    The tick is full: cells that the rules do not name are worked out too, and keep what they had.\n",
+        );
     }
-    put_if(named == 0, out, at, b"    No cell wakes.\n")
 }
 
-// The cells that the rules do not name. On a card that calls reach a full tick leaves them what
-// they had, as a quick one does.
-fn put_others(out: &mut Page, at: usize, full: bool, named: u64, count: u32) -> usize {
-    let others = u64::count_ones(named) < count;
-    put_if(
-        full & others,
-        out,
-        at,
-        b"    The tick is full: cells that the rules do not name are worked out too, and keep what they had.\n",
-    )
-}
+// ---- connectors
 
-// The level of an input, or what an output is driven from. Outputs follow the last tick.
-fn put_cause(out: &mut Page, at: usize, c: Connector, attached: bool) -> usize {
-    let a = connector_kind(out, at, c.kind, c.source);
-    if c.kind == 0 {
-        return either(attached, out, a, b".\n", b" with nothing attached.\n");
+impl Moved {
+    // Whether the sample is what moved an open-drain line: it is low though the card drives it high,
+    // or high again where the card drove it high before.
+    fn is_by_sample(self) -> bool {
+        let open_drain = self.connector.kind == OPEN_DRAIN;
+        open_drain & ((self.is & self.drove) | (!self.is & self.drives))
     }
-    put(out, a, b" in the last tick.\n")
-}
 
-// The sample is what moved an open-drain line: it is low though the card drives it high, or high
-// again where the card drove it high before.
-fn by_sample(kind: u8, high: bool, drove: bool, drives: bool) -> bool {
-    (kind == OPEN_DRAIN) & ((high & drove) | (!high & drives))
-}
-
-// An open-drain line that follows its sample.
-fn put_sampled(out: &mut Page, at: usize, c: Connector, attached: bool, high: bool) -> usize {
-    let a = put_if(!attached, out, at, b"nothing is attached, and ");
-    let level = Part::Level(high);
-    let source = Part::Source(c.kind, c.source);
-    say2(out, a, b"the sample is % (%).\n", level, source)
-}
-
-// Connector k, where it shows another level. `drove` and `drives` are the driven words of the last
-// tick and of this one.
-fn put_connector(
-    out: &mut Page,
-    at: usize,
-    k: u32,
-    c: Connector,
-    attached: u16,
-    drove: u16,
-    drives: u16,
-    before: u16,
-    now: u16,
-) -> usize
-    requires { k < 16 }
-{
-    let was = words::bit(before as u64, k);
-    let is = words::bit(now as u64, k);
-    if was == is {
-        return at;
+    // A connector that shows another level: what moved it. Outputs follow the last tick.
+    fn put(self, page: &mut Page) {
+        let source = Source {
+            kind: self.connector.kind,
+            source: self.connector.source,
+        };
+        let is = Level(self.is);
+        page.say(format_args!("    {} goes {is}: ", self.line));
+        if self.is_by_sample() {
+            if !self.attached {
+                page.say("nothing is attached, and ");
+            }
+            return page.say(format_args!("the sample is {is} ({source}).\n"));
+        }
+        page.say(source);
+        page.say(if self.connector.kind != 0 {
+            " in the last tick.\n"
+        } else if self.attached {
+            ".\n"
+        } else {
+            " with nothing attached.\n"
+        });
     }
-    let line = Part::Line(k as u8);
-    let a = say2(out, at, b"    % goes %: ", line, Part::Level(is));
-    let held = words::bit(attached as u64, k);
-    if by_sample(
-        c.kind,
-        is,
-        words::bit(drove as u64, k),
-        words::bit(drives as u64, k),
-    ) {
-        return put_sampled(out, a, c, held, is);
-    }
-    put_cause(out, a, c, held)
 }
 
 // All connectors that show another level.
-fn put_connectors(
-    out: &mut Page,
-    at: usize,
-    connectors: [Connector; CONNECTORS],
-    attached: u16,
-    drove: u16,
-    drives: u16,
-    before: u16,
-    now: u16,
-) -> usize {
-    let mut n = at;
+fn put_connectors(page: &mut Page, t: &Tick) {
     for k in 0..CONNECTORS as u32 {
-        let i = k as usize;
-        n = put_connector(
-            out,
-            n,
-            k,
-            connectors[i],
-            attached,
-            drove,
-            drives,
-            before,
-            now,
-        );
+        let moved = t.moved(k);
+        if moved.was != moved.is {
+            moved.put(page);
+        }
     }
-    n
 }
 
-fn put_idle(out: &mut Page, at: usize, code: u8, trigger: u8) -> usize {
-    say2(
-        out,
-        at,
-        b"    The card ticks on clock %, and this is clock %: nothing happens.\n",
-        Part::Number(trigger as u32),
-        Part::Number(code as u32),
-    )
-}
+// ---- the tick
 
-// What the words of the answer say: the connectors that are driven high, and the cells that are
-// high.
-fn put_words(out: &mut Page, at: usize, answer: Answer) -> usize {
-    let a = put(out, at, b"    Driven high:");
-    let b = put_high(out, a, answer.driven, 0, 16);
-    let c = put(out, b, b"    High cells:");
-    put_set(out, c, answer.cells as u64)
-}
-
-// The cells of a tick that ran.
-fn put_worked(out: &mut Page, at: usize, asleep: bool, t: Tick) -> usize {
-    let before = t.before;
-    let answer = t.answer;
-    let m = before.memory;
-    let old = before.cells;
-    let found = reasons::reasons(before, t.input, t.full);
-    let count = cells_for(before.size) as u32;
-    let named = named_by(found, count);
-    let still = still_of(named, old, m.outputs, answer.cells, count);
-    let a = put_named(out, at, t.full, named);
-    let b = put_cells(out, a, false, asleep, t, found, count);
-    let c = put_still(out, b, still);
-    put_others(out, c, t.full, named, count)
-}
-
-// What a tick did.
-pub fn put_tick(out: &mut Page, at: usize, asleep: bool, t: Tick) -> usize {
-    let input = t.input;
-    let answer = t.answer;
-    let before = t.before;
-    let after = t.after;
-    if !answer.ran {
-        return put_idle(out, at, input.code, before.trigger);
+// What a tick did. First what the words of the answer say: the connectors that are driven high, and
+// the cells that are high.
+pub fn put_tick(page: &mut Page, asleep: bool, t: &Tick) {
+    if !t.answer.ran {
+        return page.say(format_args!(
+            "    The card ticks on clock {}, and this is clock {}: nothing happens.\n",
+            t.before.trigger, t.input.code
+        ));
     }
-    let m = before.memory;
-    let w = after.memory;
-    let row = before.connectors;
-    let connectors = each_of(row);
-    let a = put_words(out, at, answer);
-    let b = put_worked(out, a, asleep, t);
-    put_connectors(
-        out,
-        b,
-        connectors,
-        input.attached,
-        m.driven,
-        answer.driven,
-        m.levels,
-        w.levels,
-    )
+    page.say("    Driven high:");
+    put_high(page, t.answer.driven, 0, 16);
+    page.say("    High cells:");
+    put_set(page, t.answer.cells as u64);
+    put_worked(page, asleep, t);
+    put_connectors(page, t);
 }
 
-// What a tick that ran gave, as members of a row.
-fn put_answer_row(out: &mut Page, at: usize, asleep: bool, t: Tick) -> usize {
-    let answer = t.answer;
-    let before = t.before;
-    let after = t.after;
-    let w = after.memory;
-    let found = reasons::reasons(before, t.input, t.full);
-    let a = say4(
-        out,
-        at,
-        b",\"driven\":%,\"cells\":%,\"woken\":%,\"levels\":%,\"named\":[",
-        Part::Number(answer.driven as u32),
-        Part::Number(answer.cells),
-        Part::Number(answer.woken),
-        Part::Number(w.levels as u32),
-    );
-    let count = cells_for(before.size) as u32;
-    let b = put_cells(out, a, true, asleep, t, found, count);
-    put(out, b, b"]")
-}
-
-// A tick as members of a row.
-pub fn put_tick_row(out: &mut Page, at: usize, asleep: bool, t: Tick) -> usize {
+// A tick as members of a row; those of its answer where it ran.
+pub fn put_tick_row(page: &mut Page, asleep: bool, t: &Tick) {
     let input = t.input;
+    page.say(format_args!(
+        ",\"full\":{},\"clock\":{},\"sample\":{},\"attached\":{}",
+        t.full, input.code, input.sample, input.attached
+    ));
     let answer = t.answer;
-    let a = say4(
-        out,
-        at,
-        b",\"full\":%,\"clock\":%,\"sample\":%,\"attached\":%",
-        Part::Flag(t.full),
-        Part::Number(input.code as u32),
-        Part::Number(input.sample as u32),
-        Part::Number(input.attached as u32),
-    );
-    let b = say(out, a, b",\"ran\":%", Part::Flag(answer.ran));
+    page.say(format_args!(",\"ran\":{}", answer.ran));
     if answer.ran {
-        return put_answer_row(out, b, asleep, t);
+        page.say(format_args!(
+            ",\"driven\":{},\"cells\":{},\"woken\":{},\"levels\":{},\"named\":[",
+            answer.driven, answer.cells, answer.woken, t.after.memory.levels
+        ));
+        put_cells(page, true, asleep, t, &t.found());
+        page.say("]");
     }
-    b
 }

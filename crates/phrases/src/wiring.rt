@@ -1,332 +1,241 @@
 // Cells and connectors with their settings, and which of them differ between two cards; in
 // sentences, or as lists of a row.
-ghost use Rattle.std.specs.Prelude.{◌<◌, ◌≤◌};
+ghost use Rattle.std.specs.Prelude.{◌≤◌};
 
-use crate::json::comma;
-use crate::out::{Page, either, number, put, put_if, wide};
-use crate::say::{Part, say, say2, say3, say4};
+use crate::names::type_name;
+use crate::page::Page;
+use crate::terms::{Address, CellName, Line, Setting, SlotName, Source};
 use card::card::{Card, Connector};
 use card::connectors::each_of;
 use card::limits::{CELLS, CONNECTORS, EditedSet};
 use card::place::cells_for;
-use cells::cell::Cell;
+use cells::cell::{Cell, state_of};
 use cells::table::row_of;
+use grammar::grammar::Slot;
+
+// ---- cells and connectors
 
 // A slot of a cell, where it is used: "Y (clock) 192, always high". A semicolon comes before all
 // but the first.
-fn put_slot(
-    out: &mut Page,
-    at: usize,
-    first: usize,
-    used: bool,
-    kind: u8,
-    slot: u8,
-    a: u8,
-) -> usize {
-    if !used {
-        return at;
+fn put_slot(page: &mut Page, first: usize, used: bool, kind: u8, slot: Slot, address: u8) {
+    if used {
+        page.separate(first, b"; ");
+        page.say(format_args!("{} {}", SlotName { kind, slot }, Address(address)));
     }
-    let b = put_if(at != first, out, at, b"; ");
-    say2(out, b, b"% %", Part::Slot(kind, slot), Part::Address(a))
 }
 
 // The slots that a cell uses, in a line of their own.
-fn put_slots(out: &mut Page, at: usize, cell: Cell) -> usize {
-    let row = row_of(cell.kind);
-    let used = row.used;
-    let s = cell.slots;
+fn put_slots(page: &mut Page, cell: Cell) {
+    let used = row_of(cell.kind).used;
+    let [x, y, z, f] = cell.slots;
     if !((used.x | used.y) | (used.z | used.f)) {
-        return at;
+        return;
     }
-    let first = put(out, at, b"      ");
-    let x = put_slot(out, first, first, used.x, cell.kind, 0, s[0]);
-    let y = put_slot(out, x, first, used.y, cell.kind, 1, s[1]);
-    let z = put_slot(out, y, first, used.z, cell.kind, 2, s[2]);
-    let f = put_slot(out, z, first, used.f, cell.kind, 3, s[3]);
-    put(out, f, b".\n")
+    page.say("      ");
+    let first = page.len();
+    put_slot(page, first, used.x, cell.kind, Slot::X, x);
+    put_slot(page, first, used.y, cell.kind, Slot::Y, y);
+    put_slot(page, first, used.z, cell.kind, Slot::Z, z);
+    put_slot(page, first, used.f, cell.kind, Slot::F, f);
+    page.say(".\n");
 }
 
-// ", duration 2", where the type has a configuration.
-fn put_configured(out: &mut Page, at: usize, cell: Cell) -> usize {
-    let row = row_of(cell.kind);
-    if row.configured {
-        return say(out, at, b", %", Part::Config(cell.kind, cell.config));
+// The settings of cell i, with its configuration where the type has one.
+pub fn put_cell(page: &mut Page, i: u8, cell: Cell) {
+    let kind = cell.kind;
+    page.say(format_args!("    {}: {}", CellName(i), type_name(kind)));
+    if row_of(kind).configured {
+        let config = cell.config;
+        page.say(format_args!(", {}", Setting { kind, config }));
     }
-    at
+    page.say(".\n");
+    put_slots(page, cell);
 }
 
-// The settings of cell i.
-pub fn put_cell(out: &mut Page, at: usize, i: u8, cell: Cell) -> usize {
-    let a = say2(out, at, b"    %: %", Part::Cell(i), Part::Type(cell.kind));
-    let b = put_configured(out, a, cell);
-    let c = put(out, b, b".\n");
-    put_slots(out, c, cell)
+// What a connector is.
+fn source_of(c: Connector) -> Source {
+    Source {
+        kind: c.kind,
+        source: c.source,
+    }
 }
 
 // The settings of connector k, in a line.
-pub fn put_connector(out: &mut Page, at: usize, k: u8, c: Connector) -> usize {
-    let source = Part::Source(c.kind, c.source);
-    say2(out, at, b"    %: %.\n", Part::Line(k), source)
+pub fn put_connector(page: &mut Page, k: u8, c: Connector) {
+    page.say(format_args!("    {}: {}.\n", Line(k), source_of(c)));
 }
 
 // A cell of a row: its settings and its state.
-fn put_cell_item(out: &mut Page, at: usize, i: u8, cell: Cell) -> usize {
-    let s = cell.slots;
-    let count = cell.count;
-    let a = say3(
-        out,
-        at,
-        b"{\"cell\":%,\"type\":%,\"config\":%",
-        Part::Number(i as u32 + 1),
-        Part::Number(cell.kind as u32),
-        Part::Number(cell.config),
-    );
-    let b = say4(
-        out,
-        a,
-        b",\"slots\":[%,%,%,%]",
-        Part::Number(wide(s[0])),
-        Part::Number(wide(s[1])),
-        Part::Number(wide(s[2])),
-        Part::Number(wide(s[3])),
-    );
-    say3(
-        out,
-        b,
-        b",\"bit\":%,\"count\":%,\"pulse\":%}",
-        Part::Flag(cell.bit),
-        Part::Number(count.0),
-        Part::Flag(cell.pulse),
-    )
+fn put_cell_item(page: &mut Page, i: u8, cell: Cell) {
+    page.say(format_args!(
+        "{{\"cell\":{},\"type\":{},\"config\":{}",
+        i as u32 + 1,
+        cell.kind,
+        cell.config
+    ));
+    let [x, y, z, f] = cell.slots;
+    page.say(format_args!(",\"slots\":[{x},{y},{z},{f}]"));
+    page.say(format_args!(
+        ",\"bit\":{},\"count\":{},\"pulse\":{}}}",
+        cell.bit, cell.count.0, cell.pulse
+    ));
 }
 
 // A connector of a row.
-fn put_connector_item(out: &mut Page, at: usize, k: u8, c: Connector) -> usize {
-    say3(
-        out,
-        at,
-        b"{\"connector\":\"%\",\"type\":%,\"source\":%}",
-        Part::Line(k),
-        Part::Number(c.kind as u32),
-        Part::Number(c.source as u32),
-    )
+fn put_connector_item(page: &mut Page, k: u8, c: Connector) {
+    page.say(format_args!(
+        "{{\"connector\":\"{}\",\"type\":{},\"source\":{}}}",
+        Line(k),
+        c.kind,
+        c.source
+    ));
 }
+
+// ---- what differs between two cards
 
 // Whether two cells have the same settings, and the same state.
 fn alike(a: Cell, b: Cell) -> bool {
-    let s = a.slots;
-    let t = b.slots;
-    let slots = ((s[0] == t[0]) & (s[1] == t[1])) & ((s[2] == t[2]) & (s[3] == t[3]));
-    ((a.kind == b.kind) & (a.config == b.config)) & slots
+    (a.kind == b.kind) & (a.config == b.config) & (a.slots == b.slots)
 }
 
 fn same_state(a: Cell, b: Cell) -> bool {
-    let m = a.count;
-    let n = b.count;
-    ((a.bit == b.bit) & (a.pulse == b.pulse)) & (m.0 == n.0)
+    (a.bit == b.bit) & (a.pulse == b.pulse) & (a.count.0 == b.count.0)
 }
 
-// A cell, where it has other settings now, and in a row where it has another state.
-fn put_changed_cell(
-    out: &mut Page,
-    at: usize,
-    first: usize,
-    rows: bool,
-    i: u8,
-    before: Cell,
-    after: Cell,
-) -> usize {
-    if alike(before, after) & (same_state(before, after) | !rows) {
-        return at;
-    }
-    if rows {
-        let a = comma(out, at, first);
-        return put_cell_item(out, a, i, after);
-    }
-    put_cell(out, at, i, after)
-}
-
-// All such cells.
-fn put_cells(
-    out: &mut Page,
-    at: usize,
-    rows: bool,
-    before: [Cell; CELLS],
-    after: [Cell; CELLS],
-) -> usize {
-    let mut n = at;
+// Cells that have other settings now, and in a row those that have another state.
+fn put_cells(page: &mut Page, rows: bool, before: [Cell; CELLS], after: [Cell; CELLS]) {
+    let first = page.len();
     for i in 0..CELLS as u8 {
-        let k = i as usize;
-        n = put_changed_cell(out, n, at, rows, i, before[k], after[k]);
+        let was = before[i as usize];
+        let is = after[i as usize];
+        if rows {
+            if !(alike(was, is) & same_state(was, is)) {
+                page.separate(first, b",");
+                put_cell_item(page, i, is);
+            }
+        } else if !alike(was, is) {
+            put_cell(page, i, is);
+        }
     }
-    n
 }
 
-// A connector, where it has other settings now.
-fn put_changed_connector(
-    out: &mut Page,
-    at: usize,
-    first: usize,
-    rows: bool,
-    k: u8,
-    b: Connector,
-    a: Connector,
-) -> usize {
-    if (a.kind == b.kind) & (a.source == b.source) {
-        return at;
-    }
-    if rows {
-        let n = comma(out, at, first);
-        return put_connector_item(out, n, k, a);
-    }
-    put_connector(out, at, k, a)
-}
-
-// All such connectors.
+// Connectors that have other settings now.
 fn put_connectors(
-    out: &mut Page,
-    at: usize,
+    page: &mut Page,
     rows: bool,
     before: [Connector; CONNECTORS],
     after: [Connector; CONNECTORS],
-) -> usize {
-    let mut n = at;
-    for i in 0..CONNECTORS as u8 {
-        let k = i as usize;
-        n = put_changed_connector(out, n, at, rows, i, before[k], after[k]);
+) {
+    let first = page.len();
+    for k in 0..CONNECTORS as u8 {
+        let was = before[k as usize];
+        let is = after[k as usize];
+        if (was.kind != is.kind) | (was.source != is.source) {
+            if rows {
+                page.separate(first, b",");
+                put_connector_item(page, k, is);
+            } else {
+                put_connector(page, k, is);
+            }
+        }
     }
-    n
-}
-
-// Cells and connectors that have other settings now, and a piece between them.
-fn put_parts(
-    out: &mut Page,
-    at: usize,
-    rows: bool,
-    before: Card,
-    after: Card,
-    between: &[u8],
-) -> usize {
-    let cells = before.cells;
-    let new_cells = after.cells;
-    let row = before.connectors;
-    let new_row = after.connectors;
-    let a = put_cells(out, at, rows, cells, new_cells);
-    let b = put(out, a, between);
-    put_connectors(out, b, rows, each_of(row), each_of(new_row))
 }
 
 // Which ticks run now.
-pub fn put_trigger(out: &mut Page, at: usize, trigger: u32) -> usize {
-    let clock = Part::Number(trigger);
-    say(
-        out,
-        at,
-        b"    Ticks of clock % run now, and others are idle.\n",
-        clock,
-    )
+pub fn put_trigger(page: &mut Page, trigger: u32) {
+    page.say(format_args!("    Ticks of clock {trigger} run now, and others are idle.\n"));
 }
 
 // The settings in which two cards differ, a line for each.
-pub fn put_changes(out: &mut Page, at: usize, before: Card, after: Card) -> usize {
-    let mut a = at;
+pub fn put_changes(page: &mut Page, before: &Card, after: &Card) {
+    let first = page.len();
     if before.trigger != after.trigger {
-        a = put_trigger(out, at, after.trigger as u32);
+        put_trigger(page, after.trigger as u32);
     }
-    let b = put_parts(out, a, false, before, after, b"");
-    put_if(
-        b == at,
-        out,
-        b,
-        b"    No setting is another one than before.\n",
-    )
+    put_cells(page, false, before.cells, after.cells);
+    put_connectors(
+        page,
+        false,
+        each_of(before.connectors),
+        each_of(after.connectors),
+    );
+    if page.len() == first {
+        page.say("    No setting is another one than before.\n");
+    }
 }
 
 // What differs between two cards, as members of a row. Pointer and trigger are always there.
-pub fn put_change_row(out: &mut Page, at: usize, before: Card, after: Card) -> usize {
-    let a = say2(
-        out,
-        at,
-        b",\"pointer\":%,\"trigger\":%,\"changed\":{\"cells\":[",
-        Part::Number(after.pointer as u32),
-        Part::Number(after.trigger as u32),
+pub fn put_change_row(page: &mut Page, before: &Card, after: &Card) {
+    page.say(format_args!(
+        ",\"pointer\":{},\"trigger\":{},\"changed\":{{\"cells\":[",
+        after.pointer, after.trigger
+    ));
+    put_cells(page, true, before.cells, after.cells);
+    page.say("],\"connectors\":[");
+    put_connectors(
+        page,
+        true,
+        each_of(before.connectors),
+        each_of(after.connectors),
     );
-    let b = put_parts(out, a, true, before, after, b"],\"connectors\":[");
-    put(out, b, b"]}")
+    page.say("]}");
 }
 
-// A cell of a set: " cell 1", or in a row its number.
-fn put_member(out: &mut Page, at: usize, first: usize, rows: bool, set: u64, i: u32) -> usize
-    requires { i < 32 }
-{
-    if !words::bit(set, i) {
-        return at;
-    }
-    if rows {
-        let a = comma(out, at, first);
-        return number(out, a, i + 1);
-    }
-    say(out, at, b" cell %", Part::Number(i + 1))
-}
+// ---- sets
 
-// The cells of a set: " cell 1 cell 10", or "1,10".
-pub fn put_members(out: &mut Page, at: usize, rows: bool, set: u64) -> usize {
-    let mut n = at;
+// The cells of a set: " cell 1 cell 10", or in a row their numbers, "1,10".
+pub fn put_members(page: &mut Page, rows: bool, set: u64) {
+    let first = page.len();
     for i in 0..CELLS as u32 {
-        n = put_member(out, n, at, rows, set, i);
+        if words::bit(set, i) {
+            if rows {
+                page.separate(first, b",");
+                page.say(i + 1);
+            } else {
+                page.say(format_args!(" cell {}", i + 1));
+            }
+        }
     }
-    n
+}
+
+// What ends a list that began at a place: " none." where it is empty.
+fn end_list(page: &mut Page, first: usize) {
+    page.say(if page.len() == first {
+        " none.\n"
+    } else {
+        ".\n"
+    });
 }
 
 // The cells of a set: " cell 1 cell 10.", or " none.".
-pub fn put_set(out: &mut Page, at: usize, set: u64) -> usize {
-    let a = put_members(out, at, false, set);
-    either(a == at, out, a, b" none.\n", b".\n")
+pub fn put_set(page: &mut Page, set: u64) {
+    let first = page.len();
+    put_members(page, false, set);
+    end_list(page, first);
 }
 
-// A connector that is high: " BNC1".
-fn put_if_high(out: &mut Page, at: usize, levels: u16, k: u32) -> usize
-    requires { k < 16 }
-{
-    if !words::bit(levels as u64, k) {
-        return at;
-    }
-    say(out, at, b" %", Part::Line(k as u8))
-}
-
-// The connectors of a range that are high: " BNC1 BNC3".
-fn put_all_high(out: &mut Page, at: usize, levels: u16, from: u32, to: u32) -> usize
+// The connectors of a range that are high: " BNC1 BNC3.", or " none.".
+pub fn put_high(page: &mut Page, levels: u16, from: u32, to: u32)
     requires from_le_to { from ≤ to }
     requires to_bound { to ≤ 16 }
 {
-    let mut n = at;
+    let first = page.len();
     for k in from..to {
-        n = put_if_high(out, n, levels, k);
+        if words::bit(levels as u64, k) {
+            page.say(format_args!(" {}", Line(k as u8)));
+        }
     }
-    n
-}
-
-// " BNC1 BNC3.", or " none.".
-pub fn put_high(out: &mut Page, at: usize, levels: u16, from: u32, to: u32) -> usize
-    requires from_le_to { from ≤ to }
-    requires to_bound { to ≤ 16 }
-{
-    let a = put_all_high(out, at, levels, from, to);
-    either(a == at, out, a, b" none.\n", b".\n")
+    end_list(page, first);
 }
 
 // Which cells of a card of this size a call has edited.
-pub fn put_edited(out: &mut Page, at: usize, set: EditedSet, size: u8) -> usize {
+pub fn put_edited(page: &mut Page, set: EditedSet, size: u8) {
     if set == 0 {
-        return at;
+        return;
     }
-    if u64::count_ones(set) == cells_for(size) as u32 {
-        return put(
-            out,
-            at,
-            b"    All cells are edited: they wake in the next tick.\n",
-        );
+    if set.count_ones() == cells_for(size) as u32 {
+        return page.say("    All cells are edited: they wake in the next tick.\n");
     }
-    let a = put(out, at, b"    Edited, so it wakes in the next tick:");
-    put_set(out, a, set)
+    page.say("    Edited, so it wakes in the next tick:");
+    put_set(page, set);
 }

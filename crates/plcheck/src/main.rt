@@ -4,64 +4,37 @@
 
 ghost use Rattle.std.specs.Prelude.{length, ◌≤◌};
 
-use explain::checking::{Answer, Check, Text, end, take, take_last};
+use explain::checking::Check;
 use input::system::{Source, fail};
 use input::{BUFFER, LINE, Reader, least, next_line};
-use phrases::out::Page;
+use phrases::page::Page;
 use program::arguments;
 use saved::record::record_length;
-use session::LONGEST_PRINT;
 
 // The bytes of a record of thirty-two cells, the longest.
 const LONGEST_RECORD: usize = 516;
 
-// A transcript so far, and whether it goes on: all that was said could be written.
-#[derive(Clone, Copy)]
-struct Said {
-    check: Check,
-    wrote: bool,
-}
-
-// The first n bytes of a page.
-fn write_front(out: &[u8], n: usize) -> bool {
-    let end = least(n, out.len());
-    program::writer::write(&out[0..end])
-}
-
 // The input has ended, with these bytes after its last LF.
-fn take_end(
-    check: Check,
-    text: &[u8],
-    store: &mut [u8],
-    kept: &mut Text,
-    answer: &mut Answer,
-    out: &mut Page,
-) -> Said {
-    let last = take_last(check, text, store, kept, answer, out);
-    if write_front(out, last.len) {
-        let n = end(last, out);
-        write_front(out, n);
-    }
-    Said {
-        check: last,
-        wrote: false,
+fn take_end(check: &mut Check, text: &[u8], store: &mut [u8], page: &mut Page) {
+    check.take_last(text, store, page);
+    if program::writer::write(page.bytes()) {
+        check.end(page);
+        program::writer::write(page.bytes());
     }
 }
 
 // The line that a reader has given, cut to the bytes that are kept of one that ends in another
 // block. Where none was given, the input has ended, or a read failed: then that is reported, and
 // nothing is counted, since what comes after it is not known. The store is as long as a record of
-// the card.
+// the card. The result is whether the run goes on: all that was said could be written.
 fn take_given(
-    check: Check,
+    check: &mut Check,
     size: u8,
     r: Reader,
     block: &[u8],
     store: &mut [u8],
-    kept: &mut Text,
-    answer: &mut Answer,
-    out: &mut Page,
-) -> Said
+    page: &mut Page,
+) -> bool
     requires start_le_end { r.start ≤ r.end }
     requires end_in_bounds { r.end ≤ length block.now }
 {
@@ -71,20 +44,14 @@ fn take_given(
     let room = least(record_length(size), store.len());
     if r.failed {
         fail(b"the input");
-        return Said {
-            check: check,
-            wrote: false,
-        };
+        return false;
     }
     if !r.going {
-        return take_end(check, text, &mut store[0..room], kept, answer, out);
+        take_end(check, text, &mut store[0..room], page);
+        return false;
     }
-    let next = take(check, text, &mut store[0..room], kept, answer, out);
-    let wrote = write_front(out, next.len);
-    Said {
-        check: next,
-        wrote: wrote,
-    }
+    check.take(text, &mut store[0..room], page);
+    program::writer::write(page.bytes())
 }
 
 // The run ends with the input, and where a write fails.
@@ -92,28 +59,13 @@ fn run_from(input: &mut Source, size: u8) {
     let mut block = [0u8; BUFFER];
     let mut line = [0u8; LINE];
     let mut store = [0u8; LONGEST_RECORD];
-    let mut kept = [0u8; LINE];
-    let mut answer = [0u8; LONGEST_PRINT];
-    let mut out = io::large_buffer();
-    let check = explain::checking::start(size);
-    let mut s = Said {
-        check: check,
-        wrote: true,
-    };
+    let mut page = Page::new();
+    let mut check = Check::new(size);
+    let mut goes_on = true;
     let mut r = input::start();
-    while r.left > 0 && s.wrote {
+    while r.left > 0 && goes_on {
         r = next_line(r, input, &mut block, &mut line);
-        let check = s.check;
-        s = take_given(
-            check,
-            size,
-            r,
-            &block,
-            &mut store,
-            &mut kept,
-            &mut answer,
-            &mut out,
-        );
+        goes_on = take_given(&mut check, size, r, &block, &mut store, &mut page);
     }
 }
 

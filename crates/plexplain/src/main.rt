@@ -4,11 +4,11 @@
 
 ghost use Rattle.std.specs.Prelude.{length, ◌≤◌};
 
-use explain::facts::{Run, more};
+use explain::facts::Run;
 use explain::line::{Style, explain, put_unended};
 use input::system::{Source, fail};
 use input::{BUFFER, LINE, Reader, least, next_line};
-use phrases::out::Page;
+use phrases::page::Page;
 use program::arguments;
 use program::form::{Form, form_of, say_form};
 use saved::record::record_length;
@@ -23,20 +23,12 @@ struct Said {
     wrote: bool,
 }
 
-// The first n bytes of a page.
-fn write_front(out: &[u8], n: usize) -> bool {
-    let end = least(n, out.len());
-    program::writer::write(&out[0..end])
-}
-
 // A line has ended: it is entered, and what is said of it is written.
-fn end_line(run: Run, text: &[u8], store: &mut [u8], out: &mut Page, style: Style) -> Said {
-    let done = explain(run, text, store, out, style);
-    let next = done.run;
-    let wrote = write_front(out, done.len);
+fn end_line(run: Run, text: &[u8], store: &mut [u8], page: &mut Page, style: Style) -> Said {
+    let next = explain(run, text, store, page, style);
     Said {
         run: next,
-        wrote: wrote,
+        wrote: program::writer::write(page.bytes()),
     }
 }
 
@@ -71,7 +63,7 @@ fn take_given(
     r: Reader,
     block: &[u8],
     store: &mut [u8],
-    out: &mut Page,
+    page: &mut Page,
     style: Style,
 ) -> Said
     requires start_le_end { r.start ≤ r.end }
@@ -86,13 +78,13 @@ fn take_given(
     if r.going {
         let card = run.card;
         let room = least(record_length(card.size), store.len());
-        return end_line(run, text, &mut store[0..room], out, style);
+        return end_line(run, text, &mut store[0..room], page, style);
     }
     if r.failed {
         fail(b"the input");
     }
-    let n = put_unended(out, 0, style.rows, text, more(run.lines));
-    write_front(out, n);
+    put_unended(page, style.rows, text, run.lines.saturating_add(1));
+    program::writer::write(page.bytes());
     over(run)
 }
 
@@ -101,7 +93,7 @@ fn run_from(input: &mut Source, size: u8, style: Style) {
     let mut block = [0u8; BUFFER];
     let mut line = [0u8; LINE];
     let mut store = [0u8; LONGEST_RECORD];
-    let mut out = io::large_buffer();
+    let mut page = Page::new();
     let run = explain::facts::start(size);
     let mut s = Said {
         run: run,
@@ -111,7 +103,7 @@ fn run_from(input: &mut Source, size: u8, style: Style) {
     while r.left > 0 && s.wrote {
         r = next_line(r, input, &mut block, &mut line);
         let run = s.run;
-        s = take_given(run, r, &block, &mut store, &mut out, style);
+        s = take_given(run, r, &block, &mut store, &mut page, style);
     }
 }
 

@@ -19,7 +19,7 @@ ghost use Rattle.plwave.specs.Dump.{code_of, digit_of, change_of, changes, most_
 use card::place::cells_for;
 use input::system::Source;
 use input::{BUFFER, LINE};
-use phrases::names::CONNECTOR_NAME;
+use phrases::names::connector;
 use program::arguments;
 use program::report::Report;
 use program::writer::{ROOM, Room, Writer, empty, flush, put, put_byte, put_number, put_with};
@@ -47,9 +47,7 @@ fn put_code(out: &mut [u8], at: usize, i: u32) -> usize
 // ---- the header
 
 fn put_connector(out: &mut Room, s: Writer, k: u8) -> Writer {
-    let mut name = [0u8; CONNECTOR_NAME];
-    phrases::names::put_connector(&mut name, 0, k);
-    put(out, s, &name)
+    put(out, s, &connector(k))
 }
 
 // The name of wire i of a card of n cells. It says what is driven, since some viewers show no

@@ -1,6 +1,0 @@
--- `phrases::ticked::still_of` is safe and ends: a turn for each cell.
-use native.Mathlib.Omega.{arith}
-use Rattle.phrases.proofs.ticked.still_of.Goals as goal
-
-pub loop-i-preserved : goal.loop-i-preserved
-loop-i-preserved c = omega arith

@@ -1,0 +1,110 @@
+// A page: what is written of one line of input, piece by piece. A text with parts is a format, and
+// each part a type with `Display`.
+ghost use Rattle.std.specs.Prelude.{◌≡◌, ◌≤◌, ◌+◌, ℕ, List, [], ◌++◌, cond, leb, length, take};
+
+use std::fmt;
+use std::fmt::{Display, Write};
+use std::marker::Model;
+
+// Room for all that is written of one line of input: of a tick at most 55 lines, each below 300
+// bytes, and 208 hints, each below 200; of a preset or a load at most 86 lines.
+pub const ROOM: usize = 65536;
+
+// The bytes that are written so far. A contract sees them alone.
+#[derive(Drop)]
+pub struct Page {
+    bytes: [u8; ROOM],
+    len: usize,
+}
+
+impl Model for Page {
+    ghost Value = { List ℕ };
+
+    ghost view = { λ p. take p.len p.bytes };
+
+    ghost invariant = { λ p. p.len ≤ 65536 };
+}
+
+impl Page {
+    pub fn new() -> Self
+        ensures { result ≡ [] }
+    {
+        Page {
+            bytes: [0; ROOM],
+            len: 0,
+        }
+    }
+
+    // The page is empty again.
+    pub fn clear(&mut self)
+        ensures { self.new ≡ [] }
+    {
+        self.len = 0;
+    }
+
+    pub fn len(&self) -> usize
+        ensures { result ≡ length self.now }
+    {
+        self.bytes().len()
+    }
+
+    pub fn bytes(&self) -> &[u8]
+        ensures { result.now ≡ self.now }
+    {
+        &self.bytes[..self.len]
+    }
+
+    // A piece after what is written. One that has no room is left out whole.
+    pub fn put(&mut self, piece: &[u8])
+        ensures { self.new ≡ cond (leb (length self.old + length piece.now) 65536) (self.old ++ piece.now) self.old }
+    {
+        let end = self.len + piece.len();
+        if end <= ROOM {
+            self.bytes[self.len..end].copy_from_slice(piece);
+            self.len = end;
+        }
+    }
+
+    // A text after what is written: a `&str`, a name, or a format with its parts.
+    pub fn say<T: Display + Drop>(&mut self, text: T) {
+        let _ = write!(self, "{text}");
+    }
+
+    // What goes before each item of a list but the first. The list begins at a place.
+    pub fn separate(&mut self, first: usize, separator: &[u8])
+        ensures { length self.old ≡ first → self.new ≡ self.old }
+    {
+        if self.len != first {
+            self.put(separator);
+        }
+    }
+}
+
+// A page takes every text.
+impl fmt::Write for Page {
+    fn write_str(&mut self, text: &str) -> fmt::Result {
+        self.put(text.as_bytes());
+        Ok(())
+    }
+}
+
+// A line of input, or of a file, as it is shown: a byte that no line has is `?`.
+#[derive(Clone, Copy)]
+pub struct Shown<'a>(pub &'a [u8]);
+
+impl Display for Shown<'_> {
+    fn fmt<W: fmt::Write>(&self, f: &mut fmt::Formatter<W>) -> fmt::Result {
+        for byte in self.0 {
+            f.write_char(match *byte {
+                b' '..=b'~' => *byte as char,
+                _ => '?',
+            })?;
+        }
+        Ok(())
+    }
+}
+
+// The low 32 bits of a number of a line; all of it where it was not refused with 4.
+pub fn low(v: u64) -> u32 {
+    (v % 4294967296) as u32
+}
