@@ -1,6 +1,5 @@
 -- Laws of certificates, their rows and what they leave out, up to the promise over every list of ticks.
 pub mod Admitted
-pub mod Below
 pub mod Held
 pub mod Caps
 pub mod Choices
