@@ -73,17 +73,19 @@ struct Rig {
     n: usize,
 }
 
+impl Rig {
+    fn row(&mut self) -> &mut [Card] {
+        let n = least(self.n, ROOM);
+        &mut self.cards[..n]
+    }
+}
+
 fn put(text: &[u8]) {
     io::write_all(STDOUT, text);
 }
 
 fn put_number(v: u64) {
     io::print_decimal(STDOUT, v);
-}
-
-fn row(rig: &mut Rig) -> &mut [Card] {
-    let n = least(rig.n, ROOM);
-    &mut rig.cards[..n]
 }
 
 // ---- the calls
@@ -111,7 +113,7 @@ fn start(rig: &mut Rig, fields: &[u8]) -> Result<(), Expected> {
     if !fields.is_empty() {
         return Err(Expected::Start);
     }
-    put_number(rack_start(row(rig)) as u64);
+    put_number(rack_start(rig.row()) as u64);
     Ok(())
 }
 
@@ -161,7 +163,7 @@ fn tick_input(fields: &[u8]) -> Option<(bool, RackInput)> {
 
 fn tick(rig: &mut Rig, fields: &[u8]) -> Result<(), Expected> {
     let (full, input) = tick_input(fields).ok_or(Expected::Tick)?;
-    let ticked = rack_tick(row(rig), full, input);
+    let ticked = rack_tick(rig.row(), full, input);
     put_number(ticked.k as u64);
     if ticked.k == 0 {
         for answer in ticked.answers.iter().take(rig.n) {
@@ -191,7 +193,7 @@ fn line_to(rig: &mut Rig, fields: &[u8]) -> Result<(), Expected> {
     let mut buffer = [0u8; REPLY];
     let reply = &mut buffer[..size];
     let mut store = [0u8; RECORD_LENGTH];
-    let replied = rack_line(row(rig), card as usize, text, reply, &mut store);
+    let replied = rack_line(rig.row(), card as usize, text, reply, &mut store);
     put_reply(replied.k, replied.len, reply);
     Ok(())
 }
@@ -200,7 +202,7 @@ fn load(rig: &mut Rig, fields: &[u8]) -> Result<(), Expected> {
     let (card, rest) = number(fields).ok_or(Expected::Load)?;
     let mut bytes = [0u8; RECORD];
     let len = record(rest, &mut bytes).ok_or(Expected::Load)?;
-    put_number(rack_load(row(rig), card as usize, &bytes[..len]) as u64);
+    put_number(rack_load(rig.row(), card as usize, &bytes[..len]) as u64);
     Ok(())
 }
 
