@@ -72,18 +72,20 @@ fn reading(step: Step) -> Slots {
     }
 }
 
-fn put_letter(shown: bool, letter: u8) {
-    if shown {
-        put_byte(letter);
-    }
-}
-
 fn put_slots(set: Slots) {
-    put_letter(set.x, b'X');
-    put_letter(set.y, b'Y');
-    put_letter(set.z, b'Z');
-    put_letter(set.f, b'F');
-    put_letter(!(set.x || set.y || set.z || set.f), b'-');
+    let none = !(set.x || set.y || set.z || set.f);
+    let letters = [
+        (set.x, b'X'),
+        (set.y, b'Y'),
+        (set.z, b'Z'),
+        (set.f, b'F'),
+        (none, b'-'),
+    ];
+    for (shown, letter) in letters {
+        if shown {
+            put_byte(letter);
+        }
+    }
     put_byte(b' ');
 }
 
@@ -112,14 +114,13 @@ fn put_chart() {
 
 fn put_step(r: Slots, w: Worked) {
     let s = w.state;
-    put_field(r.x as u64);
-    put_field(r.y as u64);
-    put_field(r.z as u64);
-    put_field(r.f as u64);
-    put_field(s.count.0 as u64);
-    put_field(s.bit as u64);
-    put_field(s.pulse as u64);
-    put_number(w.out as u64);
+    for read in [r.x, r.y, r.z, r.f] {
+        put_field(u64::from(read));
+    }
+    put_field(u64::from(s.count.0));
+    put_field(u64::from(s.bit));
+    put_field(u64::from(s.pulse));
+    put_number(u64::from(w.out));
     put_byte(b'\n');
 }
 

@@ -29,10 +29,6 @@ const KEPT: usize = 1104;
 
 const BUFFER: usize = KEPT + BLOCK;
 
-fn wide(b: u8) -> u64 {
-    b as u64
-}
-
 // ---- hex digits
 
 fn digit(b: u8) -> Option<u8>
@@ -66,7 +62,7 @@ fn bytes_in(row: &[u8], bytes: &mut [u8; MOST_BYTES]) -> Option<usize>
 
 fn put_hex(bytes: &[u8]) {
     for byte in bytes {
-        io::print_hex(STDOUT, wide(*byte), 2);
+        io::print_hex(STDOUT, u64::from(*byte), 2);
     }
 }
 
@@ -81,7 +77,7 @@ fn put_front(bytes: &[u8], n: usize) {
 // The load of a record into a fresh card of a size.
 fn put_load(bytes: &[u8], size: u8) {
     let loaded = saved::record::load(card::card::fresh_of(size), bytes);
-    put_number(wide(loaded.k));
+    put_number(u64::from(loaded.k));
     if loaded.k != 0 {
         put(b" -\n");
         return;
@@ -95,7 +91,7 @@ fn put_load(bytes: &[u8], size: u8) {
 // The conversion of a record, with a buffer for the result.
 fn put_conversion(bytes: &[u8], buffer: &mut [u8]) {
     let done = convert::convert(bytes, buffer);
-    put_field(wide(done.k));
+    put_field(u64::from(done.k));
     put_field(done.len as u64);
     if done.k != 0 {
         put(b"-\n");
