@@ -7,6 +7,7 @@ use mathlib.Core.List.{List, [], ◌∷◌, Forall₂}
 use lib.Dec.{eqb}
 use lib.ListN.{length, get_or, set, replicate}
 use lib.Seq.{sets}
+use Rattle.std.proofs.lemmas.Bool.{cond_both}
 use Rattle.card.specs.declared.card.Card.{Card}
 use Rattle.ticks.specs.declared.view.Input.{Input}
 use Rattle.ticks.specs.declared.tick.Answer.{Answer}
@@ -54,14 +55,6 @@ module _ (n : ℕ) where
   pub fill-settled : (m : ℕ) → AllSettled (replicate m (start_card n))
   fill-settled zero = tt
   fill-settled (suc m) = (start-settled, fill-settled m)
-
-  cond-row : (b : Bool) (x y : List Card) → AllSettled x → AllSettled y → AllSettled (cond b x y)
-  cond-row true x y p q = p
-  cond-row false x y p q = q
-
-  cond-card : (b : Bool) (x y : Card) → Settled n x → Settled n y → Settled n (cond b x y)
-  cond-card true x y p q = p
-  cond-card false x y p q = q
 
   -- ---- one tick of one card, whatever lines are pulled low
 
@@ -122,11 +115,8 @@ module _ (n : ℕ) where
   outcome-settled : (bad : Bool) (numbers : List ℕ) (place : ℕ) (c : Card) (o : Outcome) → Settled n c → Settled n o.card
       → Settled n (outcome_in bad numbers place c o).card
   outcome-settled true numbers place c o p q = p
-  outcome-settled false numbers place c o p q = go (eqb o.k 0 && over numbers place c.connectors o.card.connectors)
-    where
-      go : (b : Bool) → Settled n (outcome_by (cond b over_supply 0) c o).card
-      go true = p
-      go false = q
+  outcome-settled false numbers place c o p q =
+      cond_both (eqb o.k 0 && over numbers place c.connectors o.card.connectors) over_supply 0 (λ (r : ℕ). Settled n (outcome_by r c o).card) (λ e. p) (λ e. q)
 
   line-settled : (cards : List Card) (number : ℕ) (text : List ℕ) (reply store : ℕ) → AllSettled cards
       → Settled n (row_outcome n cards number text reply store).card
@@ -138,18 +128,18 @@ module _ (n : ℕ) where
       (edit-settled n c _ (line-edit n c text reply store) p)
 
   load-settled : (c : Card) (bytes : List ℕ) → Settled n c → Settled n (loaded n c bytes)
-  load-settled c bytes s = rw (loaded-by n c bytes) (cond-card (eqb (load_number n bytes) 0) _ c (powered-settled n _ _ _ _) s)
+  load-settled c bytes s = rw (loaded-by n c bytes) (cond_both (eqb (load_number n bytes) 0) _ c (Settled n) (λ e. powered-settled n _ _ _ _) (λ e. s))
 
   pub call_settled : (cards : List Card) (call : RackCall) → AllSettled cards → AllSettled (after_call n cards call)
   unfolding after_call started_row lined_row loaded_row ticked_row
-  call_settled cards start s = cond-row (bad_row cards) cards _ s (fill-settled (length cards))
+  call_settled cards start s = cond_both (bad_row cards) cards _ AllSettled (λ e. s) (λ e. fill-settled (length cards))
   call_settled cards (line number text reply store) s =
       set-settled cards (number - 1) _ (line-settled cards number text (length reply) (length store) s) s
   call_settled cards (load number bytes) s =
       let p = at-settled cards (number - 1) s in
-      set-settled cards (number - 1) _ (cond-card (eqb (row_load_number n cards number bytes) 0) _ _ (load-settled (card_of n cards number) bytes p) p) s
+      set-settled cards (number - 1) _ (cond_both (eqb (row_load_number n cards number bytes) 0) _ _ (Settled n) (λ e. load-settled (card_of n cards number) bytes p) (λ e. p)) s
   call_settled cards (tick full input) s =
-      cond-row (bad_fronts cards input) cards _ s (ticks-settled input (low_lines n input.code 0 cards) full 0 cards s)
+      cond_both (bad_fronts cards input) cards _ AllSettled (λ e. s) (λ e. ticks-settled input (low_lines n input.code 0 cards) full 0 cards s)
 
   same_after : (cards : List Card) (a b : RackCall) → SameCall a b → AllSettled cards → after_call n cards a ≡ after_call n cards b
   unfolding after_call ticked_row

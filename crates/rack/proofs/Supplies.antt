@@ -11,6 +11,7 @@ use Rattle.std.specs.List.{sum}
 use Rattle.std.proofs.lemmas.List.{map-set, set-get_or}
 use Rattle.std.proofs.lemmas.List.Sums.{sum-map}
 use Rattle.std.proofs.Math.Bool.{and-false}
+use Rattle.std.proofs.lemmas.Bool.{cond_both}
 use Rattle.std.proofs.lemmas.List.Folds.{sum_by-replicate}
 use borrow.Author.Tests.{ltb-false, le-ltb}
 use Rattle.card.specs.declared.card.Card.{Card}
@@ -84,10 +85,6 @@ four-free cards i x d h within few =
 same_place : (cards : List Card) (i : ℕ) (x : Card) → draws cards ≤ supply → draws (set cards i (get_or cards i x)) ≤ supply
 same_place cards i x within = subst (λ (l : List Card). draws l ≤ supply) (sym (set-get_or cards i x)) within
 
-cond-long : (cards : List Card) (b : Bool) (x : List Card) → length x ≡ length cards → length (cond b cards x) ≡ length cards
-cond-long cards true x e = refl
-cond-long cards false x e = e
-
 module _ (n : ℕ) where
   -- ---- a tick changes no connector
 
@@ -154,28 +151,24 @@ module _ (n : ℕ) where
 
   pub call-within : (cards : List Card) (call : RackCall) → draws cards ≤ supply → draws (after_call n cards call) ≤ supply
   unfolding after_call started_row ticked_row
-  call-within cards start within = go (bad_row cards) refl
-    where
-      go : (b : Bool) → bad_row cards ≡ b → draws (cond b cards (replicate (length cards) (start_card n))) ≤ supply
-      go true e = within
-      go false e =
-          start-within (length cards) (ltb-false most_cards (length cards) (or_right (ltb (length cards) 1) _ (or_left (bad_length (length cards)) _ e)))
+  call-within cards start within =
+      cond_both (bad_row cards) cards _ (λ (row : List Card). draws row ≤ supply) (λ e. within)
+      (λ e. start-within (length cards) (ltb-false most_cards (length cards) (or_right (ltb (length cards) 1) _ (or_left (bad_length (length cards)) _ e))))
   call-within cards (line number text reply store) within = line-within cards number text (length reply) (length store) within
   call-within cards (load number bytes) within = load-within cards number bytes within
-  call-within cards (tick full input) within = go (bad_fronts cards input)
-    where
-      go : (b : Bool) → draws (cond b cards (cards_of (ticks_from n full input (low_lines n input.code 0 cards) 0 cards))) ≤ supply
-      go true = within
-      go false = rw (ap sum (ticks-draw full input (low_lines n input.code 0 cards) 0 cards)) within
+  call-within cards (tick full input) within =
+      cond_both (bad_fronts cards input) cards _ (λ (row : List Card). draws row ≤ supply) (λ e. within)
+      (λ e. rw (ap sum (ticks-draw full input (low_lines n input.code 0 cards) 0 cards)) within)
 
   -- no call changes how many cards there are
   pub call_long : (cards : List Card) (call : RackCall) → length (after_call n cards call) ≡ length cards
   unfolding after_call started_row lined_row loaded_row ticked_row
-  call_long cards start = cond-long cards (bad_row cards) _ (length-replicate (length cards) (start_card n))
+  call_long cards start = cond_both (bad_row cards) cards _ (λ (row : List Card). length row ≡ length cards) (λ e. refl) (λ e. length-replicate (length cards) (start_card n))
   call_long cards (line number text reply store) = length-set cards (number - 1) _
   call_long cards (load number bytes) = length-set cards (number - 1) _
-  call_long cards (tick full input) = cond-long cards (bad_fronts cards input) _ (length-map (row_ticks n full input cards) (λ (t : Ticked). t.card)
-      ∙ ticks_long n full input (low_lines n input.code 0 cards) 0 cards)
+  call_long cards (tick full input) =
+      cond_both (bad_fronts cards input) cards _ (λ (row : List Card). length row ≡ length cards) (λ e. refl)
+      (λ e. length-map (row_ticks n full input cards) (λ (t : Ticked). t.card) ∙ ticks_long n full input (low_lines n input.code 0 cards) 0 cards)
 
   -- ---- lists
 
