@@ -1,5 +1,5 @@
 -- The tests of the code, case by case.
-use Prim.Native.Nat.{ℕ, zero, suc, ◌+◌, ◌-◌, ◌≤◌, ◌<◌, min, max}
+use Prim.Native.Nat.{ℕ, zero, suc, ◌+◌, ◌≤◌, ◌<◌, min, max}
 use mathlib.Core.Path.{◌≡◌, ap, ◌∙◌}
 use mathlib.Core.Bool.{Bool, true, false, not, ◌||◌, beq, cond}
 use mathlib.Core.List.{List}
@@ -7,13 +7,12 @@ use native.Mathlib.Nat.{not-suc-le-zero}
 use native.Mathlib.Numerals.{add-one}
 use native.Mathlib.Omega.{arith}
 use lib.ListN.{get_or}
-use borrow.Author.Tests.{eq-eqb, ne_eqb}
 use Rattle.card.proofs.TallyLaws.{by_less}
 use Rattle.cells.specs.declared.cell.Cell.{Cell}
 use Rattle.cells.specs.Work.{largest_count}
 use Rattle.card.specs.Fresh.{no_cell}
 use Rattle.card.specs.declared.card.Card.{Card}
-use Rattle.steady.specs.Steady.{same_but, steady_from, forever, count_holds, state_holds, cell_holds, least, least_holds, made_of}
+use Rattle.steady.specs.Steady.{same_but, steady_from, count_holds, state_holds, cell_holds, least, least_holds, made_of}
 use Rattle.steady.proofs.Cells.{Way, way}
 use Rattle.steady.proofs.Cells.Way.{stays, falls, rises}
 
@@ -25,26 +24,6 @@ pub made_many : (k steady : ℕ) → min k (max steady 1) ≡ made_of k steady
 unfolding made_of
 made_many k steady =
     min-least k _ ∙ ap (least k) (by_less steady 1 (λ t. max steady 1 ≡ cond t 1 steady) (λ h. omega arith) (λ h. omega arith))
-
-pub holds-1 : (config x y : ℕ) → x ≡ y → forever ≡ count_holds config x y
-unfolding count_holds
-holds-1 config x y e = rw (eq-eqb x y e)
-
-pub holds-2 : (config x y : ℕ) → (x ≡ y → ⊥) → y ≡ config → 0 ≡ count_holds config x y
-unfolding count_holds
-holds-2 config x y ne e = rw (ne_eqb x y ne, eq-eqb y config e)
-
-pub holds-3 : (config x y : ℕ) → (x ≡ y → ⊥) → (y ≡ config → ⊥) → x ≡ y + 1 → y ≡ count_holds config x y
-unfolding count_holds
-holds-3 config x y ne nc e = rw (ne_eqb x y ne, ne_eqb y config nc, eq-eqb x (y + 1) e)
-
-pub holds-4 : (config x y : ℕ) → (x ≡ y → ⊥) → (y ≡ config → ⊥) → (x ≡ y + 1 → ⊥) → y ≡ x + 1 → largest_count - x ≡ count_holds config x y
-unfolding count_holds
-holds-4 config x y ne nc nd e = rw (ne_eqb x y ne, ne_eqb y config nc, ne_eqb x (y + 1) nd, eq-eqb y (x + 1) e)
-
-pub holds-5 : (config x y : ℕ) → (x ≡ y → ⊥) → (y ≡ config → ⊥) → (x ≡ y + 1 → ⊥) → (y ≡ x + 1 → ⊥) → 0 ≡ count_holds config x y
-unfolding count_holds
-holds-5 config x y ne nc nd nu = rw (ne_eqb x y ne, ne_eqb y config nc, ne_eqb x (y + 1) nd, ne_eqb y (x + 1) nu)
 
 pub least-next : (i all one : ℕ) (before after : List Cell) → all ≡ least_holds i before after
     → one ≡ cell_holds (get_or before i no_cell) (get_or after i no_cell) → least all one ≡ least_holds (i + 1) before after

@@ -1,7 +1,7 @@
 -- What the code of `advance` puts together is what the definition says.
 use Prim.Native.Nat.{ℕ, zero, suc, ◌≤◌, ◌<◌, zero-le}
 use mathlib.Core.Path.{◌≡◌, sym, ap, subst, ◌∙◌}
-use mathlib.Core.Bool.{Bool, true, false, cond}
+use mathlib.Core.Bool.{Bool, false, cond}
 use mathlib.Core.List.{List}
 use native.Mathlib.Nat.{not-suc-le-zero}
 use native.Mathlib.Omega.{arith}
@@ -32,13 +32,6 @@ with_cells c cells tallies =
       size = c.size;
       tallies = tallies;
     }
-
-pub ran-through : (n : ℕ) (c : Card) (t : Ticked) (m : ℕ) (cells : List Cell) (tallies : Tallies) → cells ≡ cells_through n c.cells t.card.cells m
-    → t.answer.ran ≡ true → tallies ≡ tallied_for n (bit_at t.answer.woken) m c.tallies → with_cells c cells tallies ≡ card_through n c t m
-unfolding card_through
-ran-through n c t m cells tallies e ran more =
-    let all = more ∙ sym (ap (λ (b : Bool). cond b (tallied_for n (bit_at t.answer.woken) m c.tallies) c.tallies) ran) in
-    λ k. with_cells c (e k) (all k)
 
 pub idle-through : (n : ℕ) (c : Card) (t : Ticked) (m : ℕ) (cells : List Cell) → cells ≡ cells_through n c.cells t.card.cells m
     → t.answer.ran ≡ false → with_cells c cells c.tallies ≡ card_through n c t m

@@ -36,6 +36,7 @@ pub struct Advanced {
 // ---- for how many ticks
 
 // For how many ticks a count goes on as in the tick that took it from x to y.
+#[tactic(auto, unfolding(crate::specs::Steady::count_holds))]
 fn count_holds(config: u32, x: Count, y: Count) -> u32
     ensures { result ≡ count_holds config x y }
 {
@@ -54,6 +55,7 @@ fn count_holds(config: u32, x: Count, y: Count) -> u32
     0
 }
 
+#[tactic(auto, unfolding(crate::specs::Steady::state_holds))]
 fn cell_holds(a: Cell, b: Cell) -> u32
     ensures { result ≡ cell_holds a b }
 {
@@ -98,6 +100,7 @@ fn steady_from(c: Card, d: Card, n: u8) -> u32
 
 // For how many quick ticks with the input nothing but counts changes, and no count comes to its
 // end. A card at rest is steady for ever.
+#[tactic(auto, unfolding(crate::specs::Steady::steady_for))]
 pub fn steady_for(card: Card, input: Input) -> u32
     ensures { result ≡ steady_for (cells_for card.size) card input }
 {
@@ -108,6 +111,7 @@ pub fn steady_for(card: Card, input: Input) -> u32
 
 // ---- the card after them
 
+#[tactic(auto, unfolding(crate::specs::Steady::count_through))]
 fn count_through(x: Count, y: Count, m: u32) -> Count
     requires { x < y → x + m ≤ largest_count }
     ensures { result ≡ count_through x y m }
@@ -153,6 +157,7 @@ fn total_after(total: u32, k: u32) -> u32
     total.saturating_add(k)
 }
 
+#[tactic(auto, unfolding(crate::specs::Steady::counted_for))]
 fn counted_for(named: bool, d: u32, v: Ticks) -> Ticks
     ensures { result ≡ counted_for named d v }
 {
@@ -176,6 +181,7 @@ fn tallies_through(t: Tallies, named: CellWord, m: u32, n: u8) -> Tallies
 }
 
 // The card after m ticks, of which t is the first.
+#[tactic(auto, unfolding(crate::specs::Steady::card_through))]
 fn card_through(c: Card, t: Ticked, m: u32, n: u8) -> Card
     requires n_le_cell_room { n ≤ cell_room }
     requires m_nonzero { 0 < m }
