@@ -1,35 +1,30 @@
 -- What is in a text that was read: its bytes and words, its numbers, and the pairs of CCB in their order.
 use Prim.Native.Nat.{ℕ, zero, suc, ◌+◌, ◌^◌, ◌≤◌, ◌<◌}
 use mathlib.Core.Path.{◌≡◌, refl, sym, ap, ap₂, subst, ◌∙◌}
-use mathlib.Core.Logic.{◌⊎◌, inl, inr}
-use mathlib.Core.Bool.{Bool, true, false, cond, not, ◌&&◌, false≢true, true≢false}
+use mathlib.Core.Bool.{Bool, true, false, cond, ◌&&◌}
+use Rattle.std.specs.Prelude.{Option, Some, None, is_none}
 use mathlib.Core.List.Permᴰ
 use mathlib.Core.List.{List, [], ◌∷◌, ◌++◌, append-nil, Permᴰ}
-use mathlib.Core.Option.{some as just}
 use native.Mathlib.Decide.{dec_lt}
 use native.Mathlib.Nat.{add-zero, pow-le-pow_right, lt_of_lt_of_le}
 use native.Mathlib.Omega.{arith}
 use lib.Dec.{eqb, leb, ltb, lit≤}
 use lib.ListN.{length, drop, drop_of_length-le, get_or-eq_default}
 use lib.Seq.{drop-cons, drop-drop}
-use borrow.Author.Tests.{leb-true, eqb-true, not-true, lt-ltb}
-use Rattle.text.specs.declared.Number.{Number}
-use Rattle.std.specs.Prelude.{Some, None}
-use Rattle.std.specs.Option.{is_some, unwrap_or}
+use borrow.Author.Tests.{leb-true, eqb-true, lt-ltb}
 use Rattle.text.specs.Decimal.{is_digit, digits_of, digit_value, value_from, decimal, max_digits, plain, number_of, number_in, number_at}
 use Rattle.text.proofs.DecimalLaws.{digits-rest, digits-all, digit-small, reads-print}
 use Rattle.text.proofs.DigitLaws.{value-below}
 use Rattle.words.proofs.Bools.{and_left, and_right, and_both}
 use Rattle.text.specs.Digits.{every}
 use Rattle.grammar.specs.declared.grammar.Pairs.{Pairs}
-use Rattle.grammar.specs.declared.grammar.Reading.{Reading}
-use Rattle.grammar.specs.declared.grammar.Ending.{Ending}
+use Rattle.grammar.specs.declared.pairs.Reading.{Reading}
 use Rattle.grammar.specs.declared.grammar.Slot.{Slot}
-use Rattle.grammar.specs.declared.grammar.Slot.TheVariants.{X, Y, Z, F, NoSlot}
-use Rattle.grammar.specs.Grammar.{char_at, is_word, is_whole, to_end, slot_of, gave, give, is_pair, pair_read}
+use Rattle.grammar.specs.declared.grammar.Slot.TheVariants.{X, Y, Z, F}
+use Rattle.grammar.specs.Grammar.{char_at, is_word, is_whole, to_end, slot_of, pair_of, give, pair_with, next_pair, pair_read, steps, ◌>>=◌}
 use Rattle.grammar.specs.Grammar.{equals, blank}
 use Rattle.grammar.specs.Texts.{letter_of, given_pair, given_pairs, pairs_text, printable, printable_slots}
-use Rattle.grammar.proofs.Printed.{Takes, read, steps, some}
+use Rattle.grammar.proofs.Printed.{Takes, read, some}
 use Rattle.grammar.proofs.Printed.{pairs-each}
 use Rattle.grammar.proofs.Printed.Takes.{none, next}
 
@@ -38,35 +33,32 @@ use Rattle.grammar.proofs.Printed.Takes.{none, next}
 abbrev pub prints : Slot × ℕ → Bool
 prints q = printable q.1
 
+pub clash : {A : Type 0} {x : A} → Some x ≡ None → ⊥
+clash e = cc
+
 -- two pairs that are given one after the other may change places
 record Swapped (p : Pairs) (s u : Slot) (v w : ℕ) : Type 0 where
-  first : gave p u ≡ false
-  second : gave (give p u w) s ≡ false
+  first : pair_of p u ≡ None
+  second : pair_of (give p u w) s ≡ None
   same : give (give p s v) u w ≡ give (give p u w) s v
 
-swapped : (p : Pairs) (s u : Slot) (v w : ℕ) → gave p s ≡ false → gave (give p s v) u ≡ false → Swapped p s u v w
-unfolding gave give
-swapped p X X v w a b = absurd (true≢false b)
+swapped : (p : Pairs) (s u : Slot) (v w : ℕ) → pair_of p s ≡ None → pair_of (give p s v) u ≡ None → Swapped p s u v w
+swapped p X X v w a b = absurd (clash b)
 swapped p X Y v w a b = record { first = b; second = a; same = refl }
 swapped p X Z v w a b = record { first = b; second = a; same = refl }
 swapped p X F v w a b = record { first = b; second = a; same = refl }
-swapped p X NoSlot v w a b = absurd (true≢false b)
 swapped p Y X v w a b = record { first = b; second = a; same = refl }
-swapped p Y Y v w a b = absurd (true≢false b)
+swapped p Y Y v w a b = absurd (clash b)
 swapped p Y Z v w a b = record { first = b; second = a; same = refl }
 swapped p Y F v w a b = record { first = b; second = a; same = refl }
-swapped p Y NoSlot v w a b = absurd (true≢false b)
 swapped p Z X v w a b = record { first = b; second = a; same = refl }
 swapped p Z Y v w a b = record { first = b; second = a; same = refl }
-swapped p Z Z v w a b = absurd (true≢false b)
+swapped p Z Z v w a b = absurd (clash b)
 swapped p Z F v w a b = record { first = b; second = a; same = refl }
-swapped p Z NoSlot v w a b = absurd (true≢false b)
 swapped p F X v w a b = record { first = b; second = a; same = refl }
 swapped p F Y v w a b = record { first = b; second = a; same = refl }
 swapped p F Z v w a b = record { first = b; second = a; same = refl }
-swapped p F F v w a b = absurd (true≢false b)
-swapped p F NoSlot v w a b = absurd (true≢false b)
-swapped p NoSlot u v w a b = absurd (true≢false a)
+swapped p F F v w a b = absurd (clash b)
 
 pub perm-takes : {xs ys : List (Slot × ℕ)} {p r : Pairs} → Permᴰ xs ys → Takes p xs r → Takes p ys r
 perm-takes Permᴰ.nil t = t
@@ -94,22 +86,20 @@ perm-length (Permᴰ.swap e₁ e₂) = refl
 perm-length (Permᴰ.trans d₁ d₂) = perm-length d₁ ∙ perm-length d₂
 
 -- one pair more, among the pairs of the command
-give-perm : (p : Pairs) (s : Slot) (v : ℕ) → gave p s ≡ false → Permᴰ (given_pairs (give p s v)) ((s, v) ∷ given_pairs p)
-unfolding gave give
+give-perm : (p : Pairs) (s : Slot) (v : ℕ) → pair_of p s ≡ None → Permᴰ (given_pairs (give p s v)) ((s, v) ∷ given_pairs p)
 give-perm p X v e = rw e (Permᴰ.refl _)
-give-perm p Y v e = rw e (Permᴰ.middle (Y, v) (given_pair p.given.x X p.x) _)
+give-perm p Y v e = rw e (Permᴰ.middle (Y, v) (given_pair X p.x) _)
 give-perm p Z v e =
-    let a = given_pair p.given.x X p.x in
-    let b = given_pair p.given.y Y p.y in
+    let a = given_pair X p.x in
+    let b = given_pair Y p.y in
     rw e (Permᴰ.trans (Permᴰ.append_left a (Permᴰ.middle (Z, v) b _)) (Permᴰ.middle (Z, v) a _))
 give-perm p F v e =
-    let a = given_pair p.given.x X p.x in
-    let b = given_pair p.given.y Y p.y in
-    let c = given_pair p.given.z Z p.z in
+    let a = given_pair X p.x in
+    let b = given_pair Y p.y in
+    let c = given_pair Z p.z in
     rw e
     (Permᴰ.trans (Permᴰ.append_left a (Permᴰ.append_left b (Permᴰ.middle (F, v) c [])))
     (Permᴰ.trans (Permᴰ.append_left a (Permᴰ.middle (F, v) b _)) (Permᴰ.middle (F, v) a _)))
-give-perm p NoSlot v e = absurd (true≢false e)
 
 -- what pairs come to is a command of these pairs
 pub takes-perm : {p r : Pairs} {pairs : List (Slot × ℕ)} → Takes p pairs r → Permᴰ (pairs ++ given_pairs p) (given_pairs r)
@@ -120,12 +110,10 @@ takes-perm {p} (next {s = s} {v = v} {pairs = pairs} first more) =
 
 -- with printable numbers it is printable
 give-printable : (p : Pairs) (s : Slot) (v : ℕ) → printable v ≡ true → printable_slots p ≡ true → printable_slots (give p s v) ≡ true
-unfolding give
 give-printable p X v h ok = let e = pairs-each p ok in rw (h, e.1, e.2, e.3)
 give-printable p Y v h ok = let e = pairs-each p ok in rw (e.0, h, e.2, e.3)
 give-printable p Z v h ok = let e = pairs-each p ok in rw (e.0, e.1, h, e.3)
 give-printable p F v h ok = let e = pairs-each p ok in rw (e.0, e.1, e.2, h)
-give-printable p NoSlot v h ok = ok
 
 pub takes-printable : {p r : Pairs} {pairs : List (Slot × ℕ)} → Takes p pairs r → every prints pairs ≡ true → printable_slots p ≡ true → printable_slots r ≡ true
 unfolding every
@@ -175,17 +163,23 @@ whole-there w t some e =
 
 -- ---- letters
 
-pub letter-back : (b : ℕ) → (letter_of (slot_of b) ≡ b) ⊎ (slot_of b ≡ NoSlot)
+pub letter-back : (b : ℕ) (s : Slot) → slot_of b ≡ Some s → letter_of s ≡ b
 unfolding slot_of
-letter-back b = go (eqb b 88) (eqb b 89) (eqb b 90) (eqb b 70) refl refl refl refl
+letter-back b s = go (eqb b 88) (eqb b 89) (eqb b 90) (eqb b 70) refl refl refl refl
   where
+    is : (u : Slot) → eqb b (letter_of u) ≡ true → Some u ≡ Some s → letter_of s ≡ b
+    is u e h =
+        let letter = eqb-true b (letter_of u) e in
+        let same : u ≡ s = cc in
+        ap letter_of (sym same) ∙ sym letter
+
     go : (x y z f : Bool) → eqb b 88 ≡ x → eqb b 89 ≡ y → eqb b 90 ≡ z → eqb b 70 ≡ f
-        → let s = cond x X (cond y Y (cond z Z (cond f F NoSlot))) in (letter_of s ≡ b) ⊎ (s ≡ NoSlot)
-    go true y z f ex ey ez ef = inl (sym (eqb-true b 88 ex))
-    go false true z f ex ey ez ef = inl (sym (eqb-true b 89 ey))
-    go false false true f ex ey ez ef = inl (sym (eqb-true b 90 ez))
-    go false false false true ex ey ez ef = inl (sym (eqb-true b 70 ef))
-    go false false false false ex ey ez ef = inr refl
+        → cond x (Some X) (cond y (Some Y) (cond z (Some Z) (cond f (Some F) None))) ≡ Some s → letter_of s ≡ b
+    go true y z f ex ey ez ef e = is X ex e
+    go false true z f ex ey ez ef e = is Y ey e
+    go false false true f ex ey ez ef e = is Z ez e
+    go false false false true ex ey ez ef e = is F ef e
+    go false false false false ex ey ez ef e = absurd (clash (sym e))
 
 -- ---- numbers
 
@@ -201,40 +195,35 @@ number-said s h =
     let most : 10 ^ (0 + length ds) ≤ 10 ^ max_digits = pow-le-pow_right (lit≤ tt) less in
     (reads-print ds v reads, lt-ltb v (10 ^ max_digits) (lt_of_lt_of_le below most))
 
--- the value of a number that there is
-plain-some : (b : Bool) (v : ℕ) → is_some (cond b (Some v) None) ≡ true → b ≡ true
-plain-some true v h = refl
-plain-some false v h = absurd (false≢true h)
-
-number-there : (t : List ℕ) (at : ℕ) → let n = number_at t at in is_some n.value ≡ true
-    → (drop at t ≡ decimal (unwrap_or n.value 0) ++ drop n.next t) × (printable (unwrap_or n.value 0) ≡ true)
+number-there : (t : List ℕ) (at v : ℕ) → let n = number_at t at in n.value ≡ Some v → (drop at t ≡ decimal v ++ drop n.next t) × (printable v ≡ true)
 unfolding number_at number_in
-number-there t at some =
-    let ds = digits_of (drop at t) in
-    let h = plain-some (plain ds) (value_from 0 ds) some in
-    let said = number-said (drop at t) h in
-    rw h (sym (digits-rest (drop at t)) ∙ ap₂ (λ (x y : List ℕ). x ++ y) (sym said.0) (drop-drop (length ds) at t), said.1)
-
-pub ending_there : (t : List ℕ) (at : ℕ) → let e = to_end t at in e.ok ≡ true → (drop at t ≡ decimal e.value) × (printable e.value ≡ true)
-unfolding to_end
-ending_there t at = go (leb at (length t)) (is_some (number_at t at).value) (eqb (number_at t at).next (length t)) refl refl
+number-there t at v = go (plain (digits_of (drop at t))) refl
   where
-    n : Number
-    n = number_at t at
+    ds : List ℕ
+    ds = digits_of (drop at t)
 
-    ended : Bool → Ending
-    ended b = cond b (record { ok = true; value = unwrap_or n.value 0 }) (record { ok = false; value = 0 })
+    go : (p : Bool) → plain ds ≡ p → cond p (Some (value_from 0 ds)) None ≡ Some v
+        → (drop at t ≡ decimal v ++ drop (at + length ds) t) × (printable v ≡ true)
+    go false p e = absurd (clash (sym e))
+    go true p e =
+        let said = number-said (drop at t) p in
+        let same : value_from 0 ds ≡ v = cc in
+        let text = ap decimal (sym same) ∙ said.0 in (
+          sym (digits-rest (drop at t)) ∙ ap₂ (λ (x y : List ℕ). x ++ y) (sym text) (drop-drop (length ds) at t),
+          ap printable (sym same) ∙ said.1,
+        )
 
-    go : (l o e : Bool) → is_some n.value ≡ o → eqb n.next (length t) ≡ e → (ended (l && (o && e))).ok ≡ true
-        → (drop at t ≡ decimal (ended (l && (o && e))).value) × (printable (ended (l && (o && e))).value ≡ true)
-    go true true true ok end h =
-        let there = number-there t at ok in
-        let past = eqb-true n.next (length t) end in
-        let all : length t ≤ n.next = omega arith in
-        (there.0 ∙ ap (λ (l : List ℕ). decimal (unwrap_or n.value 0) ++ l) (drop_of_length-le t all) ∙ append-nil (decimal (unwrap_or n.value 0)), there.1)
-    go true true false ok end h = absurd (false≢true h)
-    go true false e ok end h = absurd (false≢true h)
-    go false o e ok end h = absurd (false≢true h)
+pub ending_there : (t : List ℕ) (at v : ℕ) → to_end t at ≡ Some v → (drop at t ≡ decimal v) × (printable v ≡ true)
+unfolding to_end
+ending_there t at v = go (eqb (number_at t at).next (length t)) refl
+  where
+    go : (b : Bool) → eqb (number_at t at).next (length t) ≡ b → cond b (number_at t at).value None ≡ Some v → (drop at t ≡ decimal v) × (printable v ≡ true)
+    go true end e =
+        let there = number-there t at v e in
+        let past = eqb-true (number_at t at).next (length t) end in
+        let all : length t ≤ (number_at t at).next = omega arith in
+        (there.0 ∙ ap (λ (l : List ℕ). decimal v ++ l) (drop_of_length-le t all) ∙ append-nil (decimal v), there.1)
+    go false end e = absurd (clash (sym e))
 
 -- ---- the pairs, read back
 
@@ -244,78 +233,68 @@ pub record Said (t : List ℕ) (p : Pairs) (at : ℕ) (r : Pairs) : Type 0 where
   pub all : every prints pairs ≡ true
   pub there : drop at t ≡ pairs_text pairs
 
--- a fault stays
-steps-fault : (k : ℕ) (t : List ℕ) (p : Pairs) (at : ℕ) → (steps k t (record { ok = false; pairs = p; at = at })).ok ≡ false
-unfolding steps pair_read
-steps-fault zero t p at = refl
-steps-fault (suc k) t p at = steps-fault k t p at
-
-not-given : (p : Pairs) (b : ℕ) → not (gave p (slot_of b)) ≡ true → letter_of (slot_of b) ≡ b
-unfolding gave
-not-given p b h = go (letter-back b)
-  where
-    go : (letter_of (slot_of b) ≡ b) ⊎ (slot_of b ≡ NoSlot) → letter_of (slot_of b) ≡ b
-    go (inl e) = e
-    go (inr e) = absurd (false≢true (ap (λ (s : Slot). not (gave p s)) (sym e) ∙ h))
-
 -- a pair that was read is there
-pair-there : (t : List ℕ) (p : Pairs) (at : ℕ) → is_pair t (read p at) ≡ true → let s = slot_of (char_at t (at + 1)) in
-    let n = number_at t (at + 3) in
-    (gave p s ≡ false) × (printable (unwrap_or n.value 0) ≡ true) × (drop at t ≡ blank ∷ letter_of s ∷ equals ∷ decimal (unwrap_or n.value 0) ++ drop n.next t)
-pair-there t p at h =
-    let s = slot_of (char_at t (at + 1)) in
-    let n = number_at t (at + 3) in
-    let blanks = eqb (char_at t at) 32 in
-    let signs = eqb (char_at t (at + 2)) 61 in
-    let letters = not (gave p s) in
-    let parts = and_left ((blanks && signs) && letters) (is_some n.value) h in
-    let number = number-there t (at + 3) (and_right ((blanks && signs) && letters) (is_some n.value) h) in
-    let new = and_right (blanks && signs) letters parts in
-    let frame = and_left (blanks && signs) letters parts in
-    let blanked = eqb-true (char_at t at) blank (and_left blanks signs frame) in
-    let sign = eqb-true (char_at t (at + 2)) equals (and_right blanks signs frame) in
-    let one : suc at ≡ at + 1 = omega arith in
-    let two : suc (at + 1) ≡ at + 2 = omega arith in
-    let three : suc (suc (at + 1)) ≡ at + 3 = omega arith in
-    let first = byte-there t at blank blanked (lit≤ tt) ∙ ap (λ (i : ℕ). blank ∷ drop i t) one in
-    let rest = before-there t (at + 1) equals (ap (char_at t) two ∙ sign) (lit≤ tt)
-    ∙ ap (λ (i : ℕ). char_at t (at + 1) ∷ equals ∷ drop i t) three in
-    let letter = sym (not-given p (char_at t (at + 1)) new) in (
-      not-true (gave p s) new,
-      number.1,
-      first ∙ ap (λ (l : List ℕ). blank ∷ l) (rest ∙ ap₂ (λ (b : ℕ) (l : List ℕ). b ∷ equals ∷ l) letter number.0),
-    )
+record OneSaid (t : List ℕ) (p : Pairs) (at : ℕ) (r : Reading) : Type 0 where
+  slot : Slot
+  value : ℕ
+  first : pair_of p slot ≡ None
+  fits : printable value ≡ true
+  after : r.pairs ≡ give p slot value
+  there : drop at t ≡ blank ∷ letter_of slot ∷ equals ∷ decimal value ++ drop r.at t
 
-pub pairs-said : (k : ℕ) (t : List ℕ) (p : Pairs) (at : ℕ) → let r = steps k t (read p at) in r.ok ≡ true → r.at ≡ length t → Said t p at r.pairs
-unfolding steps pair_read pairs_text every
-pairs-said zero t p at ok end =
-    let past : length t ≤ at = omega arith in
-    record { pairs = []; takes = none; all = refl; there = drop_of_length-le t past }
-pairs-said (suc k) t p at ok end =
-    go (ltb at (length t)) (is_pair t (read p at)) refl (pairs-said k t p at) (pairs-said k t (give p s v) (number_at t (at + 3)).next) ok end
+pair-there : (t : List ℕ) (p : Pairs) (at : ℕ) (r : Reading) → next_pair t (read p at) ≡ Some r → OneSaid t p at r
+pair-there t p at r = slots (slot_of (char_at t (at + 1))) (number_at t (at + 3)).value refl refl
   where
-    s : Slot
-    s = slot_of (char_at t (at + 1))
+    there : (s : Slot) (v : ℕ) → slot_of (char_at t (at + 1)) ≡ Some s → (number_at t (at + 3)).value ≡ Some v → (eqb (char_at t at) 32 && eqb (char_at t (at + 2)) 61) ≡ true
+        → drop at t ≡ blank ∷ letter_of s ∷ equals ∷ decimal v ++ drop (number_at t (at + 3)).next t
+    there s v es ev frame =
+        let blanked = eqb-true (char_at t at) blank (and_left (eqb (char_at t at) 32) _ frame) in
+        let sign = eqb-true (char_at t (at + 2)) equals (and_right (eqb (char_at t at) 32) _ frame) in
+        let one : suc at ≡ at + 1 = omega arith in
+        let two : suc (at + 1) ≡ at + 2 = omega arith in
+        let three : suc (suc (at + 1)) ≡ at + 3 = omega arith in
+        let first = byte-there t at blank blanked (lit≤ tt) ∙ ap (λ (i : ℕ). blank ∷ drop i t) one in
+        let rest = before-there t (at + 1) equals (ap (char_at t) two ∙ sign) (lit≤ tt)
+        ∙ ap (λ (i : ℕ). char_at t (at + 1) ∷ equals ∷ drop i t) three in
+        let letter = sym (letter-back (char_at t (at + 1)) s es) in
+        first ∙ ap (λ (l : List ℕ). blank ∷ l) (rest ∙ ap₂ (λ (b : ℕ) (l : List ℕ). b ∷ equals ∷ l) letter (number-there t (at + 3) v ev).0)
 
-    v : ℕ
-    v = unwrap_or (number_at t (at + 3)).value 0
+    tests : (s : Slot) (v : ℕ) → slot_of (char_at t (at + 1)) ≡ Some s → (number_at t (at + 3)).value ≡ Some v
+        → (frame : Bool) (o : Option ℕ) → (eqb (char_at t at) 32 && eqb (char_at t (at + 2)) 61) ≡ frame → pair_of p s ≡ o
+        → cond (frame && is_none o) (Some (record { pairs = give p s v; at = (number_at t (at + 3)).next })) None ≡ Some r → OneSaid t p at r
+    tests s v es ev true None ef eo e =
+        let made : Reading = record { pairs = give p s v; at = (number_at t (at + 3)).next } in
+        let same : made ≡ r = cc in
+        subst (OneSaid t p at) same
+        (record { slot = s; value = v; first = eo; fits = (number-there t (at + 3) v ev).1; after = refl; there = there s v es ev ef })
+    tests s v es ev true (Some w) ef eo e = absurd (clash (sym e))
+    tests s v es ev false o ef eo e = absurd (clash (sym e))
 
-    after : Bool → Reading
-    after b = record { ok = b; pairs = give p s v; at = (number_at t (at + 3)).next }
+    slots : (os : Option Slot) (ov : Option ℕ) → slot_of (char_at t (at + 1)) ≡ os → (number_at t (at + 3)).value ≡ ov
+        → (os >>= λ s. ov >>= λ v. pair_with t (read p at) s v) ≡ Some r → OneSaid t p at r
+    slots None ov es ev e = absurd (clash (sym e))
+    slots (Some s) None es ev e = absurd (clash (sym e))
+    slots (Some s) (Some v) es ev e = tests s v es ev _ _ refl refl e
 
-    go : (more b : Bool) → is_pair t (read p at) ≡ b
-        → ((steps k t (read p at)).ok ≡ true → (steps k t (read p at)).at ≡ length t → Said t p at (steps k t (read p at)).pairs)
-        → ((steps k t (after true)).ok ≡ true → (steps k t (after true)).at ≡ length t
-        → Said t (give p s v) (number_at t (at + 3)).next (steps k t (after true)).pairs)
-        → let r = steps k t (cond more (after b) (read p at)) in r.ok ≡ true → r.at ≡ length t → Said t p at r.pairs
-    go false b e stay step ok end = stay ok end
-    go true true e stay step ok end =
-        let one = pair-there t p at e in
-        let rest = step ok end in
+pub pairs-said : (k : ℕ) (t : List ℕ) (p : Pairs) (at : ℕ) (r : Reading) → steps k t (read p at) ≡ Some r → r.at ≡ length t → Said t p at r.pairs
+unfolding steps pair_read pairs_text every
+pairs-said zero t p at r = λ e end.
+    let same : read p at ≡ r = cc in
+    let past : length t ≤ at = omega (arith, end, ap (λ (q : Reading). q.at) same) in
+    subst (λ (q : Reading). Said t p at q.pairs) same (record { pairs = []; takes = none; all = refl; there = drop_of_length-le t past })
+pairs-said (suc k) t p at r = go (ltb at (length t)) (next_pair t (read p at)) refl (pairs-said k t)
+  where
+    go : (more : Bool) (o : Option Reading) → next_pair t (read p at) ≡ o
+        → ((q : Pairs) (i : ℕ) (x : Reading) → steps k t (read q i) ≡ Some x → x.at ≡ length t → Said t q i x.pairs)
+        → (cond more o (Some (read p at)) >>= steps k t) ≡ Some r → r.at ≡ length t → Said t p at r.pairs
+    go false o en said e end = said p at r e end
+    go true None en said e end = absurd (clash (sym e))
+    go true (Some q) en said e end =
+        let one = pair-there t p at q en in
+        let rest = said q.pairs q.at r e end in
         record {
-          pairs = (s, v) ∷ rest.pairs;
-          takes = next one.0 rest.takes;
-          all = and_both _ _ one.1 rest.all;
-          there = one.2 ∙ ap (λ (l : List ℕ). blank ∷ letter_of s ∷ equals ∷ decimal v ++ l) rest.there;
+          pairs = (one.slot, one.value) ∷ rest.pairs;
+          takes = next one.first (subst (λ (x : Pairs). Takes x rest.pairs r.pairs) one.after rest.takes);
+          all = and_both _ _ one.fits rest.all;
+          there = one.there ∙ ap (λ (l : List ℕ). blank ∷ letter_of one.slot ∷ equals ∷ decimal one.value ++ l) rest.there;
         }
-    go true false e stay step ok end = absurd (false≢true (sym (steps-fault k t (give p s v) (number_at t (at + 3)).next) ∙ ok))

@@ -1,8 +1,9 @@
 -- Laws of the forms: a word read byte by byte.
 use Prim.Native.Nat.{ℕ, ◌+◌, ◌≤◌, ◌<◌}
 use mathlib.Core.Path.{◌≡◌}
-use mathlib.Core.Bool.{true, false, ◌&&◌}
+use mathlib.Core.Bool.{true, ◌&&◌}
 use mathlib.Core.List.{List}
+use Rattle.std.specs.Prelude.{None}
 use native.Mathlib.Nat.{add-suc, add-zero, le_of_lt}
 use native.Mathlib.Omega.{arith}
 use native.Mathlib.Numerals.{add-one}
@@ -30,6 +31,6 @@ unfolding number_at number_in digits_of plain leads
 number_past t at h = rw (drop_of_length-le t (le_of_lt h), add-zero)
 
 -- a number ends within any bound of its start and of the line
-pub next-within : (t : List ℕ) (at m : ℕ) → at ≤ m → length t ≤ m → (number_at t at).next ≤ m
+pub next_within : (t : List ℕ) (at m : ℕ) → at ≤ m → length t ≤ m → (number_at t at).next ≤ m
 unfolding number_at number_in
-next-within t at m ha ht = omega (arith, digits-within t at)
+next_within t at m ha ht = omega (arith, digits-within t at)

@@ -1,25 +1,26 @@
 -- Document 01, "Lines", and rows 2 and 3 of "When the card says no": texts, and what each is taken
 -- for, as one table by computation. Its readings: one blank where the forms show one, capitals
 -- only, no other byte before, between or after.
-use Rattle.std.specs.Prelude.{ℕ, ◌≡◌, refl, List, [], ◌∷◌, map}
+use Rattle.std.specs.Prelude.{ℕ, ◌≡◌, refl, List, [], ◌∷◌, map, Option, Some, None, Result, Ok, Err}
 use Prim.Native.String.{String}
 use Rattle.text.specs.Digits.{value_by}
 use Rattle.text.specs.Decimal.{is_digit, digits_of, leads, plain, number_in, number_at}
 use Rattle.text.specs.Written.{bytes_of}
 use Rattle.card.specs.Address.{cell_count, cell_room}
 use Rattle.grammar.specs.declared.grammar.Slot.{Slot}
-use Rattle.grammar.specs.declared.grammar.Slot.TheVariants.{X, Y, Z, F, NoSlot}
+use Rattle.grammar.specs.declared.grammar.Slot.TheVariants.{X, Y, Z, F}
+use Rattle.grammar.specs.declared.grammar.Command.{Command}
 use Rattle.grammar.specs.declared.grammar.Command.TheVariants.{Front, Back, Cells}
-use Rattle.grammar.specs.declared.grammar.Parsed.{Parsed}
-use Rattle.grammar.specs.declared.grammar.Parsed.TheVariants.{Malformed, Elsewhere, Here}
-use Rattle.grammar.specs.Grammar.{is_word, is_whole, to_end, slot_of, gave, give, pair_read, pairs_of, write_of, cca_write, cca_read, cca_form, slot_form}
+use Rattle.grammar.specs.declared.grammar.NoCommand.{NoCommand}
+use Rattle.grammar.specs.declared.grammar.NoCommand.TheVariants.{Malformed, Elsewhere}
+use Rattle.grammar.specs.Grammar.{is_word, is_whole, to_end, slot_of, pair_read, steps, pairs_of, cca_form}
 use Rattle.grammar.specs.Grammar.{ccb_form, read_of, read_form, card_form, plain_form, addressed, parse}
 
 -- the number that the form alone gives: 2, 3, or none
-form : Parsed → ℕ
-form Malformed = 2
-form Elsewhere = 3
-form (Here c) = 0
+form : Result Command NoCommand → ℕ
+form (Err Malformed) = 2
+form (Err Elsewhere) = 3
+form (Ok c) = 0
 
 -- of a line to a card of n cells
 number : ℕ → String → ℕ
@@ -210,27 +211,25 @@ expected : List ℕ
 expected = map (λ (e : String × ℕ). e.1) forms
 
 on-either : (map (λ (e : String × ℕ). number cell_count e.0) forms ≡ expected) × (map (λ (e : String × ℕ). number cell_room e.0) forms ≡ expected)
-unfolding form number expected value_by is_digit digits_of leads plain number_in number_at is_word is_whole to_end slot_of gave give pair_read pairs_of write_of cca_write cca_read cca_form slot_form ccb_form read_of read_form card_form plain_form addressed parse
+unfolding form number expected value_by is_digit digits_of leads plain number_in number_at is_word is_whole to_end slot_of pair_read steps pairs_of cca_form ccb_form read_form card_form plain_form addressed parse
 on-either = (refl, refl)
 
 by_size : map (λ (e : ℕ × ℕ). e.0) sizes ≡ map (λ (e : ℕ × ℕ). e.1) sizes
-unfolding form number value_by is_digit digits_of leads plain number_in number_at is_word is_whole to_end slot_of gave give pair_read pairs_of write_of cca_write cca_read cca_form slot_form ccb_form read_of read_form card_form plain_form addressed parse
+unfolding form number value_by is_digit digits_of leads plain number_in number_at is_word is_whole to_end slot_of pair_read steps pairs_of cca_form ccb_form read_form card_form plain_form addressed parse
 by_size = refl
 
 -- document 02, "Thirty-two cells": at sixteen cells as before, `36RDADC X?` front levels, `Y?`
 -- backplane, `Z?` cells, and no other letter
 
-read_before : Slot → Parsed
-read_before X = Here Front
-read_before Y = Here Back
-read_before Z = Here Cells
-read_before F = Malformed
-read_before NoSlot = Malformed
+read_before : Slot → Option Command
+read_before X = Some Front
+read_before Y = Some Back
+read_before Z = Some Cells
+read_before F = None
 
 read-before : (s : Slot) → read_of cell_count s ≡ read_before s
-unfolding read_of read_before
+unfolding read_before
 read-before X = refl
 read-before Y = refl
 read-before Z = refl
 read-before F = refl
-read-before NoSlot = refl

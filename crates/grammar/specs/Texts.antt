@@ -1,30 +1,29 @@
 -- Document 01, "Lines": a command as the text of a line, and all texts of a command. `parse` of
 -- Grammar.antt takes these and no others: "line of another form or length" is all the rest.
-use Rattle.std.specs.Prelude.{ℕ, ◌^◌, ◌≡◌, refl, ◌↔◌, Bool, true, false, ◌&&◌, cond, eqb, ltb, leb}
+use Rattle.std.specs.Prelude.{ℕ, ◌^◌, ◌≡◌, refl, ◌↔◌, Bool, true, false, ◌&&◌, eqb, ltb, leb, Option, Some, None, Ok, Err}
 use Prim.Native.String.{String}
 use mathlib.Core.List.{List, [], ◌∷◌, ◌++◌, map, Permᴰ}
 use Rattle.text.specs.Decimal.{is_digit, max_digits, decimal_from, decimal}
 use Rattle.text.specs.Written.{bytes_of}
-use Rattle.cells.specs.Table.{slots, any_slot}
+use Rattle.cells.specs.Table.{any_slot}
 use Rattle.card.specs.Address.{cell_room}
 use Rattle.grammar.specs.declared.grammar.Pairs.{Pairs}
 use Rattle.grammar.specs.declared.grammar.Slot.{Slot}
-use Rattle.grammar.specs.declared.grammar.Slot.TheVariants.{X, Y, Z, F, NoSlot}
+use Rattle.grammar.specs.declared.grammar.Slot.TheVariants.{X, Y, Z, F}
 use Rattle.grammar.specs.declared.grammar.Command.{Command}
 use Rattle.grammar.specs.declared.grammar.Command.TheVariants.{Move, Where, Trigger, Home, Preset, SetKind, SetConfig, SetState, GetKind, GetConfig}
 use Rattle.grammar.specs.declared.grammar.Command.TheVariants.{GetState, SetSlots, GetSlot, Front, Back, Cells, Upper, Save}
-use Rattle.grammar.specs.declared.grammar.Parsed.TheVariants.{Elsewhere, Here}
-use Rattle.grammar.specs.Grammar.{equals, query, blank, CCA, CCB, RDADC, SS-Z, M-E=, PM-E=, W-E, HOME-E, !-E, parse}
+use Rattle.grammar.specs.declared.grammar.NoCommand.TheVariants.{Elsewhere}
+use Rattle.grammar.specs.Grammar.{equals, query, blank, CCA, CCB, RDADC, SS-Z, M-E=, PM-E=, W-E, HOME-E, !-E, given, parse}
 
 -- ---- a command as text
 
--- the letter of a slot; none has 0, which is no letter of a form
+-- the letter of a slot
 abbrev pub letter_of : Slot → ℕ
 letter_of X = 88
 letter_of Y = 89
 letter_of Z = 90
 letter_of F = 70
-letter_of NoSlot = 0
 
 -- a card command, after the card's address: "The card's address is 36"
 abbrev pub card_line : List ℕ → List ℕ
@@ -38,12 +37,13 @@ abbrev pub read_text : List ℕ → Slot → List ℕ
 read_text word p = card_line (word ++ letter_of p ∷ query ∷ [])
 
 -- a pair of CCB, "one to four different `p=n`", where the slot is given
-abbrev pub given_pair : Bool → Slot → ℕ → List (Slot × ℕ)
-given_pair given p v = cond given ((p, v) ∷ []) []
+abbrev pub given_pair : Slot → Option ℕ → List (Slot × ℕ)
+given_pair s None = []
+given_pair s (Some v) = (s, v) ∷ []
 
 -- the pairs that are given, in the order X Y Z F
 abbrev pub given_pairs : Pairs → List (Slot × ℕ)
-given_pairs p = given_pair p.given.x X p.x ++ (given_pair p.given.y Y p.y ++ (given_pair p.given.z Z p.z ++ given_pair p.given.f F p.f))
+given_pairs p = given_pair X p.x ++ (given_pair Y p.y ++ (given_pair Z p.z ++ given_pair F p.f))
 
 -- each after a blank
 unfoldable pub pairs_text : List (Slot × ℕ) → List ℕ
@@ -77,14 +77,12 @@ command_text Save = card_line SS-Z
 abbrev pub printable : ℕ → Bool
 printable v = ltb v (10 ^ max_digits)
 
--- a slot that is not given has no number
-abbrev pub printable_slot : Bool → ℕ → Bool
-printable_slot given v = cond given (printable v) (eqb v 0)
+abbrev pub printable_slot : Option ℕ → Bool
+printable_slot None = true
+printable_slot (Some v) = printable v
 
 abbrev pub printable_slots : Pairs → Bool
-printable_slots p =
-    (printable_slot p.given.x p.x && printable_slot p.given.y p.y)
-    && (printable_slot p.given.z p.z && printable_slot p.given.f p.f)
+printable_slots p = (printable_slot p.x && printable_slot p.y) && (printable_slot p.z && printable_slot p.f)
 
 -- numbers that have their form, and at least one slot in CCB; and cells 17 to 32 where there are
 -- any
@@ -100,12 +98,8 @@ printable_command n (SetState v) = printable v
 printable_command n GetKind = true
 printable_command n GetConfig = true
 printable_command n GetState = true
-printable_command n (SetSlots p) = any_slot p.given && printable_slots p
-printable_command n (GetSlot NoSlot) = false
-printable_command n (GetSlot X) = true
-printable_command n (GetSlot Y) = true
-printable_command n (GetSlot Z) = true
-printable_command n (GetSlot F) = true
+printable_command n (SetSlots p) = any_slot (given p) && printable_slots p
+printable_command n (GetSlot s) = true
 printable_command n Front = true
 printable_command n Back = true
 printable_command n Cells = true
@@ -129,8 +123,8 @@ pub data SaysOther (n : ℕ) : List ℕ → Type 0 where
 
 -- a line is a command where it is one of its texts, and nowhere else
 pub record Texts (n : ℕ) : Type 0 where
-  pub here : (text : List ℕ) (c : Command) → (parse n text ≡ Here c) ↔ Says n c text
-  pub elsewhere : (text : List ℕ) → (parse n text ≡ Elsewhere) ↔ SaysOther n text
+  pub here : (text : List ℕ) (c : Command) → (parse n text ≡ Ok c) ↔ Says n c text
+  pub elsewhere : (text : List ℕ) → (parse n text ≡ Err Elsewhere) ↔ SaysOther n text
 
 -- the texts as they are written, one of each command
 abbrev rows : List (Command × String)
@@ -146,7 +140,7 @@ rows =
     ∷ (GetKind, "36CCA Y?")
     ∷ (GetConfig, "36CCA Z?")
     ∷ (GetState, "36CCA F?")
-    ∷ (SetSlots (record { given = slots true true false true; x = 41; y = 192; z = 0; f = 5 }), "36CCB X=41 Y=192 F=5")
+    ∷ (SetSlots (record { x = Some 41; y = Some 192; z = None; f = Some 5 }), "36CCB X=41 Y=192 F=5")
     ∷ (GetSlot X, "36CCB X?")
     ∷ (GetSlot Y, "36CCB Y?")
     ∷ (GetSlot Z, "36CCB Z?")

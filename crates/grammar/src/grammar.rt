@@ -1,14 +1,14 @@
 // The forms of a line: from its bytes to a command.
 ghost use Rattle.std.specs.Prelude.{◌≡◌, ◌≤◌, length};
+ghost use Rattle.cells.specs.Table.{any_slot};
+ghost use Rattle.text.specs.Decimal.{number_at};
 ghost use Rattle.card.specs.Address.{cells_for};
 ghost use Rattle.grammar.specs.Grammar;
 ghost use Rattle.grammar.specs.Grammar.{longest_line, char_at, is_word, is_whole, to_end, slot_of};
-ghost use Rattle.grammar.specs.Grammar.{write_of, cca_write, cca_read, cca_form, slot_form, ccb_form, read_of, read_form};
-ghost use Rattle.grammar.specs.Grammar.{card_form, numbered, plain_form, parse};
+ghost use Rattle.grammar.specs.Grammar.{write_of, cca_read, cca_form, ccb_form, read_of, read_form, card_form, plain_form, parse};
 
 use crate::pairs::all_pairs;
 use card::limits::{LARGE, Number};
-use cells::table::Slots;
 
 // The most bytes that a line may have.
 const LONGEST_LINE: usize = 80;
@@ -16,21 +16,19 @@ const LONGEST_LINE: usize = 80;
 // The slots that one line gives, each with its number.
 #[derive(Clone, Copy)]
 pub struct Pairs {
-    pub given: Slots,
-    pub x: Number,
-    pub y: Number,
-    pub z: Number,
-    pub f: Number,
+    pub x: Option<Number>,
+    pub y: Option<Number>,
+    pub z: Option<Number>,
+    pub f: Option<Number>,
 }
 
 // A slot's letter.
-#[derive(Clone, Copy)]
+#[derive(Clone, Copy, PartialEq, Eq)]
 pub enum Slot {
     X,
     Y,
     Z,
     F,
-    NoSlot,
 }
 
 // What a well-formed line asks for.
@@ -56,29 +54,11 @@ pub enum Command {
     Save,
 }
 
-// What the bytes of a line are: of another form, a command for another card, or a command for this
-// one.
-#[derive(Clone, Copy)]
-pub enum Parsed {
+// Why a line is no command of this card: it is of no form, or it is a command for another card.
+#[derive(Clone, Copy, PartialEq, Eq)]
+pub enum NoCommand {
     Malformed,
     Elsewhere,
-    Here(Command),
-}
-
-// How far the pairs of a line have been read: whether they were well formed so far, and where the
-// next one starts.
-#[derive(Clone, Copy)]
-pub struct Reading {
-    pub ok: bool,
-    pub pairs: Pairs,
-    pub at: usize,
-}
-
-// A number that ends its line, if there is one.
-#[derive(Clone, Copy)]
-pub struct Ending {
-    pub ok: bool,
-    pub value: Number,
 }
 
 // The byte at a place; past the end 0, which no form has.
@@ -94,17 +74,16 @@ fn is_word(text: &[u8], at: usize, word: &[u8]) -> bool
     requires word_len_bound { length word.now ≤ 8 }
     ensures { result ≡ is_word word.now at text.now }
 {
-    let mut i: usize = 0;
-    while i < word.len() {
+    for i in 0..word.len() {
         if char_at(text, at + i) != word[i] {
             return false;
         }
-        i += 1;
     }
     true
 }
 
 // Whether a line is this word and no more.
+#[tactic(auto, unfolding(crate::specs::Grammar::is_whole))]
 fn is_whole(text: &[u8], word: &[u8]) -> bool
     requires { length word.now ≤ 8 }
     ensures { result ≡ is_whole word.now text.now }
@@ -112,158 +91,128 @@ fn is_whole(text: &[u8], word: &[u8]) -> bool
     is_word(text, 0, word) & (text.len() == word.len())
 }
 
-// The number from a place to the end of the line.
-fn to_end(text: &[u8], at: usize) -> Ending
-    ensures { result ≡ to_end text.now at }
+// The number at a place, which may lie past the end.
+#[tactic(auto, using(crate::proofs::Words::number_past))]
+pub(crate) fn number_from(text: &[u8], at: usize) -> text::Number
+    ensures { result ≡ number_at text.now at }
 {
     if at <= text.len() {
-        let n = text::number_at(text, at);
-        let next = n.next;
-        if n.value.is_some() & (next == text.len()) {
-            return Ending {
-                ok: true,
-                value: n.value.unwrap_or(0),
-            };
+        text::number_at(text, at)
+    } else {
+        text::Number {
+            value: None,
+            next: at,
         }
     }
-    Ending {
-        ok: false,
-        value: 0,
+}
+
+// The number from a place to the end of the line.
+#[tactic(auto, unfolding(crate::specs::Grammar::to_end))]
+fn to_end(text: &[u8], at: usize) -> Option<Number>
+    ensures { result ≡ to_end text.now at }
+{
+    let number = number_from(text, at);
+    if number.next == text.len() {
+        number.value
+    } else {
+        None
     }
 }
 
 // The slot that a letter names.
-pub(crate) fn slot_of(letter: u8) -> Slot
+#[tactic(auto, unfolding(crate::specs::Grammar::slot_of))]
+pub(crate) fn slot_of(letter: u8) -> Option<Slot>
     ensures { result ≡ slot_of letter }
 {
-    if letter == b'X' {
-        Slot::X
-    } else if letter == b'Y' {
-        Slot::Y
-    } else if letter == b'Z' {
-        Slot::Z
-    } else if letter == b'F' {
-        Slot::F
-    } else {
-        Slot::NoSlot
+    match letter {
+        b'X' => Some(Slot::X),
+        b'Y' => Some(Slot::Y),
+        b'Z' => Some(Slot::Z),
+        b'F' => Some(Slot::F),
+        _ => None,
     }
 }
 
 // The command of `36CCA p=v`.
-fn write_of(p: Slot, v: Number) -> Parsed
-    ensures { result ≡ write_of p v }
+fn write_of(slot: Slot, v: Number) -> Command
+    ensures { result ≡ write_of slot v }
 {
-    match p {
-        Slot::X => Parsed::Here(Command::Preset(v)),
-        Slot::Y => Parsed::Here(Command::SetKind(v)),
-        Slot::Z => Parsed::Here(Command::SetConfig(v)),
-        Slot::F => Parsed::Here(Command::SetState(v)),
-        Slot::NoSlot => Parsed::Malformed,
-    }
-}
-
-// The same, of a number that may not be there.
-fn cca_write(p: Slot, e: Ending) -> Parsed
-    ensures { result ≡ cca_write p e }
-{
-    if e.ok {
-        write_of(p, e.value)
-    } else {
-        Parsed::Malformed
+    match slot {
+        Slot::X => Command::Preset(v),
+        Slot::Y => Command::SetKind(v),
+        Slot::Z => Command::SetConfig(v),
+        Slot::F => Command::SetState(v),
     }
 }
 
 // The command of `36CCA p?`.
-fn cca_read(p: Slot) -> Parsed
-    ensures { result ≡ cca_read p }
+fn cca_read(slot: Slot) -> Option<Command>
+    ensures { result ≡ cca_read slot }
 {
-    match p {
-        Slot::X => Parsed::Malformed,
-        Slot::Y => Parsed::Here(Command::GetKind),
-        Slot::Z => Parsed::Here(Command::GetConfig),
-        Slot::F => Parsed::Here(Command::GetState),
-        Slot::NoSlot => Parsed::Malformed,
+    match slot {
+        Slot::X => None,
+        Slot::Y => Some(Command::GetKind),
+        Slot::Z => Some(Command::GetConfig),
+        Slot::F => Some(Command::GetState),
     }
 }
 
 // What follows `36CCA `.
-fn cca_form(text: &[u8]) -> Parsed
+#[tactic(auto, unfolding(crate::specs::Grammar::cca_form))]
+fn cca_form(text: &[u8]) -> Option<Command>
     ensures { result ≡ cca_form text.now }
 {
-    let p = slot_of(char_at(text, 6));
+    let slot = slot_of(char_at(text, 6))?;
     let sign = char_at(text, 7);
     if sign == b'=' {
-        return cca_write(p, to_end(text, 8));
+        return Some(write_of(slot, to_end(text, 8)?));
     }
     if (sign == b'?') & (text.len() == 8) {
-        return cca_read(p);
+        return cca_read(slot);
     }
-    Parsed::Malformed
-}
-
-// The command of `36CCB p?`.
-fn slot_form(p: Slot) -> Parsed
-    ensures { result ≡ slot_form p }
-{
-    match p {
-        Slot::X => Parsed::Here(Command::GetSlot(Slot::X)),
-        Slot::Y => Parsed::Here(Command::GetSlot(Slot::Y)),
-        Slot::Z => Parsed::Here(Command::GetSlot(Slot::Z)),
-        Slot::F => Parsed::Here(Command::GetSlot(Slot::F)),
-        Slot::NoSlot => Parsed::Malformed,
-    }
+    None
 }
 
 // What follows `36CCB`.
-fn ccb_form(text: &[u8]) -> Parsed
+#[tactic(auto, unfolding(crate::specs::Grammar::ccb_form))]
+fn ccb_form(text: &[u8]) -> Option<Command>
     requires { length text.now ≤ longest_line }
     ensures { result ≡ ccb_form text.now }
 {
     let framed = (char_at(text, 5) == b' ') & (char_at(text, 7) == b'?');
     if framed & (text.len() == 8) {
-        slot_form(slot_of(char_at(text, 6)))
-    } else {
-        all_pairs(text, 5)
+        return Some(Command::GetSlot(slot_of(char_at(text, 6))?));
     }
+    Some(Command::SetSlots(all_pairs(text, 5)?))
 }
 
-// The command of `36RDADC F?`, which only a large card has.
-fn upper_form(size: u8) -> Parsed
-    ensures { result ≡ read_of (cells_for size) Slot.F }
+// The command of `36RDADC p?`; F only a large card has.
+#[tactic(auto, unfolding(card::specs::Address::cells_for))]
+fn read_of(slot: Slot, size: u8) -> Option<Command>
+    ensures { result ≡ read_of (cells_for size) slot }
 {
-    if size == LARGE {
-        Parsed::Here(Command::Upper)
-    } else {
-        Parsed::Malformed
-    }
-}
-
-// The command of `36RDADC p?`.
-fn read_of(p: Slot, size: u8) -> Parsed
-    ensures { result ≡ read_of (cells_for size) p }
-{
-    match p {
-        Slot::X => Parsed::Here(Command::Front),
-        Slot::Y => Parsed::Here(Command::Back),
-        Slot::Z => Parsed::Here(Command::Cells),
-        Slot::F => upper_form(size),
-        Slot::NoSlot => Parsed::Malformed,
+    match slot {
+        Slot::X => Some(Command::Front),
+        Slot::Y => Some(Command::Back),
+        Slot::Z => Some(Command::Cells),
+        Slot::F => (size == LARGE).then_some(Command::Upper),
     }
 }
 
 // What follows `36RDADC `.
-fn read_form(text: &[u8], size: u8) -> Parsed
+#[tactic(auto, unfolding(crate::specs::Grammar::read_form))]
+fn read_form(text: &[u8], size: u8) -> Option<Command>
     ensures { result ≡ read_form (cells_for size) text.now }
 {
     if (char_at(text, 9) == b'?') & (text.len() == 10) {
-        read_of(slot_of(char_at(text, 8)), size)
-    } else {
-        Parsed::Malformed
+        return read_of(slot_of(char_at(text, 8))?, size);
     }
+    None
 }
 
 // A card command, after the two digits of a card's address.
-fn card_form(text: &[u8], size: u8) -> Parsed
+#[tactic(auto, unfolding(crate::specs::Grammar::card_form))]
+fn card_form(text: &[u8], size: u8) -> Option<Command>
     requires { length text.now ≤ longest_line }
     ensures { result ≡ card_form (cells_for size) text.now }
 {
@@ -276,83 +225,43 @@ fn card_form(text: &[u8], size: u8) -> Parsed
     if is_word(text, 2, b"RDADC ") {
         return read_form(text, size);
     }
-    if is_word(text, 2, b"SS Z") & (text.len() == 6) {
-        return Parsed::Here(Command::Save);
-    }
-    Parsed::Malformed
-}
-
-// `M E=` and its number.
-fn moved(e: Ending) -> Parsed
-    ensures { result ≡ numbered Command.Move e }
-{
-    if e.ok {
-        Parsed::Here(Command::Move(e.value))
-    } else {
-        Parsed::Malformed
-    }
-}
-
-// `PM E=` and its number.
-fn triggered(e: Ending) -> Parsed
-    ensures { result ≡ numbered Command.Trigger e }
-{
-    if e.ok {
-        Parsed::Here(Command::Trigger(e.value))
-    } else {
-        Parsed::Malformed
-    }
+    (is_word(text, 2, b"SS Z") & (text.len() == 6)).then_some(Command::Save)
 }
 
 // The commands with no address.
-fn plain_form(text: &[u8]) -> Parsed
+#[tactic(auto, unfolding(crate::specs::Grammar::plain_form))]
+fn plain_form(text: &[u8]) -> Option<Command>
     ensures { result ≡ plain_form text.now }
 {
     if is_word(text, 0, b"M E=") {
-        return moved(to_end(text, 4));
+        return Some(Command::Move(to_end(text, 4)?));
     }
     if is_word(text, 0, b"PM E=") {
-        return triggered(to_end(text, 5));
+        return Some(Command::Trigger(to_end(text, 5)?));
     }
     if is_whole(text, b"W E") {
-        return Parsed::Here(Command::Where);
+        return Some(Command::Where);
     }
-    if is_whole(text, b"HOME E") | is_whole(text, b"! E") {
-        return Parsed::Here(Command::Home);
-    }
-    Parsed::Malformed
+    (is_whole(text, b"HOME E") | is_whole(text, b"! E")).then_some(Command::Home)
 }
 
-// A command for another card is only known as such.
-fn addressed(here: bool, p: Parsed) -> Parsed
-    ensures { result ≡ Grammar.addressed here p }
-{
-    if here {
-        return p;
-    }
-    match p {
-        Parsed::Malformed => Parsed::Malformed,
-        Parsed::Elsewhere => Parsed::Elsewhere,
-        Parsed::Here(_) => Parsed::Elsewhere,
-    }
-}
-
-// What the bytes of a line are: any bytes will do, and those of no form are malformed.
-pub fn parse_line(text: &[u8], size: u8) -> Parsed
+// What the bytes of a line are: any bytes will do, and those of no form are malformed. A command
+// for another card is only known as such.
+#[tactic(auto, unfolding(crate::specs::Grammar::parse, crate::specs::Grammar::addressed))]
+pub fn parse_line(text: &[u8], size: u8) -> Result<Command, NoCommand>
     ensures { result ≡ parse (cells_for size) text.now }
 {
-    let n = text.len();
-    if n < 1 {
-        return Parsed::Malformed;
-    }
-    if LONGEST_LINE < n {
-        return Parsed::Malformed;
+    if text.is_empty() | (LONGEST_LINE < text.len()) {
+        return Err(NoCommand::Malformed);
     }
     let a = char_at(text, 0);
     let b = char_at(text, 1);
     if text::is_digit(a) & text::is_digit(b) {
-        addressed((a == b'3') & (b == b'6'), card_form(text, size))
-    } else {
-        plain_form(text)
+        let command = card_form(text, size).ok_or(NoCommand::Malformed)?;
+        if (a == b'3') & (b == b'6') {
+            return Ok(command);
+        }
+        return Err(NoCommand::Elsewhere);
     }
+    plain_form(text).ok_or(NoCommand::Malformed)
 }
