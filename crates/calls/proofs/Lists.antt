@@ -4,11 +4,9 @@ use Prim.Native.Nat.{ℕ}
 use mathlib.Core.Path.{◌≡◌, refl, sym, ap}
 use mathlib.Core.Bool.{Bool, true, false, cond}
 use mathlib.Core.List.{List}
-use lib.Dec.{eqb, ltb}
+use lib.Dec.{eqb}
 use lib.ListN.{length}
 use Rattle.card.specs.declared.card.Card.{Card}
-use Rattle.card.specs.declared.change.Change.TheVariants.{Nothing}
-use Rattle.card.specs.declared.context.Context.{Context}
 use Rattle.card.specs.Change.{changed}
 use Rattle.card.specs.Context.{context_of}
 use Rattle.card.specs.Fresh.{fresh_of}
@@ -21,10 +19,8 @@ use Rattle.ticks.specs.Settled.{Settled, AlikeTicks}
 use Rattle.ticks.proofs.Sleep.{fresh-settled, tick-on-settled, same-ticks-on, edit-settled, powered-settled}
 use Rattle.saved.specs.Record.{load_number}
 use Rattle.saved.proofs.Records.{loaded-by}
-use Rattle.grammar.specs.declared.grammar.Parsed.{Parsed}
-use Rattle.grammar.specs.declared.grammar.Parsed.TheVariants.{Malformed, Elsewhere, Here}
-use Rattle.grammar.specs.Grammar.{parse}
-use Rattle.lines.specs.Line.{decision, decision_for, refused, shortest_reply, line_decision, line_change, line_outcome}
+use Rattle.lines.specs.Line.{line_decision, line_change, line_outcome}
+use Rattle.lines.proofs.Decisions.{no_change}
 use Rattle.calls.specs.Calls.{Call, after_call, answer, end, answers}
 use Rattle.calls.specs.Calls.Call.{line, load, tick}
 use Rattle.calls.specs.Demand3.{SameCall, SameCalls, AlikeReply, AlikeReplies, Demand3}
@@ -40,19 +36,10 @@ unfolding line_outcome
 line-edit n c text reply store = changed-edit n c (line_change n c text reply store)
 
 -- a line that is refused changes nothing
-short-nothing : (n : ℕ) (x : Context) (b : Bool) (store : ℕ) (p : Parsed) → let d = cond b (refused 1) (decision_for n x store p) in
-    eqb d.k 0 ≡ false → d.change ≡ Nothing
-unfolding decision_for decision
-short-nothing n x true store p e = refl
-short-nothing n x false store Malformed e = refl
-short-nothing n x false store Elsewhere e = refl
-short-nothing n x false store (Here command) e = rw e
-
 pub refused-kept : (n : ℕ) (c : Card) (text : List ℕ) (reply store : ℕ) → eqb (line_outcome n c text reply store).k 0 ≡ false
     → (line_outcome n c text reply store).card ≡ c
-unfolding changed line_decision line_outcome
-refused-kept n c text reply store e =
-    ap (changed n c) (short-nothing n (context_of n c) (ltb reply shortest_reply) store (parse n text) e)
+unfolding changed line_outcome
+refused-kept n c text reply store e = ap (changed n c) (no_change (line_decision n (context_of n c) text reply store) e)
 
 module _ (n : ℕ) where
   -- ---- one call

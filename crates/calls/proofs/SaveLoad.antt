@@ -29,11 +29,13 @@ use Rattle.saved.proofs.Records
 use Rattle.grammar.specs.declared.grammar.Command.{Command}
 use Rattle.grammar.specs.declared.grammar.Command.TheVariants.{Move, Where, Trigger, Home, Preset, SetKind, SetConfig, SetState, GetKind, GetConfig}
 use Rattle.grammar.specs.declared.grammar.Command.TheVariants.{GetState, SetSlots, GetSlot, Front, Back, Cells, Upper, Save}
-use Rattle.grammar.specs.declared.grammar.Parsed.{Parsed}
-use Rattle.grammar.specs.declared.grammar.Parsed.TheVariants.{Malformed, Elsewhere, Here}
+use Rattle.std.specs.Prelude.{Option, Some, None, Result, Ok, Err}
+use Rattle.grammar.specs.declared.grammar.NoCommand.{NoCommand}
+use Rattle.lines.specs.declared.refused.Refused.{Refused}
+use Rattle.lines.specs.declared.refused.Refused.TheVariants.{NoRoom}
 use Rattle.grammar.specs.Grammar.{is_word, is_whole, card_form, plain_form, addressed, parse}
 use Rattle.lines.specs.Refusal.{refusal}
-use Rattle.lines.specs.Line.{response_to, decision, decision_for, refused, shortest_reply, line_decision, line_outcome, store_after}
+use Rattle.lines.specs.Line.{saves, change_for, response_to, response_in, decided, decision, decision_for, shortest_reply, line_decision, line_outcome, store_after}
 use Rattle.calls.specs.Calls.{saved_bytes, end}
 use Rattle.calls.specs.SaveLoad.{whole_record, Saves, Restored, Written, FromOldForm, SaveLoad}
 use Rattle.lines.proofs.Decisions.{when-none}
@@ -45,7 +47,7 @@ never : {A : Type 0} → false ≡ true → A
 never e = absurd (true≢false (sym e))
 
 -- it has room for the record: of all commands only `36SS Z` gives it
-command-room : (n : ℕ) (x : Context) (store : ℕ) (command : Command) → (response_to x command).saves ≡ true → refusal n x store command ≡ 0
+command-room : (n : ℕ) (x : Context) (store : ℕ) (command : Command) → saves (response_to x command) ≡ true → refusal n x store command ≡ None
     → record_length n config_width ≤ store
 unfolding response_to refusal
 command-room n x store (Move v) g e = never g
@@ -65,22 +67,26 @@ command-room n x store Front g e = never g
 command-room n x store Back g e = never g
 command-room n x store Cells g e = never g
 command-room n x store Upper g e = never g
-command-room n x store Save g e = ltb-false store (record_length n config_width) (when-none (ltb store (record_length n config_width)) 0 e)
+command-room n x store Save g e = ltb-false store (record_length n config_width) (when-none (ltb store (record_length n config_width)) _ e)
 
-room : (n : ℕ) (x : Context) (b : Bool) (store : ℕ) (p : Parsed) → let d = cond b (refused 1) (decision_for n x store p) in
-    d.k ≡ 0 → d.response.saves ≡ true → whole_record n ≤ store
+room : (n : ℕ) (x : Context) (b : Bool) (store : ℕ) (p : Result Command NoCommand)
+    → saves (response_in (cond b (Err NoRoom) (decision_for n x store p))) ≡ true → whole_record n ≤ store
 unfolding decision_for decision
-room n x true store p e g = never g
-room n x false store Malformed e g = never g
-room n x false store Elsewhere e g = never g
-room n x false store (Here command) e g = command-room n x store command g e
+room n x true store p g = never g
+room n x false store (Err none) g = never g
+room n x false store (Ok command) g = go (refusal n x store command) refl g
+  where
+    go : (o : Option Refused) → refusal n x store command ≡ o → saves (response_in (decided o (change_for x command) (response_to x command))) ≡ true
+        → whole_record n ≤ store
+    go None e g = command-room n x store command g e
+    go (Some why) e g = never g
 
 pub save-room : (n : ℕ) (c : Card) (text : List ℕ) (reply store : ℕ) → Saves n c text reply store → whole_record n ≤ store
 unfolding line_decision line_outcome
-save-room n c text reply store s = room n (context_of n c) (ltb reply shortest_reply) store (parse n text) s.accepted s.saves
+save-room n c text reply store s = room n (context_of n c) (ltb reply shortest_reply) store (parse n text) s.saves
 
 module _ (n : ℕ) (c : Card) (text : List ℕ) (reply store : ℕ) (s : Saves n c text reply store) where
-  both : (eqb (line_outcome n c text reply store).k 0 && (line_outcome n c text reply store).response.saves) ≡ true
+  both : (eqb (line_outcome n c text reply store).k 0 && saves (line_outcome n c text reply store).response) ≡ true
   both = rw (eq-eqb (line_outcome n c text reply store).k 0 s.accepted) s.saves
 
   -- what it writes is the record
@@ -97,7 +103,7 @@ store_is n c text reply store ok s =
 
 -- ---- the theorem
 
-parses : (n : ℕ) → parse n (bytes_of "36SS Z") ≡ Here Save
+parses : (n : ℕ) → parse n (bytes_of "36SS Z") ≡ Ok Save
 unfolding is_digit is_word is_whole card_form plain_form addressed parse
 parses n = refl
 
@@ -106,7 +112,7 @@ unfolding line_decision line_outcome decision_for decision response_to refusal
 line-saves n c reply store hr hs =
     record {
       accepted = rw (le-ltb reply shortest_reply hr, parses n, le-ltb store (whole_record n) hs);
-      saves = rw (le-ltb reply shortest_reply hr, parses n);
+      saves = rw (le-ltb reply shortest_reply hr, parses n, le-ltb store (whole_record n) hs);
     }
 
 restored : (n : ℕ) (c : Card) → valid_card n c ≡ true → (d : Card) → Restored n c (loaded n d (record_of n config_width c))

@@ -35,7 +35,7 @@ module _ (n : ℕ) where
   -- "the bytes that `36SS Z` wrote"
   unfoldable pub saved_bytes : Card → (text : List ℕ) → (reply store : ℕ) → List ℕ
   saved_bytes c text reply store =
-      cond (eqb (line_outcome n c text reply store).k 0 && (line_outcome n c text reply store).response.saves) (record_of n config_width c) []
+      cond (eqb (line_outcome n c text reply store).k 0 && Line.saves (line_outcome n c text reply store).response) (record_of n config_width c) []
 
   -- the card after a call, and the call's answer
   unfoldable pub after_call : Card → Call → Card

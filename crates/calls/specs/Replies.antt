@@ -28,11 +28,11 @@ use Rattle.ticks.specs.Levels.{effective_sample, driven_word, levels_from, lines
 use Rattle.ticks.specs.Tick.{read_now, read_last, named, turn_at, outputs_below, turned, tick}
 use Rattle.saved.specs.Record.{big_endian, cell_field, connector_field, fields_from, encode, big_value, cell_in, connector_in, normal_cell, record_of, same_bytes}
 use Rattle.saved.specs.Record.{load_number_as, loaded_as, load_number, loaded}
-use Rattle.grammar.specs.Grammar.{is_word, is_whole, to_end, slot_of, gave, give, pair_read, pairs_of, write_of, cca_write, cca_read, cca_form, slot_form, ccb_form}
-use Rattle.grammar.specs.Grammar.{read_of, read_form, card_form, plain_form, addressed, parse}
-use Rattle.lines.specs.Refusal.{alone, refusal}
+use Rattle.grammar.specs.Grammar.{is_word, is_whole, to_end, slot_of, pair_read, steps, pairs_of, cca_form, ccb_form}
+use Rattle.grammar.specs.Grammar.{read_form, card_form, plain_form, addressed, parse}
+use Rattle.lines.specs.Refusal.{refusal}
 use Rattle.lines.specs.Line
-use Rattle.lines.specs.Line.{shortest_reply, slot_index, change_for, response_to, decision, decision_for, line_decision, line_outcome, reply_of}
+use Rattle.lines.specs.Line.{shortest_reply, change_for, response_to, decision, decision_for, line_decision, line_outcome, reply_of}
 use Rattle.calls.specs.Runs.{answers_of}
 use Rattle.calls.specs.Calls
 use Rattle.calls.specs.Calls.{Call, Reply, saved_bytes, after_call, answer, answers}
@@ -173,10 +173,10 @@ large_session =
     ∷ []
 
 replies : answers cell_count fresh (map (λ (e : Call × Reply). e.0) session) ≡ map (λ (e : Call × Reply). e.1) session
-unfolding line_with said refused tick_of constants pushed inputs bytes ones ones_in with_bit word_of bit_at listed value_by is_digit digits_of leads plain number_in number_at decimal_from decimal row_of slots_of taken raised work_as work_out stirred_as stirred disagree wakes level_at reads_levels reads slots_read mixed view effective_sample lines_of move set_trigger home current_cell current_connector put_cell put_connectors typed set_type configured_state configured set_config stated_as stated set_state wired set_slots set_connector_type set_source config_shown state_as fresh preset_table setting_of offered read_now read_last named turn_at outputs_below turned tick permitted_base bad_place bad_cell_type bad_connector_type bad_clock bad_config unused_slot bad_address no_config bad_state_as bad_state no_state front_driven valid_slot valid_slots valid_cell valid_connector every valid big_endian cell_field connector_field fields_from encode big_value cell_in connector_in normal_cell record_of same_bytes load_number_as loaded_as load_number loaded is_word is_whole to_end slot_of gave give pair_read pairs_of write_of cca_write cca_read cca_form slot_form ccb_form read_of read_form card_form plain_form addressed parse alone refusal slot_index changed change_for response_to decision decision_for line_decision line_outcome reply_of Line.line_reply saved_bytes after_call answer answers_of kind_at source_at with_kind with_source each from_each well_formed driven_word levels_from
+unfolding line_with said refused tick_of constants pushed inputs bytes ones ones_in with_bit word_of bit_at listed value_by is_digit digits_of leads plain number_in number_at decimal_from decimal row_of slots_of taken raised work_as work_out stirred_as stirred disagree wakes level_at reads_levels reads slots_read mixed view effective_sample lines_of move set_trigger home current_cell current_connector put_cell put_connectors typed set_type configured_state configured set_config stated_as stated set_state wired set_slots set_connector_type set_source config_shown state_as fresh preset_table setting_of offered read_now read_last named turn_at outputs_below turned tick permitted_base bad_place bad_cell_type bad_connector_type bad_clock bad_config unused_slot bad_address no_config bad_state_as bad_state no_state front_driven valid_slot valid_slots valid_cell valid_connector every valid big_endian cell_field connector_field fields_from encode big_value cell_in connector_in normal_cell record_of same_bytes load_number_as loaded_as load_number loaded is_word is_whole to_end slot_of pair_read steps pairs_of cca_form ccb_form read_form card_form plain_form addressed parse refusal changed change_for response_to decision decision_for line_decision line_outcome reply_of Line.line_reply saved_bytes after_call answer answers_of kind_at source_at with_kind with_source each from_each well_formed driven_word levels_from
 replies = refl
 
 -- the number of ones is left as it is written: counted out, it takes as many steps as the word says
 large-replies : answers cell_room (fresh_of cell_room) (map (λ (e : Call × Reply). e.0) large_session) ≡ map (λ (e : Call × Reply). e.1) large_session
-unfolding line_with said refused with_bit word_of bit_at listed value_by is_digit digits_of leads plain number_in number_at decimal_from decimal row_of slots_of taken raised work_as work_out stirred_as stirred disagree wakes level_at reads_levels reads slots_read mixed view effective_sample lines_of move set_trigger home current_cell current_connector put_cell put_connectors typed set_type configured_state configured set_config stated_as stated set_state wired set_slots set_connector_type set_source config_shown state_as fresh preset_table setting_of offered read_now read_last named turn_at outputs_below turned tick permitted_base bad_place bad_cell_type bad_connector_type bad_clock bad_config unused_slot bad_address no_config bad_state_as bad_state no_state front_driven valid_slot valid_slots valid_cell valid_connector every valid big_endian cell_field connector_field fields_from encode big_value cell_in connector_in normal_cell record_of same_bytes load_number_as loaded_as load_number loaded is_word is_whole to_end slot_of gave give pair_read pairs_of write_of cca_write cca_read cca_form slot_form ccb_form read_of read_form card_form plain_form addressed parse alone refusal slot_index changed change_for response_to decision decision_for line_decision line_outcome reply_of Line.line_reply saved_bytes after_call answer answers_of kind_at source_at with_kind with_source each from_each well_formed driven_word levels_from
+unfolding line_with said refused with_bit word_of bit_at listed value_by is_digit digits_of leads plain number_in number_at decimal_from decimal row_of slots_of taken raised work_as work_out stirred_as stirred disagree wakes level_at reads_levels reads slots_read mixed view effective_sample lines_of move set_trigger home current_cell current_connector put_cell put_connectors typed set_type configured_state configured set_config stated_as stated set_state wired set_slots set_connector_type set_source config_shown state_as fresh preset_table setting_of offered read_now read_last named turn_at outputs_below turned tick permitted_base bad_place bad_cell_type bad_connector_type bad_clock bad_config unused_slot bad_address no_config bad_state_as bad_state no_state front_driven valid_slot valid_slots valid_cell valid_connector every valid big_endian cell_field connector_field fields_from encode big_value cell_in connector_in normal_cell record_of same_bytes load_number_as loaded_as load_number loaded is_word is_whole to_end slot_of pair_read steps pairs_of cca_form ccb_form read_form card_form plain_form addressed parse refusal changed change_for response_to decision decision_for line_decision line_outcome reply_of Line.line_reply saved_bytes after_call answer answers_of kind_at source_at with_kind with_source each from_each well_formed driven_word levels_from
 large-replies = refl

@@ -25,9 +25,9 @@ use Rattle.card.specs.Valid.{permitted_base, bad_place, bad_cell_type, bad_confi
 use Rattle.ticks.specs.Reading.{level_at, reads_levels, reads, slots_read, mixed, view}
 use Rattle.ticks.specs.Levels.{effective_sample, driven_word, levels_from, lines_of}
 use Rattle.ticks.specs.Tick.{read_now, read_last, named, turn_at, outputs_below, turned, tick}
-use Rattle.grammar.specs.Grammar.{is_word, is_whole, to_end, slot_of, gave, give, pair_read, pairs_of, write_of, cca_write, cca_read, cca_form, slot_form, ccb_form}
-use Rattle.grammar.specs.Grammar.{read_of, read_form, card_form, plain_form, addressed, parse}
-use Rattle.lines.specs.Refusal.{alone, refusal}
+use Rattle.grammar.specs.Grammar.{is_word, is_whole, to_end, slot_of, pair_read, steps, pairs_of, cca_form, ccb_form}
+use Rattle.grammar.specs.Grammar.{read_form, card_form, plain_form, addressed, parse}
+use Rattle.lines.specs.Refusal.{refusal}
 use Rattle.lines.specs.Line
 use Rattle.lines.specs.Line.{shortest_reply, change_for, response_to, decision, decision_for, line_decision, line_outcome, reply_of}
 use Rattle.calls.specs.Runs.{answers_of}
@@ -214,5 +214,5 @@ pub RequiredExamples : Type 0
 RequiredExamples = map (λ (e : Entry × Entry). e.0) box ≡ map (λ (e : Entry × Entry). e.1) box
 
 pub one_table : RequiredExamples
-unfolding RequiredExamples low high read lookup jk11 triggered clocked taking offered_of line quick_with quick run counter_run said accepted ran ones ones_in with_bit word_of bit_at listed value_by is_digit digits_of leads plain number_in number_at decimal_from decimal row_of slots_of taken raised work_as work_out stirred_as stirred disagree wakes level_at reads_levels reads slots_read mixed view effective_sample lines_of move current_cell current_connector put_cell put_connectors typed set_type configured_state configured set_config stated_as stated set_state wired set_slots set_source config_shown state_as fresh preset_table setting_of offered read_now read_last named turn_at outputs_below turned tick permitted_base bad_place bad_cell_type bad_config unused_slot bad_address no_config bad_state_as bad_state no_state is_word is_whole to_end slot_of gave give pair_read pairs_of write_of cca_write cca_read cca_form slot_form ccb_form read_of read_form card_form plain_form addressed parse alone refusal changed change_for response_to decision decision_for line_decision line_outcome reply_of Line.line_reply saved_bytes after_call answer answers_of kind_at source_at with_kind with_source each from_each well_formed driven_word levels_from
+unfolding RequiredExamples low high read lookup jk11 triggered clocked taking offered_of line quick_with quick run counter_run said accepted ran ones ones_in with_bit word_of bit_at listed value_by is_digit digits_of leads plain number_in number_at decimal_from decimal row_of slots_of taken raised work_as work_out stirred_as stirred disagree wakes level_at reads_levels reads slots_read mixed view effective_sample lines_of move current_cell current_connector put_cell put_connectors typed set_type configured_state configured set_config stated_as stated set_state wired set_slots set_source config_shown state_as fresh preset_table setting_of offered read_now read_last named turn_at outputs_below turned tick permitted_base bad_place bad_cell_type bad_config unused_slot bad_address no_config bad_state_as bad_state no_state is_word is_whole to_end slot_of pair_read steps pairs_of cca_form ccb_form read_form card_form plain_form addressed parse refusal changed change_for response_to decision decision_for line_decision line_outcome reply_of Line.line_reply saved_bytes after_call answer answers_of kind_at source_at with_kind with_source each from_each well_formed driven_word levels_from
 one_table = refl

@@ -10,6 +10,7 @@ use Rattle.card.specs.Edits.{cleared_cell}
 use Rattle.card.specs.Fresh.{fresh_of}
 use Rattle.saved.specs.Record.{narrow_width, config_width, record_length, trigger_in, load_cells, connectors_in}
 use Rattle.saved.specs.Record.{width_of, load_number, loaded, normal_record, SmallConstants}
+use Rattle.lines.specs.Line
 use Rattle.lines.specs.Line.{shortest_reply, line_outcome, store_after}
 use Rattle.calls.specs.Calls.{Call, saved_bytes, end}
 
@@ -20,7 +21,7 @@ whole_record n = record_length n config_width
 -- a line is accepted, and what it gives is the record
 pub record Saves (n : ℕ) (c : Card) (text : List ℕ) (reply store : ℕ) : Type 0 where
   pub accepted : (line_outcome n c text reply store).k ≡ 0
-  pub saves : (line_outcome n c text reply store).response.saves ≡ true
+  pub saves : Line.saves (line_outcome n c text reply store).response ≡ true
 
 -- d has the settings of c, and "Pointer and states aren't saved": its states are clear
 pub record Restored (n : ℕ) (c d : Card) : Type 0 where

@@ -29,7 +29,7 @@ use Rattle.convert.proofs.Conversion.{fitting, conversion}
 use Rattle.convert.proofs.Laws.{converted_as, refused_as}
 use Rattle.grammar.proofs.Texts.{texts}
 use Rattle.lines.specs.declared.line.Outcome.{Outcome}
-use Rattle.lines.specs.Line.{shortest_reply, reply_with, reply_of, line_outcome, line_reply, line_result}
+use Rattle.lines.specs.Line.{shortest_reply, saves, reply_with, reply_of, line_outcome, line_reply, line_result}
 use Rattle.calls.specs.Calls.{saved_bytes}
 use Rattle.calls.specs.RequiredExamples.{one_table}
 use Rattle.calls.proofs.MemoryIsHistory.{who_wakes}
@@ -96,12 +96,12 @@ module _ (n : ℕ) (c : Card) (text reply store : List ℕ) where
   stored : valid_card n c ≡ true
       → Holds (saved_bytes n c text (length reply) (length store)) store (line_result n c text reply store).store
   unfolding saved_bytes
-  stored ok = go (eqb o.k 0) o.response.saves refl refl
+  stored ok = go (eqb o.k 0) (saves o.response) refl refl
     where
       o : Outcome
       o = line_outcome n c text (length reply) (length store)
 
-      go : (a b : Bool) → eqb o.k 0 ≡ a → o.response.saves ≡ b
+      go : (a b : Bool) → eqb o.k 0 ≡ a → saves o.response ≡ b
           → Holds (cond (a && b) (record_of n config_width c) []) store (cond (a && b) (saved_to n config_width c store) store)
       go true true e s =
           let room = save-room n c text (length reply) (length store) (record { accepted = eqb-true o.k 0 e; saves = s }) in

@@ -178,12 +178,11 @@ fn put_given(page: &mut Page, x: Context, slot: Slot, v: Number) {
 
 // The slots that were given a number.
 fn put_slots(page: &mut Page, x: Context, p: Pairs) {
-    let given = p.given;
     let slots = [
-        (Slot::X, given.x.then_some(p.x)),
-        (Slot::Y, given.y.then_some(p.y)),
-        (Slot::Z, given.z.then_some(p.z)),
-        (Slot::F, given.f.then_some(p.f)),
+        (Slot::X, p.x),
+        (Slot::Y, p.y),
+        (Slot::Z, p.z),
+        (Slot::F, p.f),
     ];
     for (slot, number) in slots {
         if let Some(v) = number {

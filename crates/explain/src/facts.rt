@@ -7,7 +7,7 @@ ghost use Rattle.explain.specs.Facts.{answer_of};
 use card::card::Card;
 use card::change::{Change, apply};
 use card::context::context_of;
-use grammar::grammar::{Command, Parsed, parse_line};
+use grammar::grammar::{Command, NoCommand, parse_line};
 use lines::decision::decide_for;
 use phrases::form::is_move;
 use session::{Entered, Event};
@@ -31,7 +31,7 @@ pub struct Facts {
     pub before: Run,
     pub after: Run,
     pub event: Event,
-    pub parsed: Parsed,
+    pub parsed: Result<Command, NoCommand>,
     pub edits: u64,
     pub len: usize,
 }
@@ -54,10 +54,10 @@ pub fn is_ran(event: Event) -> bool {
 }
 
 // What a line is read as. Ticks and loads have no form of a card line.
-fn parsed_as(event: Event, text: &[u8], size: u8) -> Parsed {
+fn parsed_as(event: Event, text: &[u8], size: u8) -> Result<Command, NoCommand> {
     match event {
         Event::Line(_) => parse_line(text, size),
-        _ => Parsed::Malformed,
+        _ => Err(NoCommand::Malformed),
     }
 }
 
@@ -69,24 +69,30 @@ fn changes_of(card: Card, change: Change) -> u64 {
 }
 
 // The cells that an accepted line or load edits. A refused line has no change.
-fn edits_of(event: Event, before: Card, after: Card, p: Parsed, store: usize) -> u64 {
+fn edits_of(
+    event: Event,
+    before: Card,
+    after: Card,
+    p: Result<Command, NoCommand>,
+    store: usize,
+) -> u64 {
     match event {
         Event::Tick(_) => 0,
         Event::Load(k) => if k == 0 { after.edited } else { 0 },
-        Event::Line(_) => {
-            let decision = decide_for(context_of(before), store, p);
-            changes_of(before, decision.change)
-        }
+        Event::Line(_) => match decide_for(context_of(before), store, p) {
+            Ok(accepted) => changes_of(before, accepted.change),
+            Err(_) => 0,
+        },
     }
 }
 
 // Whether a command moves the pointer.
-fn moves(p: Parsed) -> bool {
-    matches!(p, Parsed::Here(Command::Move(_)))
+fn moves(p: Result<Command, NoCommand>) -> bool {
+    matches!(p, Ok(Command::Move(_)))
 }
 
 // Whether the pointer is where the last line that was to move it did not want it.
-fn strays(strayed: bool, event: Event, p: Parsed, text: &[u8]) -> bool {
+fn strays(strayed: bool, event: Event, p: Result<Command, NoCommand>, text: &[u8]) -> bool {
     match event {
         Event::Tick(_) => strayed,
         Event::Load(k) => strayed & (k != 0),

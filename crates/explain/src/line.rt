@@ -8,7 +8,7 @@ use crate::accepted::{put_accepted, put_loaded};
 use crate::facts::{Facts, Run, is_ran, step};
 use crate::rows::put_row;
 use card::context::context_of;
-use grammar::grammar::{Command, Parsed};
+use grammar::grammar::Command;
 use phrases::hints::put_hints;
 use phrases::page::{Page, Shown};
 use phrases::refused::{put_refused, put_unloaded};
@@ -51,7 +51,7 @@ fn goes_to_pointer(command: Command) -> bool {
 // Whether a line goes to another place than the one that the last `M E=` named, which was refused.
 pub fn is_astray(f: &Facts) -> bool {
     match f.parsed {
-        Parsed::Here(command) => f.before.strayed & goes_to_pointer(command),
+        Ok(command) => f.before.strayed & goes_to_pointer(command),
         _ => false,
     }
 }
@@ -69,7 +69,7 @@ fn put_line(page: &mut Page, text: &[u8], k: u8, f: &Facts) {
     if k != 0 {
         return put_refused(page, text, k, x, f.parsed);
     }
-    if let Parsed::Here(command) = f.parsed {
+    if let Ok(command) = f.parsed {
         put_accepted(page, command, before, &f.after.card);
         put_edited(page, f.edits, before.size);
     }

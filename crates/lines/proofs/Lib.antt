@@ -1,4 +1,3 @@
 -- The proofs of the line reader.
 pub mod Decisions
 pub mod Long
-pub mod Replies

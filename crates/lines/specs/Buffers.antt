@@ -18,7 +18,7 @@ use Rattle.card.specs.Edits.{current_cell, current_connector, put_cell, typed, s
 use Rattle.card.specs.Change.{changed}
 use Rattle.card.specs.Fresh.{fresh, fresh_of}
 use Rattle.card.specs.Valid.{bad_config, no_config}
-use Rattle.grammar.specs.Grammar.{is_word, is_whole, to_end, slot_of, write_of, cca_write, cca_read, cca_form, read_form, card_form, plain_form, addressed, parse}
+use Rattle.grammar.specs.Grammar.{is_word, is_whole, to_end, slot_of, cca_form, read_form, card_form, plain_form, addressed, parse}
 use Rattle.lines.specs.Refusal.{refusal}
 use Rattle.lines.specs.Line.{ending, shortest_reply, change_for, response_to, decision, decision_for, line_decision}
 use Rattle.lines.specs.Line.{line_outcome, reply_of, line_reply, line_result}
@@ -73,7 +73,7 @@ expected e = (e.k, e.len)
 
 examples : (map (given cell_count) rows ≡ map expected rows) × (map (given cell_room) large_rows ≡ map expected large_rows)
 unfolding given expected listed is_digit digits_of leads plain number_in number_at decimal_from decimal fresh current_cell current_connector is_word is_whole to_end
-    slot_of write_of cca_write cca_read cca_form read_form card_form plain_form addressed parse refusal changed change_for response_to decision decision_for line_decision
+    slot_of cca_form read_form card_form plain_form addressed parse refusal changed change_for response_to decision decision_for line_decision
     line_outcome reply_of line_reply kind_at source_at with_kind with_source each from_each well_formed bit_at word_of
 examples = (refl, refl)
 
@@ -86,7 +86,7 @@ longest_reply = line_reply cell_count (after_line (set_type cell_count fresh 9) 
 
 longest-reply : (longest_reply ≡ bytes_of ":A 4294967295" ++ ending) × (length longest_reply ≡ 15)
 unfolding after_line longest_reply listed value_by is_digit digits_of leads plain number_in number_at decimal_from decimal row_of fresh current_cell current_connector
-    put_cell typed set_type configured_state configured set_config config_shown bad_config no_config is_word is_whole to_end slot_of write_of cca_write cca_read cca_form
+    put_cell typed set_type configured_state configured set_config config_shown bad_config no_config is_word is_whole to_end slot_of cca_form
     read_form card_form plain_form addressed parse refusal changed change_for response_to decision decision_for line_decision line_outcome reply_of line_reply kind_at
     source_at with_kind with_source each from_each well_formed bit_at word_of
 longest-reply = (refl, refl)
@@ -101,7 +101,7 @@ left reply store text =
 untouched : (left 20 3 "W E" ≡ (bytes_of ":A 1\r\n" ++ replicate 14 7, replicate 3 7))
     × (left 20 3 "36SS Z" ≡ (bytes_of ":N-1\r\n" ++ replicate 14 7, replicate 3 7))
     × (left 15 3 "W E" ≡ (replicate 15 7, replicate 3 7))
-unfolding left listed is_digit digits_of leads plain number_in number_at decimal_from decimal fresh current_cell current_connector is_word is_whole to_end slot_of write_of
-    cca_write cca_read cca_form read_form card_form plain_form addressed parse refusal changed change_for response_to decision decision_for line_decision line_outcome
+unfolding left listed is_digit digits_of leads plain number_in number_at decimal_from decimal fresh current_cell current_connector is_word is_whole to_end slot_of
+    cca_form read_form card_form plain_form addressed parse refusal changed change_for response_to decision decision_for line_decision line_outcome
     reply_of line_reply kind_at source_at with_kind with_source each from_each well_formed bit_at word_of
 untouched = (refl, refl, refl)

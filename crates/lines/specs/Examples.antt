@@ -17,9 +17,9 @@ use Rattle.card.specs.Fresh.{fresh}
 use Rattle.card.specs.Valid.{permitted_base, bad_place, bad_cell_type, bad_connector_type, bad_clock, bad_config, no_config, unused_slot, bad_address, bad_state_as}
 use Rattle.card.specs.Valid.{bad_state, no_state, front_driven}
 use Rattle.card.specs.Presets.{preset_table, setting_of, offered, preset_cell, preset_source, sets_front, preset}
-use Rattle.grammar.specs.Grammar.{is_word, is_whole, to_end, slot_of, gave, give, pair_read, pairs_of, write_of, cca_write, cca_read, cca_form, slot_form, ccb_form}
-use Rattle.grammar.specs.Grammar.{read_of, read_form, card_form, plain_form, addressed, parse}
-use Rattle.lines.specs.Refusal.{alone, refusal}
+use Rattle.grammar.specs.Grammar.{is_word, is_whole, to_end, slot_of, pair_read, steps, pairs_of, cca_form, ccb_form}
+use Rattle.grammar.specs.Grammar.{read_form, card_form, plain_form, addressed, parse}
+use Rattle.lines.specs.Refusal.{refusal}
 use Rattle.lines.specs.Line.{change_for, response_to, decision, decision_for, line_decision, line_outcome, reply_of, line_reply}
 
 -- the number of a line with buffers of these lengths, and with room for its reply and its record
@@ -141,8 +141,8 @@ numbers =
 examples : map (λ (e : ℕ × ℕ). e.0) numbers ≡ map (λ (e : ℕ × ℕ). e.1) numbers
 unfolding listed number_with number at typed_card front_card with_bit word_of bit_at value_by is_digit digits_of leads plain number_in number_at row_of current_cell
     current_connector put_cell typed set_type set_trigger fresh permitted_base bad_place bad_cell_type bad_connector_type bad_clock bad_config no_config unused_slot
-    bad_address bad_state_as bad_state no_state front_driven preset_table setting_of offered preset_cell preset_source sets_front preset is_word is_whole to_end slot_of gave
-    give pair_read pairs_of write_of cca_write cca_read cca_form slot_form ccb_form read_of read_form card_form plain_form addressed parse alone refusal changed change_for
+    bad_address bad_state_as bad_state no_state front_driven preset_table setting_of offered preset_cell preset_source sets_front preset is_word is_whole to_end slot_of
+    pair_read steps pairs_of cca_form ccb_form read_form card_form plain_form addressed parse refusal changed change_for
     response_to decision decision_for line_decision line_outcome kind_at source_at with_kind with_source each from_each well_formed
 examples = refl
 
@@ -182,7 +182,7 @@ replies =
 texts : map (λ (e : String × String). reply_to e.0) replies ≡ map (λ (e : String × String). bytes_of e.1) replies
 unfolding reply_to told listed with_bit word_of bit_at value_by is_digit digits_of leads plain number_in number_at decimal_from decimal row_of current_cell current_connector
     put_cell typed set_type set_trigger fresh permitted_base bad_place bad_cell_type bad_connector_type bad_clock bad_config no_config unused_slot bad_address bad_state_as
-    bad_state no_state front_driven preset_table setting_of offered preset_cell preset_source sets_front preset is_word is_whole to_end slot_of gave give pair_read pairs_of
-    write_of cca_write cca_read cca_form slot_form ccb_form read_of read_form card_form plain_form addressed parse alone refusal changed change_for response_to decision
+    bad_state no_state front_driven preset_table setting_of offered preset_cell preset_source sets_front preset is_word is_whole to_end slot_of pair_read steps pairs_of
+    cca_form ccb_form read_form card_form plain_form addressed parse refusal changed change_for response_to decision
     decision_for line_decision line_outcome reply_of line_reply kind_at source_at with_kind with_source each from_each well_formed
 texts = refl

@@ -16,8 +16,8 @@ use Rattle.card.specs.Change.{changed}
 use Rattle.card.specs.Fresh.{fresh_of}
 use Rattle.card.specs.Valid.{permitted_base, bad_place, unused_slot, bad_address}
 use Rattle.card.specs.Presets.{preset_table, setting_of, offered, preset_cell, preset_source, sets_front, preset}
-use Rattle.grammar.specs.Grammar.{is_word, is_whole, to_end, slot_of, gave, give, pair_read, pairs_of, write_of, cca_write, cca_read, cca_form, slot_form, ccb_form}
-use Rattle.grammar.specs.Grammar.{read_of, read_form, card_form, plain_form, addressed, parse}
+use Rattle.grammar.specs.Grammar.{is_word, is_whole, to_end, slot_of, pair_read, steps, pairs_of, cca_form, ccb_form}
+use Rattle.grammar.specs.Grammar.{read_form, card_form, plain_form, addressed, parse}
 use Rattle.lines.specs.Refusal.{refusal}
 use Rattle.lines.specs.Line.{change_for, response_to, decision, decision_for, line_decision, line_outcome}
 
@@ -69,7 +69,7 @@ number-table : map (λ (e : (ℕ × ℕ) × (ℕ × ℕ)). e.0) numbers ≡ map 
 unfolding both fresh and2 front listed with_bit word_of bit_at value_by is_digit digits_of leads plain number_in number_at row_of current_cell
     current_connector put_cell typed set_type set_trigger permitted_base bad_place unused_slot bad_address preset_table setting_of offered preset_cell preset_source
     sets_front preset
-    is_word is_whole to_end slot_of gave give pair_read pairs_of write_of cca_write cca_read cca_form slot_form ccb_form read_of read_form card_form plain_form
+    is_word is_whole to_end slot_of pair_read steps pairs_of cca_form ccb_form read_form card_form plain_form
     addressed parse refusal changed change_for response_to decision decision_for line_decision line_outcome kind_at source_at with_kind with_source
     each from_each well_formed
 number-table = refl

@@ -1,6 +1,6 @@
 -- Document 01, "Lines": what a line answers, what it does to the card, and what it leaves in the
 -- two buffers.
-use Rattle.std.specs.Prelude.{ℕ, Bool, true, false, ◌&&◌, cond, List, [], ◌++◌, eqb, ltb, length}
+use Rattle.std.specs.Prelude.{ℕ, Bool, true, false, ◌&&◌, cond, List, [], ◌++◌, eqb, ltb, length, Option, Some, None, Result, Ok, Err}
 use Rattle.std.proofs.lemmas.List.Edits.{sets}
 use Rattle.text.specs.Decimal.{decimal}
 use Rattle.text.specs.Written.{bytes_of}
@@ -14,34 +14,30 @@ use Rattle.card.specs.Context.{context_of, type_read, config_read, state_read, s
 use Rattle.saved.specs.Record.{config_width, saved_to}
 use Rattle.grammar.specs.declared.grammar.Pairs.{Pairs}
 use Rattle.grammar.specs.declared.grammar.Slot.{Slot}
-use Rattle.grammar.specs.declared.grammar.Slot.TheVariants.{X, Y, Z, F, NoSlot}
+use Rattle.grammar.specs.declared.grammar.Slot.TheVariants.{X, Y, Z, F}
 use Rattle.grammar.specs.declared.grammar.Command.{Command}
 use Rattle.grammar.specs.declared.grammar.Command.TheVariants.{Move, Where, Trigger, Home, Preset, SetKind, SetConfig, SetState, GetKind, GetConfig}
 use Rattle.grammar.specs.declared.grammar.Command.TheVariants.{GetState, SetSlots, GetSlot, Front, Back, Cells, Upper, Save}
-use Rattle.grammar.specs.declared.grammar.Parsed.{Parsed}
-use Rattle.grammar.specs.declared.grammar.Parsed.TheVariants.{Malformed, Elsewhere, Here}
+use Rattle.grammar.specs.declared.grammar.NoCommand.{NoCommand}
 use Rattle.lines.specs.declared.decision.Response.{Response}
-use Rattle.lines.specs.declared.decision.Decision.{Decision}
+use Rattle.lines.specs.declared.decision.Response.TheVariants.{Silent, Number, Saves}
+use Rattle.lines.specs.declared.decision.Accepted.{Accepted}
+use Rattle.lines.specs.declared.refused.Refused.{Refused}
+use Rattle.lines.specs.declared.refused.Refused.TheVariants.{NoRoom}
 use Rattle.lines.specs.declared.line.Answered.{Answered}
 use Rattle.lines.specs.declared.line.Outcome.{Outcome}
-use Rattle.grammar.specs.Grammar.{parse}
-use Rattle.lines.specs.Refusal.{refusal}
+use Rattle.grammar.specs.Grammar.{given, parse}
+use Rattle.lines.specs.Refusal.{number_of, of_no_command, refusal}
 
 -- ---- what an accepted command changes; reads and `36SS Z` change nothing in the card
 
 -- the slots that are given, each with its address
-abbrev pub wire_of : Bool → ℕ → ℕ
-wire_of given v = cond given v 0
+abbrev pub wire_of : Option ℕ → ℕ
+wire_of None = 0
+wire_of (Some v) = v
 
 abbrev pub wires_of : Pairs → Wires
-wires_of p =
-    record {
-      given = p.given;
-      x = wire_of p.given.x p.x;
-      y = wire_of p.given.y p.y;
-      z = wire_of p.given.z p.z;
-      f = wire_of p.given.f p.f;
-    }
+wires_of p = record { given = given p; x = wire_of p.x; y = wire_of p.y; z = wire_of p.z; f = wire_of p.f }
 
 unfoldable pub change_for : Context → Command → Change
 change_for x (Move v) = Changes.Pointer v
@@ -69,76 +65,88 @@ obeyed n c command = changed n c (change_for (context_of n c) command)
 
 -- ---- the response to a command: nothing, a number, or the record
 
-abbrev pub silent : Response
-silent = record { number = false; value = 0; saves = false }
-
-abbrev pub number : ℕ → Response
-number v = record { number = true; value = v; saves = false }
-
-abbrev pub saving : Response
-saving = record { number = false; value = 0; saves = true }
+-- it is to save the record
+abbrev pub saves : Response → Bool
+saves Silent = false
+saves (Number v) = false
+saves Saves = true
 
 -- a slot's place among the four
-unfoldable pub slot_index : Slot → ℕ
+abbrev pub slot_index : Slot → ℕ
 slot_index X = 0
 slot_index Y = 1
 slot_index Z = 2
 slot_index F = 3
-slot_index NoSlot = 4
 
 unfoldable pub response_to : Context → Command → Response
-response_to x (Move v) = silent
-response_to x Where = number x.pointer
-response_to x (Trigger v) = silent
-response_to x Home = silent
-response_to x (Preset v) = silent
-response_to x (SetKind v) = silent
-response_to x (SetConfig v) = silent
-response_to x (SetState v) = silent
-response_to x GetKind = number (type_read x)
-response_to x GetConfig = number (config_read x)
-response_to x GetState = number (state_read x)
-response_to x (SetSlots p) = silent
-response_to x (GetSlot s) = number (slot_read x (slot_index s))
-response_to x Front = number (front_read x)
-response_to x Back = number (back_read x)
-response_to x Cells = number (lower_read x)
-response_to x Upper = number (upper_read x)
-response_to x Save = saving
+response_to x (Move v) = Silent
+response_to x Where = Number x.pointer
+response_to x (Trigger v) = Silent
+response_to x Home = Silent
+response_to x (Preset v) = Silent
+response_to x (SetKind v) = Silent
+response_to x (SetConfig v) = Silent
+response_to x (SetState v) = Silent
+response_to x GetKind = Number (type_read x)
+response_to x GetConfig = Number (config_read x)
+response_to x GetState = Number (state_read x)
+response_to x (SetSlots p) = Silent
+response_to x (GetSlot s) = Number (slot_read x (slot_index s))
+response_to x Front = Number (front_read x)
+response_to x Back = Number (back_read x)
+response_to x Cells = Number (lower_read x)
+response_to x Upper = Number (upper_read x)
+response_to x Save = Saves
 
 -- ---- a line obeyed or refused
 
--- the number, the change (a refused command makes none), and the response
-abbrev pub decided : ℕ → Change → Response → Decision
-decided k change response = record { k = k; change = cond (eqb k 0) change Changes.Nothing; response = response }
+-- a read, and a write
+abbrev pub read_as : ℕ → Accepted
+read_as v = record { change = Changes.Nothing; response = Number v }
 
-unfoldable pub decision : (n : ℕ) → Context → (store : ℕ) → Command → Decision
+abbrev pub written_as : Change → Accepted
+written_as change = record { change = change; response = Silent }
+
+-- the change and the response, where no refusal applies
+abbrev pub decided : Option Refused → Change → Response → Result Accepted Refused
+decided None change response = Ok (record { change = change; response = response })
+decided (Some why) change response = Err why
+
+unfoldable pub decision : (n : ℕ) → Context → (store : ℕ) → Command → Result Accepted Refused
 decision n x store command = decided (refusal n x store command) (change_for x command) (response_to x command)
 
-abbrev pub refused : ℕ → Decision
-refused k = record { k = k; change = Changes.Nothing; response = silent }
-
--- 2: "line of another form or length", 3: "two digits, not 36, before a card command"
-unfoldable pub decision_for : (n : ℕ) → Context → (store : ℕ) → Parsed → Decision
-decision_for n x store Malformed = refused 2
-decision_for n x store Elsewhere = refused 3
-decision_for n x store (Here command) = decision n x store command
+unfoldable pub decision_for : (n : ℕ) → Context → (store : ℕ) → Result Command NoCommand → Result Accepted Refused
+decision_for n x store (Err none) = Err (of_no_command none)
+decision_for n x store (Ok command) = decision n x store command
 
 -- 1: "reply under 16 bytes"
 abbrev pub shortest_reply : ℕ
 shortest_reply = 16
 
 -- by the lengths of the two buffers: under 16 bytes of reply, nothing at all
-unfoldable pub line_decision : (n : ℕ) → Context → (text : List ℕ) (reply store : ℕ) → Decision
-line_decision n x text reply store = cond (ltb reply shortest_reply) (refused 1) (decision_for n x store (parse n text))
+unfoldable pub line_decision : (n : ℕ) → Context → (text : List ℕ) (reply store : ℕ) → Result Accepted Refused
+line_decision n x text reply store = cond (ltb reply shortest_reply) (Err NoRoom) (decision_for n x store (parse n text))
+
+-- the number, 0 where it is accepted; the change, which a refused command makes none of; the response
+abbrev pub number_in : Result Accepted Refused → ℕ
+number_in (Ok accepted) = 0
+number_in (Err why) = number_of why
+
+abbrev pub change_in : Result Accepted Refused → Change
+change_in (Ok accepted) = accepted.change
+change_in (Err why) = Changes.Nothing
+
+abbrev pub response_in : Result Accepted Refused → Response
+response_in (Ok accepted) = accepted.response
+response_in (Err why) = Silent
 
 -- the change that a line makes in a card
 abbrev pub line_change : (n : ℕ) → Card → (text : List ℕ) (reply store : ℕ) → Change
-line_change n c text reply store = (line_decision n (context_of n c) text reply store).change
+line_change n c text reply store = change_in (line_decision n (context_of n c) text reply store)
 
 -- what a line comes to: its number, the card, and the response
-abbrev pub outcome_of : ℕ → Card → Decision → Outcome
-outcome_of n c d = record { k = d.k; card = changed n c d.change; response = d.response }
+abbrev pub outcome_of : ℕ → Card → Result Accepted Refused → Outcome
+outcome_of n c d = record { k = number_in d; card = changed n c (change_in d); response = response_in d }
 
 unfoldable pub line_outcome : (n : ℕ) → Card → (text : List ℕ) (reply store : ℕ) → Outcome
 line_outcome n c text reply store = outcome_of n c (line_decision n (context_of n c) text reply store)
@@ -150,8 +158,13 @@ abbrev pub ending : List ℕ
 ending = bytes_of "\r\n"
 
 -- "The reply is `:A` or `:A n`, refused `:N-k`, each with CR LF"
+abbrev pub told : Response → List ℕ
+told Silent = []
+told (Number v) = bytes_of " " ++ decimal v
+told Saves = []
+
 abbrev pub acceptance : Response → List ℕ
-acceptance r = bytes_of ":A" ++ cond r.number (bytes_of " " ++ decimal r.value) [] ++ ending
+acceptance r = bytes_of ":A" ++ told r ++ ending
 
 abbrev pub refusal_text : ℕ → List ℕ
 refusal_text k = bytes_of ":N-" ++ decimal k ++ ending
@@ -171,7 +184,7 @@ line_reply n c text reply store =
 -- "`36SS Z` writes the record to the front of the store"; a refused line, and any other, leaves the
 -- store as it was
 abbrev pub store_with : ℕ → Card → Outcome → List ℕ → List ℕ
-store_with n c o store = cond (eqb o.k 0 && o.response.saves) (saved_to n config_width c store) store
+store_with n c o store = cond (eqb o.k 0 && saves o.response) (saved_to n config_width c store) store
 
 unfoldable pub store_after : (n : ℕ) → Card → (text : List ℕ) (reply : ℕ) (store : List ℕ) → List ℕ
 store_after n c text reply store = store_with n c (line_outcome n c text reply (length store)) store

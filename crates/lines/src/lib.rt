@@ -4,4 +4,5 @@
 pub mod decision; // what a line comes to
 pub mod line; // the public call
 mod reads; // the commands that read or save
+pub mod refused; // why the card says no
 mod writes; // the commands that change the card

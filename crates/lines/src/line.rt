@@ -9,7 +9,8 @@ ghost use Rattle.saved.specs.Record.{config_width, saved_to};
 ghost use Rattle.lines.specs.Line.{ending, reply_of, reply_with, shortest_reply, line_decision, line_outcome};
 ghost use Rattle.lines.specs.Line.{line_result, result_for, result_of};
 
-use crate::decision::{Decision, Response, decide_for, refused};
+use crate::decision::{Accepted, Response, decide_for};
+use crate::refused::Refused;
 use card::card::Card;
 use card::context::Value;
 use grammar::grammar::parse_line;
@@ -39,19 +40,20 @@ fn put_number(reply: &mut [u8], word: &[u8], v: Value) -> usize
 }
 
 // The reply to a line.
+#[tactic(auto, unfolding(crate::specs::Line::reply_of))]
 fn put_reply(reply: &mut [u8], k: u8, r: Response) -> usize
     requires { shortest_reply ≤ length reply.old }
     ensures reply_after { reply.new ≡ sets reply.old 0 (reply_of k r) }
     ensures value { result ≡ length (reply_of k r) }
     ensures upper_bound { result ≤ shortest_reply }
 {
-    if k == 0 {
-        if r.number {
-            return put_number(reply, b":A ", r.value);
-        }
-        return text::copy(reply, 0, b":A\r\n");
+    if k != 0 {
+        return put_number(reply, b":N-", k as Value);
     }
-    put_number(reply, b":N-", k as Value)
+    match r {
+        Response::Number(v) => put_number(reply, b":A ", v),
+        Response::Silent | Response::Saves => text::copy(reply, 0, b":A\r\n"),
+    }
 }
 
 // Saves the record, where that was asked.
@@ -65,13 +67,13 @@ pub fn save_if(asked: bool, card: Card, store: &mut [u8])
 }
 
 // What becomes of a line, by the lengths of the two buffers.
-pub fn judge(card: Card, text: &[u8], reply: usize, store: usize) -> Decision
+pub fn judge(card: Card, text: &[u8], reply: usize, store: usize) -> Result<Accepted, Refused>
     ensures { result
         ≡ line_decision (cells_for card.size) (context_of (cells_for card.size) card)
         text.now reply store }
 {
     if reply < SHORTEST_REPLY {
-        return refused(1);
+        return Err(Refused::NoRoom);
     }
     let x = card::context::context_of(card);
     decide_for(x, store, parse_line(text, card.size))
@@ -108,17 +110,20 @@ pub fn line(card: Card, text: &[u8], reply: &mut [u8], store: &mut [u8]) -> Answ
         ≡ line_result (cells_for card.size) card text.now reply.old store.old }
     ensures len_le_shortest_reply { result.len ≤ shortest_reply }
 {
-    let d = judge(card, text, reply.len(), store.len());
-    let k = d.k;
-    let response = d.response;
-    let len = put_reply_if(reply, k, response);
-    let saves = (k == 0) & response.saves;
-    save_if(saves, card, store);
-    let change = d.change;
-    let next = card::change::apply(card, change);
-    Answered {
-        card: next,
-        k: k,
-        len: len,
+    match judge(card, text, reply.len(), store.len()) {
+        Ok(accepted) => {
+            let len = put_reply_if(reply, 0, accepted.response);
+            save_if(accepted.response.saves(), card, store);
+            Answered {
+                card: card::change::apply(card, accepted.change),
+                k: 0,
+                len,
+            }
+        }
+        Err(why) => {
+            let k = why.number();
+            let len = put_reply_if(reply, k, Response::Silent);
+            Answered { card, k, len }
+        }
     }
 }

@@ -1,12 +1,14 @@
 // The commands that change nothing in the card and can be refused: three reads at the pointer, and
 // the saving of the record.
-ghost use Rattle.std.specs.Prelude.{◌≡◌, ltb};
-ghost use Rattle.card.specs.Address.{cells_for};
-ghost use Rattle.saved.specs.Record.{config_width, record_length};
-ghost use Rattle.lines.specs.Refusal;
-ghost use Rattle.lines.specs.Line.{slot_index, saving, decision};
+#![tactic(auto, unfolding(crate::specs::Line::decision, crate::specs::Line::change_for, crate::specs::Line::response_to, crate::specs::Refusal::refusal))]
 
-use crate::decision::{Decision, Response, or_else, read, when};
+ghost use Rattle.std.specs.Prelude.{◌≡◌};
+ghost use Rattle.card.specs.Address.{cells_for};
+ghost use Rattle.lines.specs.Refusal;
+ghost use Rattle.lines.specs.Line.{slot_index, decision};
+
+use crate::decision::{Accepted, Response, read};
+use crate::refused::{Refused, refuse_if};
 use card::change::Change;
 use card::context::Context;
 use card::valid;
@@ -16,33 +18,34 @@ use saved::record::record_length;
 
 // `36CCA Z?`: the configuration of the current cell, or a connector's source; 9 where the type has
 // none.
-pub fn config(x: Context) -> Decision
+pub fn config(x: Context) -> Result<Accepted, Refused>
     ensures { result ≡ decision (cells_for x.size) x 0 Command.GetConfig }
 {
-    let cell = x.cell;
-    let k = when(x.at_cell & valid::no_config(cell.kind), 9);
-    read(k, card::context::read_config(x))
+    refuse_if(
+        x.at_cell & valid::no_config(x.cell.kind),
+        Refused::BadConfig,
+    )?;
+    Ok(read(card::context::read_config(x)))
 }
 
 // `36CCA F?`: the state of the current cell; 6 at a connector, 12 where the type keeps none.
-pub fn state(x: Context) -> Decision
+pub fn state(x: Context) -> Result<Accepted, Refused>
     ensures { result ≡ decision (cells_for x.size) x 0 Command.GetState }
 {
-    let cell = x.cell;
-    let k = or_else(when(!x.at_cell, 6), when(valid::no_state(cell.kind), 12));
-    read(k, card::context::read_state(x))
+    refuse_if(!x.at_cell, Refused::AtConnector)?;
+    refuse_if(valid::no_state(x.cell.kind), Refused::BadState)?;
+    Ok(read(card::context::read_state(x)))
 }
 
 // A slot by itself.
 fn alone(s: Slot) -> Slots
     ensures { result ≡ Refusal.alone s }
 {
-    let i = slot_index(s);
     Slots {
-        x: i == 0,
-        y: i == 1,
-        z: i == 2,
-        f: i == 3,
+        x: s == Slot::X,
+        y: s == Slot::Y,
+        z: s == Slot::Z,
+        f: s == Slot::F,
     }
 }
 
@@ -50,45 +53,29 @@ fn alone(s: Slot) -> Slots
 fn slot_index(s: Slot) -> usize
     ensures { result ≡ slot_index s }
 {
-    match s {
-        Slot::X => 0,
-        Slot::Y => 1,
-        Slot::Z => 2,
-        Slot::F => 3,
-        Slot::NoSlot => 4,
-    }
+    s as usize
 }
 
 // `36CCB p?`: the address in a slot of the current cell; 6 at a connector, 10 where the type does
 // not use it.
-pub fn slot(x: Context, s: Slot) -> Decision
+pub fn slot(x: Context, s: Slot) -> Result<Accepted, Refused>
     ensures { result ≡ decision (cells_for x.size) x 0 (Command.GetSlot s) }
 {
-    let cell = x.cell;
-    let k = or_else(
-        when(!x.at_cell, 6),
-        when(valid::unused_slot(cell.kind, alone(s)), 10),
-    );
-    read(k, card::context::read_slot(x, slot_index(s)))
+    refuse_if(!x.at_cell, Refused::AtConnector)?;
+    refuse_if(
+        valid::unused_slot(x.cell.kind, alone(s)),
+        Refused::UnusedSlot,
+    )?;
+    Ok(read(card::context::read_slot(x, slot_index(s))))
 }
 
 // `36SS Z`, for a store of this many bytes: 1 where it is too short.
-pub fn save(store: usize, size: u8) -> Decision
-    ensures { result
-        ≡ record {
-          k = Refusal.when
-              (ltb store (record_length (cells_for size) config_width)) 1;
-          change = Change.Nothing;
-          response = saving;
-        } }
+pub fn save(x: Context, store: usize) -> Result<Accepted, Refused>
+    ensures { result ≡ decision (cells_for x.size) x store Command.Save }
 {
-    Decision {
-        k: when(store < record_length(size), 1),
+    refuse_if(store < record_length(x.size), Refused::NoRoom)?;
+    Ok(Accepted {
         change: Change::Nothing,
-        response: Response {
-            number: false,
-            value: 0,
-            saves: true,
-        },
-    }
+        response: Response::Saves,
+    })
 }

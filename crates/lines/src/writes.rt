@@ -1,161 +1,137 @@
 // The commands that change the card: the rows of the refusal table that each can meet, lowest
 // number first, and the change that it makes.
-ghost use Rattle.std.specs.Prelude.{not, ◌≡◌, ◌%◌};
-ghost use Rattle.card.specs.Address.{cells_for};
-ghost use Rattle.card.specs.Valid.{bad_place, bad_clock};
-ghost use Rattle.lines.specs.Refusal.{judged, any_given, any_too_large, any_bad_address};
-ghost use Rattle.lines.specs.Line.{silent, wire_of, decided, decision};
+#![tactic(auto, using(crate::proofs::Decisions::place_fits, crate::proofs::Decisions::clock_fits, crate::proofs::Decisions::kind_fits, crate::proofs::Decisions::connector_fits, crate::proofs::Decisions::address_fits, crate::proofs::Decisions::slots_fit), unfolding(crate::specs::Line::decision, crate::specs::Line::change_for, crate::specs::Line::response_to, crate::specs::Refusal::refusal))]
 
-use crate::decision;
-use crate::decision::{Decision, or_else, too_large, when, write};
+ghost use Rattle.std.specs.Prelude.{◌≡◌, ◌<◌, IfSome};
+ghost use Rattle.card.specs.Address.{cells_for};
+ghost use Rattle.lines.specs.Refusal;
+ghost use Rattle.lines.specs.Refusal.{any_too_large, any_bad_address};
+ghost use Rattle.lines.specs.Line.{wire_of, decision};
+
+use crate::decision::{Accepted, too_large, write};
+use crate::refused::{Refused, refuse_if};
 use card::change::{Change, Wires};
 use card::context::Context;
 use card::limits::Number;
 use card::valid;
-use cells::table::Slots;
 use grammar::grammar::{Command, Pairs};
 
-// The low byte of a number, which is the number where it was not refused.
-fn low8(v: Number) -> u8
-    ensures { result ≡ v % 256 }
-{
-    (v % 256) as u8
-}
-
-fn low32(v: Number) -> u32
-    ensures { result ≡ v % 4294967296 }
-{
-    (v % 4294967296) as u32
-}
-
 // `M E=v`.
-pub fn to_place(v: Number, size: u8) -> Decision
-    ensures { result ≡ decided (judged v (bad_place (cells_for size) v) 5) (Change.Pointer v) silent }
+pub fn to_place(x: Context, v: Number) -> Result<Accepted, Refused>
+    ensures { result ≡ decision (cells_for x.size) x 0 (Command.Move v) }
 {
-    write(
-        decision::judged(v, valid::bad_place(v, size), 5),
-        Change::Pointer(low8(v)),
-    )
+    refuse_if(too_large(v), Refused::TooLarge)?;
+    refuse_if(valid::bad_place(v, x.size), Refused::BadPlace)?;
+    Ok(write(Change::Pointer(v as u8)))
 }
 
 // `PM E=v`.
-pub fn to_trigger(v: Number) -> Decision
-    ensures { result ≡ decided (judged v (bad_clock v) 7) (Change.Trigger v) silent }
+pub fn to_trigger(x: Context, v: Number) -> Result<Accepted, Refused>
+    ensures { result ≡ decision (cells_for x.size) x 0 (Command.Trigger v) }
 {
-    write(
-        decision::judged(v, valid::bad_clock(v), 7),
-        Change::Trigger(low8(v)),
-    )
+    refuse_if(too_large(v), Refused::TooLarge)?;
+    refuse_if(valid::bad_clock(v), Refused::BadType)?;
+    Ok(write(Change::Trigger(v as u8)))
 }
 
 // `36CCA X=v`. A preset that drives BNC1 while it is the trigger's input is 13.
-pub fn to_preset(x: Context, v: Number) -> Decision
+pub fn to_preset(x: Context, v: Number) -> Result<Accepted, Refused>
     ensures { result ≡ decision (cells_for x.size) x 0 (Command.Preset v) }
 {
-    let k = decision::judged(v, card::presets::bad_preset(v, x.size), 8);
-    write(
-        or_else(k, when(card::context::preset_drives(x, v), 13)),
-        Change::Preset(v),
-    )
+    refuse_if(too_large(v), Refused::TooLarge)?;
+    refuse_if(card::presets::bad_preset(v, x.size), Refused::BadPreset)?;
+    refuse_if(card::context::preset_drives(x, v), Refused::FrontDriven)?;
+    Ok(write(Change::Preset(v)))
 }
 
 // `36CCA Y=v`. At a connector 13 follows 7.
-pub fn to_kind(x: Context, v: Number) -> Decision
+pub fn to_kind(x: Context, v: Number) -> Result<Accepted, Refused>
     ensures { result ≡ decision (cells_for x.size) x 0 (Command.SetKind v) }
 {
+    refuse_if(too_large(v), Refused::TooLarge)?;
     if x.at_cell {
-        return write(
-            decision::judged(v, valid::bad_cell_type(v), 7),
-            Change::Kind(low8(v)),
-        );
+        refuse_if(valid::bad_cell_type(v), Refused::BadType)?;
+        return Ok(write(Change::Kind(v as u8)));
     }
-    let k = decision::judged(v, valid::bad_connector_type(v), 7);
-    write(
-        or_else(k, when(card::context::drives_front(x, v), 13)),
-        Change::ConnectorKind(low8(v)),
-    )
+    refuse_if(valid::bad_connector_type(v), Refused::BadType)?;
+    refuse_if(card::context::drives_front(x, v), Refused::FrontDriven)?;
+    Ok(write(Change::ConnectorKind(v as u8)))
 }
 
 // `36CCA Z=v`: the configuration of a cell, or the source of a connector.
-pub fn to_config(x: Context, v: Number) -> Decision
+pub fn to_config(x: Context, v: Number) -> Result<Accepted, Refused>
     ensures { result ≡ decision (cells_for x.size) x 0 (Command.SetConfig v) }
 {
-    let cell = x.cell;
+    refuse_if(too_large(v), Refused::TooLarge)?;
     if x.at_cell {
-        return write(
-            decision::judged(v, valid::bad_config(cell.kind, v), 9),
-            Change::Config(low32(v)),
-        );
+        refuse_if(valid::bad_config(x.cell.kind, v), Refused::BadConfig)?;
+        return Ok(write(Change::Config(v as u32)));
     }
-    write(
-        decision::judged(v, valid::bad_address(v, x.size), 11),
-        Change::Source(low8(v)),
-    )
+    refuse_if(valid::bad_address(v, x.size), Refused::BadAddress)?;
+    Ok(write(Change::Source(v as u8)))
 }
 
 // `36CCA F=v`.
-pub fn to_state(x: Context, v: Number) -> Decision
+pub fn to_state(x: Context, v: Number) -> Result<Accepted, Refused>
     ensures { result ≡ decision (cells_for x.size) x 0 (Command.SetState v) }
 {
-    let cell = x.cell;
-    let k = decision::judged(v, !x.at_cell, 6);
-    write(
-        or_else(k, when(valid::bad_state(cell.kind, v), 12)),
-        Change::State(low32(v)),
-    )
+    refuse_if(too_large(v), Refused::TooLarge)?;
+    refuse_if(!x.at_cell, Refused::AtConnector)?;
+    refuse_if(valid::bad_state(x.cell.kind, v), Refused::BadState)?;
+    Ok(write(Change::State(v as u32)))
 }
 
-// Whether a test holds of some slot that was given.
-fn any_given(given: Slots, x: bool, y: bool, z: bool, f: bool) -> bool
-    ensures { result ≡ any_given given x y z f }
-{
-    ((given.x & x) | (given.y & y)) | ((given.z & z) | (given.f & f))
-}
-
+// Whether one of the numbers is too large.
 fn any_too_large(p: Pairs) -> bool
     ensures { result ≡ any_too_large p }
 {
-    let x = too_large(p.x);
-    let y = too_large(p.y);
-    let z = too_large(p.z);
-    let f = too_large(p.f);
-    any_given(p.given, x, y, z, f)
+    let large = p.x.is_some_and(too_large) | p.y.is_some_and(too_large);
+    large | p.z.is_some_and(too_large) | p.f.is_some_and(too_large)
 }
 
+// Whether one of them is no address.
 fn any_bad_address(p: Pairs, size: u8) -> bool
     ensures { result ≡ any_bad_address (cells_for size) p }
 {
-    let bad = valid::bad_addresses(p.x, p.y, p.z, p.f, size);
-    any_given(p.given, bad.x, bad.y, bad.z, bad.f)
+    let bad = valid::bad_addresses(
+        p.x.unwrap_or(0),
+        p.y.unwrap_or(0),
+        p.z.unwrap_or(0),
+        p.f.unwrap_or(0),
+        size,
+    );
+    let given = p.given();
+    ((given.x & bad.x) | (given.y & bad.y)) | ((given.z & bad.z) | (given.f & bad.f))
 }
 
-// All pairs or none: 4 and 6 come before 10 and 11, whichever pair meets them.
-fn slots_number(x: Context, p: Pairs) -> u8
-    ensures { result ≡ (decision (cells_for x.size) x 0 (Command.SetSlots p)).k }
+// The address of a slot, 0 where none is given.
+fn wire(slot: Option<Number>) -> u8
+    requires { IfSome slot (λ v. v < 256) }
+    ensures { result ≡ wire_of slot }
 {
-    let cell = x.cell;
-    let first = or_else(when(any_too_large(p), 4), when(!x.at_cell, 6));
-    let unused = when(valid::unused_slot(cell.kind, p.given), 10);
-    or_else(first, or_else(unused, when(any_bad_address(p, x.size), 11)))
+    match slot {
+        Some(v) => v as u8,
+        None => 0,
+    }
 }
 
-fn wire(given: bool, v: Number) -> u8
-    ensures { result ≡ wire_of given (v % 256) }
-{
-    if given { low8(v) } else { 0 }
-}
-
-// `36CCB` and its pairs: all of them take effect, or none.
-pub fn to_slots(x: Context, p: Pairs) -> Decision
+// `36CCB` and its pairs: all of them take effect, or none. 4 and 6 come before 10 and 11, whichever
+// pair meets them.
+pub fn to_slots(x: Context, p: Pairs) -> Result<Accepted, Refused>
     ensures { result ≡ decision (cells_for x.size) x 0 (Command.SetSlots p) }
 {
-    let given = p.given;
-    let wires = Wires {
-        given: given,
-        x: wire(given.x, p.x),
-        y: wire(given.y, p.y),
-        z: wire(given.z, p.z),
-        f: wire(given.f, p.f),
-    };
-    write(slots_number(x, p), Change::Slots(wires))
+    let given = p.given();
+    let unused = valid::unused_slot(x.cell.kind, given);
+    let bad = any_bad_address(p, x.size);
+    refuse_if(any_too_large(p), Refused::TooLarge)?;
+    refuse_if(!x.at_cell, Refused::AtConnector)?;
+    refuse_if(unused, Refused::UnusedSlot)?;
+    refuse_if(bad, Refused::BadAddress)?;
+    Ok(write(Change::Slots(Wires {
+        given,
+        x: wire(p.x),
+        y: wire(p.y),
+        z: wire(p.z),
+        f: wire(p.f),
+    })))
 }

@@ -9,7 +9,7 @@ use card::place::cells_for;
 use card::valid;
 use cells::cell::Cell;
 use cells::table::row_of;
-use grammar::grammar::{Command, Pairs, Parsed};
+use grammar::grammar::{Command, NoCommand, Pairs};
 
 // 5: there is no such place.
 fn put_place(page: &mut Page, v: Number, size: u8) {
@@ -114,17 +114,13 @@ fn put_address(page: &mut Page, v: Number, size: u8) {
 
 // The first number of a line's slots that is no address.
 fn bad_number(p: Pairs, size: u8) -> Number {
-    let given = p.given;
-    if given.x & valid::bad_address(p.x, size) {
-        return p.x;
-    }
-    if given.y & valid::bad_address(p.y, size) {
-        return p.y;
-    }
-    if given.z & valid::bad_address(p.z, size) {
-        return p.z;
-    }
-    p.f
+    let first = bad_in(p.x, size).or(bad_in(p.y, size));
+    first.or(bad_in(p.z, size)).or(p.f).unwrap_or(0)
+}
+
+// The number of a slot that is no address.
+fn bad_in(slot: Option<Number>, size: u8) -> Option<Number> {
+    slot.filter(|v| valid::bad_address(*v, size))
 }
 
 // 12: no state, or over its range.
@@ -174,13 +170,13 @@ fn put_command(page: &mut Page, k: u8, x: Context, command: Command) {
 }
 
 // A line that was refused with k.
-pub fn put_refused(page: &mut Page, text: &[u8], k: u8, x: Context, p: Parsed) {
+pub fn put_refused(page: &mut Page, text: &[u8], k: u8, x: Context, p: Result<Command, NoCommand>) {
     match p {
-        Parsed::Malformed => put_form(page, text),
-        Parsed::Elsewhere => page.say(
+        Err(NoCommand::Malformed) => put_form(page, text),
+        Err(NoCommand::Elsewhere) => page.say(
             "    3: the line is for another card. This one has the address 36: write that.\n",
         ),
-        Parsed::Here(command) => put_command(page, k, x, command),
+        Ok(command) => put_command(page, k, x, command),
     }
 }
 

@@ -11,7 +11,7 @@ use Rattle.text.proofs.DigitLaws.{both_left, both_right}
 use Rattle.card.specs.declared.card.Card.{Card}
 use Rattle.saved.specs.Record.{config_width, record_length, record_of, saved_to}
 use Rattle.lines.specs.declared.line.Outcome.{Outcome}
-use Rattle.lines.specs.Line.{line_outcome, store_with}
+use Rattle.lines.specs.Line.{saves, line_outcome, store_with}
 use Rattle.calls.proofs.SaveLoad.{save-room}
 use Rattle.rack.specs.Supply.{draws_of, over}
 use Rattle.rack.specs.Rack.{over_supply, bad_number, card_of, outcome_by, outcome_in, row_outcome, lined_row, row_result}
@@ -25,13 +25,13 @@ module _ (n : ℕ) (cards : List Card) (number : ℕ) (text reply store : List �
   o = line_outcome n c text (length reply) (length store)
 
   abbrev Stored : Outcome → Type 0
-  Stored r = store_with n c r store ≡ sets store 0 (cond (eqb r.k 0 && r.response.saves) (record_of n config_width c) [])
+  Stored r = store_with n c r store ≡ sets store 0 (cond (eqb r.k 0 && saves r.response) (record_of n config_width c) [])
 
   accepted : Stored o
   unfolding saved_to
-  accepted = go (eqb o.k 0 && o.response.saves) refl
+  accepted = go (eqb o.k 0 && saves o.response) refl
     where
-      go : (b : Bool) → (eqb o.k 0 && o.response.saves) ≡ b
+      go : (b : Bool) → (eqb o.k 0 && saves o.response) ≡ b
           → cond b (saved_to n config_width c store) store ≡ sets store 0 (cond b (record_of n config_width c) [])
       go false e = refl
       go true e =

@@ -12,10 +12,13 @@ use Rattle.card.specs.Address.{cell_count, cells_for}
 use Rattle.card.specs.Context.{context_of}
 use Rattle.card.specs.Change.{changed}
 use Rattle.saved.specs.Record.{config_width, saved_to, load_number, loaded}
-use Rattle.lines.specs.declared.decision.Decision.{Decision}
+use Rattle.std.specs.Prelude.{Result}
+use Rattle.lines.specs.declared.decision.Accepted.{Accepted}
+use Rattle.lines.specs.declared.refused.Refused.{Refused}
+use Rattle.lines.specs.declared.decision.Response.TheVariants.{Silent}
 use Rattle.lines.specs.declared.decision.Response.{Response}
 use Rattle.lines.specs.declared.line.Outcome.{Outcome}
-use Rattle.lines.specs.Line.{silent, shortest_reply, acceptance, refusal_text, reply_of, reply_with, line_decision, line_outcome, result_for}
+use Rattle.lines.specs.Line.{saves, number_in, change_in, response_in, shortest_reply, acceptance, refusal_text, reply_of, reply_with, line_decision, line_outcome, result_for}
 use Rattle.calls.proofs.Lists.{refused-kept}
 use Rattle.rack.specs.declared.row.Refused.TheVariants.{OverSupply, NoRack, ByCard}
 use Rattle.rack.specs.Supply.{draws_of, over}
@@ -58,11 +61,11 @@ module _ (cards : List Card) (number : ℕ) where
     unfolding row_outcome
     no_card e = rw e (refl, refl, refl)
 
-    module _ (place : ℕ) (d : Card) (at : IsPlace cards number place) (x : Decision) (next : Card)
+    module _ (place : ℕ) (d : Card) (at : IsPlace cards number place) (x : Result Accepted Refused) (next : Card)
         (said : let n = cells_for (own place d at).size in x ≡ line_decision n (context_of n (own place d at)) text reply store)
-        (made : next ≡ changed (cells_for (own place d at).size) (own place d at) x.change) where
+        (made : next ≡ changed (cells_for (own place d at).size) (own place d at) (change_in x)) where
       abbrev alone : Outcome
-      alone = record { k = x.k; card = next; response = x.response }
+      alone = record { k = number_in x; card = next; response = response_in x }
 
       is_alone : alone ≡ line_outcome cell_count c text reply store
       unfolding line_outcome
@@ -70,8 +73,8 @@ module _ (cards : List Card) (number : ℕ) where
           let e = here place d at in
           let n = size place d at in
           let x' = said ∙ (λ i. line_decision (n i) (context_of (n i) (e i)) text reply store) in
-          let next' = made ∙ (λ i. changed (n i) (e i) (x' i).change) in
-          λ i. record { k = (x' i).k; card = next' i; response = (x' i).response }
+          let next' = made ∙ (λ i. changed (n i) (e i) (change_in (x' i))) in
+          λ i. record { k = number_in (x' i); card = next' i; response = response_in (x' i) }
 
       in-rack : o ≡ outcome_in false (draws_of cards) (number - 1) c alone
       unfolding row_outcome
@@ -79,24 +82,24 @@ module _ (cards : List Card) (number : ℕ) where
           (λ i. outcome_in (at.good i) (draws_of cards) (number - 1) c (line_outcome cell_count c text reply store))
           ∙ ap (outcome_in false (draws_of cards) (number - 1) c) (sym is_alone)
 
-      pub by_card : eqb x.k 0 ≡ false → IsRefused c o (ByCard x.k)
+      pub by_card : eqb (number_in x) 0 ≡ false → IsRefused c o (ByCard (number_in x))
       by_card e =
           let kept = ap (λ (r : Outcome). r.card) is_alone ∙ refused-kept cell_count c text reply store (ap (λ (r : Outcome). eqb r.k 0) (sym is_alone) ∙ e) in
           let own : outcome_in false (draws_of cards) (number - 1) c alone ≡ alone =
           ap (λ (b : Bool). outcome_by (cond (b && over (draws_of cards) (number - 1) c.connectors next.connectors) over_supply 0) c alone) e in
           rw (in-rack, own) (refl, e, kept)
 
-      module _ (zero : x.k ≡ 0) (many : Bool) (over-is : over (draws_of cards) place (own place d at).connectors next.connectors ≡ many) where
-        by-many : o ≡ outcome_by (cond many over_supply 0) c (record { k = 0; card = next; response = x.response })
+      module _ (zero : number_in x ≡ 0) (many : Bool) (over-is : over (draws_of cards) place (own place d at).connectors next.connectors ≡ many) where
+        by-many : o ≡ outcome_by (cond many over_supply 0) c (record { k = 0; card = next; response = response_in x })
         by-many =
             in-rack ∙ (λ i. outcome_by (cond (eqb (zero i) 0 && supply place d at next many over-is i) over_supply 0) c
-            (record { k = zero i; card = next; response = x.response }))
+            (record { k = zero i; card = next; response = response_in x }))
 
-      pub by_supply : x.k ≡ 0 → over (draws_of cards) place (own place d at).connectors next.connectors ≡ true → IsRefused c o OverSupply
+      pub by_supply : number_in x ≡ 0 → over (draws_of cards) place (own place d at).connectors next.connectors ≡ true → IsRefused c o OverSupply
       by_supply zero many = rw (by-many zero true many) (refl, refl, refl)
 
-      pub accepted : x.k ≡ 0 → over (draws_of cards) place (own place d at).connectors next.connectors ≡ false
-          → o ≡ record { k = 0; card = next; response = x.response }
+      pub accepted : number_in x ≡ 0 → over (draws_of cards) place (own place d at).connectors next.connectors ≡ false
+          → o ≡ record { k = 0; card = next; response = response_in x }
       accepted zero few = by-many zero false few
 
   -- ---- a load
@@ -141,17 +144,17 @@ module _ (cards : List Card) (number : ℕ) where
     -- a refused line writes its number, and nothing else
     pub refused_result : (k : ℕ) → (let r = row_outcome cell_count cards number text (length reply) (length store) in
         (r.k ≡ k) × (eqb r.k 0 ≡ false) × (r.card ≡ c))
-        → record { k = k; len = length (reply_with (length reply) k silent); row = cards; reply = sets reply 0 (reply_with (length reply) k silent); store = store }
+        → record { k = k; len = length (reply_with (length reply) k Silent); row = cards; reply = sets reply 0 (reply_with (length reply) k Silent); store = store }
         ≡ result
     unfolding row_result reply_of
     refused_result k h =
         let r = row_outcome cell_count cards number text (length reply) (length store) in
         let zero = ap (λ (m : ℕ). eqb m 0) (sym h.0) ∙ h.1 in
         let by : Bool → Response → ℕ → List ℕ = λ b response m. cond (ltb (length reply) shortest_reply) [] (cond b (acceptance response) (refusal_text m)) in
-        let said : reply_with (length reply) k silent ≡ reply_with (length reply) r.k r.response = ap (λ (b : Bool). by b silent k) zero
+        let said : reply_with (length reply) k Silent ≡ reply_with (length reply) r.k r.response = ap (λ (b : Bool). by b Silent k) zero
         ∙ ap (by false r.response) (sym h.0) ∙ ap (λ (b : Bool). by b r.response r.k) (sym h.1) in
         let row = sym (set-get_or cards (number - 1) (start_card cell_count)) ∙ ap (set cards (number - 1)) (sym h.2) in
-        let kept = ap (λ (b : Bool). cond (b && r.response.saves) (saved_to cell_count config_width c store) store) (sym h.1) in
+        let kept = ap (λ (b : Bool). cond (b && saves r.response) (saved_to cell_count config_width c store) store) (sym h.1) in
         λ i. record { k = sym h.0 i; len = length (said i); row = row i; reply = sets reply 0 (said i); store = kept i }
 
     pub accepted_result : (card : Card) (response : Response)
@@ -161,7 +164,7 @@ module _ (cards : List Card) (number : ℕ) where
           len = length (reply_with (length reply) 0 response);
           row = set cards (number - 1) card;
           reply = sets reply 0 (reply_with (length reply) 0 response);
-          store = cond response.saves (saved_to cell_count config_width c store) store;
+          store = cond (saves response) (saved_to cell_count config_width c store) store;
         }
         ≡ result
     unfolding row_result

@@ -18,7 +18,8 @@ use Rattle.ticks.specs.declared.tick.Ticked.{Ticked}
 use Rattle.saved.specs.Record.{config_width, record_of, load_number, loaded}
 use Rattle.saved.proofs.Records.{load-refused}
 use Rattle.lines.specs.declared.line.Outcome.{Outcome}
-use Rattle.lines.specs.Line.{line_outcome, silent, reply_with}
+use Rattle.lines.specs.declared.decision.Response.TheVariants.{Silent}
+use Rattle.lines.specs.Line.{line_outcome, saves, reply_with}
 use Rattle.lines.specs.Line
 use Rattle.calls.specs.Runs.{end_of, answers_of, since}
 use Rattle.calls.specs.Calls
@@ -152,7 +153,7 @@ module _ (n : ℕ) where
       let c = card_of n cards number in
       by-outcome cards i h number (Calls.Call.line text reply store) (line_outcome n c text (length reply) (length store))
       (λ o. Calls.Reply.line_reply o.k (reply_with (length reply) o.k o.response)
-      (cond (eqb o.k 0 && o.response.saves) (record_of n config_width c) []))
+      (cond (eqb o.k 0 && saves o.response) (record_of n config_width c) []))
       (refused-kept n c text (length reply) (length store))
       (λ at. (
         ap (λ (d : Card). Calls.after_call n d (Calls.Call.line text reply store)) (ap (here cards) at),
@@ -161,7 +162,7 @@ module _ (n : ℕ) where
       (bad_number cards number) refl
   call-follows cards (load number bytes) i h =
       let c = card_of n cards number in
-      let o : Outcome = record { k = load_number n bytes; card = loaded n c bytes; response = silent } in
+      let o : Outcome = record { k = load_number n bytes; card = loaded n c bytes; response = Silent } in
       let same = as-outcome (bad_number cards number) in
       rw (same.1, same.0) (by-outcome cards i h number (Calls.Call.load bytes) o (λ o. Calls.Reply.load_reply o.k) (load-refused n c bytes)
       (λ at. (ap (λ (d : Card). loaded n d bytes) (ap (here cards) at), refl)) (bad_number cards number) refl)
@@ -171,7 +172,7 @@ module _ (n : ℕ) where
 
       r : Bool → Outcome
       r b = outcome_in b (draws_of cards) (number - 1) (card_of n cards number)
-          (record { k = load_number n bytes; card = loaded n (card_of n cards number) bytes; response = silent })
+          (record { k = load_number n bytes; card = loaded n (card_of n cards number) bytes; response = Silent })
 
       as-outcome : (b : Bool) → (k' b ≡ (r b).k) × (cond (eqb (k' b) 0) (loaded n (card_of n cards number) bytes) (card_of n cards number) ≡ (r b).card)
       as-outcome true = (refl, refl)
@@ -181,7 +182,7 @@ module _ (n : ℕ) where
         where
           go : (q : Bool) → let k = number_by (cond q over_supply 0) (load_number n bytes) in
               let o : Outcome = outcome_by (cond q over_supply 0) (card_of n cards number)
-              (record { k = load_number n bytes; card = loaded n (card_of n cards number) bytes; response = silent }) in
+              (record { k = load_number n bytes; card = loaded n (card_of n cards number) bytes; response = Silent }) in
               (k ≡ o.k) × (cond (eqb k 0) (loaded n (card_of n cards number) bytes) (card_of n cards number) ≡ o.card)
           go true = (refl, refl)
           go false = (refl, last (eqb (load_number n bytes) 0) refl)

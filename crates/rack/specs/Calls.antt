@@ -4,7 +4,7 @@ use Rattle.std.specs.Prelude.{ℕ, ◌≡◌, Bool, false, ◌&&◌, cond, List,
 use Rattle.std.proofs.lemmas.List.Edits.{sets}
 use Rattle.card.specs.declared.card.Card.{Card}
 use Rattle.saved.specs.Record.{config_width, record_of}
-use Rattle.lines.specs.Line.{reply_with}
+use Rattle.lines.specs.Line.{saves, reply_with}
 use Rattle.calls.specs.Runs.{end_of, answers_of}
 use Rattle.rack.specs.declared.tick.RackInput.{RackInput}
 use Rattle.rack.specs.declared.tick.RackTicked.{RackTicked}
@@ -41,7 +41,7 @@ module _ (n : ℕ) where
   unfoldable pub row_saved : List Card → (number : ℕ) (text : List ℕ) (reply store : ℕ) → List ℕ
   row_saved cards number text reply store =
       let o = row_outcome n cards number text reply store in
-      cond (eqb o.k 0 && o.response.saves) (record_of n config_width (card_of n cards number)) []
+      cond (eqb o.k 0 && saves o.response) (record_of n config_width (card_of n cards number)) []
 
   -- what a line answers and saves is what it leaves in the buffers, and the row is the one that it
   -- leaves

@@ -19,9 +19,9 @@ use Rattle.card.specs.Valid.{permitted_base, bad_place, bad_cell_type, bad_conne
 use Rattle.text.specs.Digits.{every}
 use Rattle.card.specs.Valid.{bad_state, no_state, front_driven, valid_slot, valid_slots, valid_cell, valid_connector, valid}
 use Rattle.ticks.specs.Tick.{read_now, read_last, named, turn_at, outputs_below, turned, tick}
-use Rattle.grammar.specs.Grammar.{is_word, is_whole, to_end, slot_of, gave, give, pair_read, pairs_of, write_of, cca_write, cca_read, cca_form, slot_form, ccb_form}
-use Rattle.grammar.specs.Grammar.{read_of, read_form, card_form, plain_form, addressed, parse}
-use Rattle.lines.specs.Refusal.{alone, refusal}
+use Rattle.grammar.specs.Grammar.{is_word, is_whole, to_end, slot_of, pair_read, steps, pairs_of, cca_form, ccb_form}
+use Rattle.grammar.specs.Grammar.{read_form, card_form, plain_form, addressed, parse}
+use Rattle.lines.specs.Refusal.{refusal}
 use Rattle.std.specs.Int.Count.{ones, ones_in}
 use Rattle.words.specs.Bits.{count_of}
 use Rattle.cells.specs.Wake.{stirred_as, stirred, disagree, wakes}
@@ -36,7 +36,7 @@ use Rattle.ticks.specs.Levels.{effective_sample, driven_word, pulled_word, level
 use Rattle.saved.specs.Record.{config_width, big_endian, cell_field, connector_field, fields_from, encode, big_value, cell_in, connector_in, normal_cell}
 use Rattle.saved.specs.Record.{record_of, same_bytes}
 use Rattle.saved.specs.Record.{load_number_as, loaded_as, load_number, loaded}
-use Rattle.lines.specs.Line.{shortest_reply, slot_index, change_for, response_to, decision, decision_for, line_decision, line_outcome, reply_of}
+use Rattle.lines.specs.Line.{shortest_reply, change_for, response_to, decision, decision_for, line_decision, line_outcome, reply_of}
 use Rattle.calls.specs.Runs.{end_of, answers_of}
 use Rattle.rack.specs.declared.tick.Front.{Front}
 use Rattle.rack.specs.Shared.{pulls, shared_levels, shared_tick}
@@ -244,9 +244,9 @@ unfolding preset_cell preset_source sets_front preset ones ones_in with_bit word
     read_now read_last named turn_at outputs_below turned tick permitted_base bad_place bad_cell_type bad_connector_type
     bad_clock bad_config unused_slot bad_address no_config bad_state_as bad_state no_state front_driven valid_slot valid_slots
     valid_cell valid_connector every valid big_endian cell_field connector_field fields_from encode big_value cell_in
-    connector_in normal_cell record_of same_bytes load_number_as loaded_as load_number loaded is_word is_whole to_end slot_of gave
-    give pair_read pairs_of write_of cca_write cca_read cca_form slot_form ccb_form read_of read_form card_form plain_form
-    addressed parse alone refusal slot_index changed change_for response_to decision decision_for line_decision line_outcome
+    connector_in normal_cell record_of same_bytes load_number_as loaded_as load_number loaded is_word is_whole to_end slot_of
+    pair_read steps pairs_of cca_form ccb_form read_form card_form plain_form
+    addressed parse refusal changed change_for response_to decision decision_for line_decision line_outcome
     reply_of kind_at source_at with_kind with_source each from_each well_formed driven_word levels_from pulled_word count_of
     pulls shared_levels shared_tick pushes draw same_kinds over start_number started_row ticks_from
     tick_number ticked_row row_answers row_outcome lined_row row_load_number loaded_row row_reply row_saved after_call answer

@@ -12,7 +12,8 @@ use Rattle.ticks.specs.declared.tick.Answer.{Answer}
 use Rattle.ticks.specs.declared.tick.Ticked.{Ticked}
 use Rattle.saved.specs.Record.{load_number, loaded}
 use Rattle.lines.specs.declared.line.Outcome.{Outcome}
-use Rattle.lines.specs.Line.{line_outcome, silent, result_for}
+use Rattle.lines.specs.declared.decision.Response.TheVariants.{Silent}
+use Rattle.lines.specs.Line.{line_outcome, result_for}
 use Rattle.rack.specs.declared.tick.Front.{Front}
 use Rattle.rack.specs.declared.tick.RackInput.{RackInput}
 use Rattle.rack.specs.declared.tick.RackTicked.{RackTicked}
@@ -130,7 +131,7 @@ refusal_in bad numbers place a b k = cond bad no_rack (cond (eqb k 0 && over num
 
 -- the outcome of a line, and the number of a load, of which the rack refuses r
 abbrev pub outcome_by : (r : ℕ) → Card → Outcome → Outcome
-outcome_by r c o = cond (eqb r 0) o (record { k = r; card = c; response = silent })
+outcome_by r c o = cond (eqb r 0) o (record { k = r; card = c; response = Silent })
 
 abbrev pub number_by : (r k : ℕ) → ℕ
 number_by r k = cond (eqb r 0) k r

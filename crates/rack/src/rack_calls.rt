@@ -9,7 +9,7 @@ use crate::row::{Refused, is_rack, line_in, load_in, start_card};
 use crate::supply::MOST;
 use crate::tick::{IDLE, RackInput, RackTicked, tick_all};
 use card::card::Card;
-use lines::decision::SILENT;
+use lines::decision::Response;
 use lines::line::{put_reply_if, save_if};
 
 // What a call on a row answers: 0 or the number of the refusal, and the reply's length.
@@ -63,13 +63,13 @@ pub fn rack_line(
     match line_in(row, number, text, reply.len(), store.len()) {
         Ok(line) => {
             let len = put_reply_if(reply, 0, line.response);
-            save_if(line.response.saves, row[line.place], store);
+            save_if(line.response.saves(), row[line.place], store);
             row[line.place] = line.card;
             Replied { k: 0, len }
         }
         Err(refused) => {
             let k = refused.number();
-            let len = put_reply_if(reply, k, SILENT);
+            let len = put_reply_if(reply, k, Response::Silent);
             Replied { k, len }
         }
     }

@@ -2,7 +2,8 @@
 ghost use Rattle.std.specs.Prelude.{◌≡◌, ◌≤◌, ◌<◌, ◌-◌, not, true, false, length, get_or, eqb, MatchResult};
 ghost use Rattle.card.specs.Address.{cell_count};
 ghost use Rattle.saved.specs.Record;
-ghost use Rattle.rack.specs.declared.row.Refused.TheVariants.{OverSupply, NoRack};
+ghost use Rattle.lines.specs.Refusal.{number_of};
+ghost use Rattle.rack.specs.declared.row.Refused.TheVariants.{OverSupply, NoRack, ByCard};
 ghost use Rattle.rack.specs.Supply;
 ghost use Rattle.rack.specs.Supply.{most_cards, draws_of};
 ghost use Rattle.rack.specs.Rack;
@@ -33,6 +34,14 @@ impl Refused {
             Refused::NoRack => 20,
             Refused::ByCard(k) => k,
         }
+    }
+}
+
+impl From<lines::refused::Refused> for Refused {
+    ghost from_gives = { λ why e. e ≡ ByCard (number_of why) };
+
+    fn from(why: lines::refused::Refused) -> Refused {
+        Refused::ByCard(why.number())
     }
 }
 
@@ -106,16 +115,13 @@ pub(crate) fn line_in(
 {
     let place = place_of(row, number)?;
     let card = row[place];
-    let d = lines::line::judge(card, text, reply, store);
-    if d.k != 0 {
-        return Err(Refused::ByCard(d.k));
-    }
-    let next = card::change::apply(card, d.change);
+    let accepted = lines::line::judge(card, text, reply, store)?;
+    let next = card::change::apply(card, accepted.change);
     check_supply(row, place, next.connectors)?;
     Ok(Lined {
         place,
         card: next,
-        response: d.response,
+        response: accepted.response,
     })
 }
 

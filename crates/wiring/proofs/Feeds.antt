@@ -17,7 +17,7 @@ use Rattle.card.specs.Connectors.{each}
 use Rattle.card.specs.Fresh.{fresh_of}
 use Rattle.card.specs.Valid.{valid_card}
 use Rattle.grammar.specs.declared.grammar.Slot.{Slot}
-use Rattle.grammar.specs.declared.grammar.Slot.TheVariants.{X, Y, Z, F, NoSlot}
+use Rattle.grammar.specs.declared.grammar.Slot.TheVariants.{X, Y, Z, F}
 use Rattle.grammar.specs.declared.grammar.Command.{Command}
 use Rattle.grammar.specs.declared.grammar.Command.TheVariants.{Move, Where, Trigger, Home, Preset, SetKind, SetConfig, SetState, GetKind, GetConfig}
 use Rattle.grammar.specs.declared.grammar.Command.TheVariants.{GetState, SetSlots, GetSlot, Front, Back, Cells, Upper, Save}
@@ -54,7 +54,6 @@ letter-free X = refl
 letter-free Y = refl
 letter-free Z = refl
 letter-free F = refl
-letter-free NoSlot = refl
 
 pairs-free : (pairs : List (Slot × ℕ)) → free (pairs_text pairs) ≡ true
 unfolding every pairs_text

@@ -23,7 +23,7 @@ use Rattle.grammar.specs.declared.grammar.Command.TheVariants.{Trigger, SetConfi
 use Rattle.grammar.specs.declared.grammar.Slot.{Slot}
 use Rattle.grammar.specs.declared.grammar.Slot.TheVariants.{X, Y, Z, F}
 use Rattle.grammar.specs.Grammar.{blank, equals, CCA, CCB, M-E=, PM-E=}
-use Rattle.wiring.specs.Wiring.{only, pairs_in, cell_commands, connector_commands, commands_from, wiring}
+use Rattle.wiring.specs.Wiring.{only, slot_in, pairs_in, cell_commands, connector_commands, commands_from, wiring}
 use Rattle.grammar.specs.Texts.{letter_of, card_line, given_pair, given_pairs, pairs_text, command_text}
 use Rattle.wiring.specs.Parts.{line_feed, lines_text, commands_text, part, slots_text}
 use Rattle.wiring.specs.Print.{wiring_text}
@@ -65,7 +65,7 @@ pairs-append (q ∷ qs) b =
     ap (λ (r : List ℕ). pair q.0 ++ (decimal q.1 ++ r)) (pairs-append qs b)
     ∙ ap (λ (r : List ℕ). pair q.0 ++ r) (sym (append_assoc (decimal q.1) (pairs_text qs) (pairs_text b)))
 
-pair-part : (given : Bool) (s : Slot) (v : ℕ) → pairs_text (given_pair given s v) ≡ part given (pair s) v []
+pair-part : (used : Bool) (s : Slot) (v : ℕ) → pairs_text (given_pair s (slot_in used v)) ≡ part used (pair s) v []
 unfolding pairs_text part
 pair-part true s v = refl
 pair-part false s v = refl
@@ -92,16 +92,17 @@ module _ (cell : Cell) where
     unfolding slots_text commands_text lines_text command_text
     slot-parts x y z f ex ey ez ef e =
         let p = pairs_in cell in
-        let g = p.given in
+        let g = (row_of cell.kind).used in
+        let s = cell.slots in
         let all : pairs_text (given_pairs p)
-        ≡ part g.x (pair X) p.x [] ++ (part g.y (pair Y) p.y [] ++ (part g.z (pair Z) p.z [] ++ part g.f (pair F) p.f [])) =
-        pairs-append (given_pair g.x X p.x) _ ∙ ap₂ ◌++◌ (pair-part g.x X p.x)
-        (pairs-append (given_pair g.y Y p.y) _ ∙ ap₂ ◌++◌ (pair-part g.y Y p.y)
-        (pairs-append (given_pair g.z Z p.z) _ ∙ ap₂ ◌++◌ (pair-part g.z Z p.z) (pair-part g.f F p.f))) in
+        ≡ part g.x (pair X) (get_or s 0 0) [] ++ (part g.y (pair Y) (get_or s 1 0) [] ++ (part g.z (pair Z) (get_or s 2 0) [] ++ part g.f (pair F) (get_or s 3 0) [])) =
+        pairs-append (given_pair X p.x) _ ∙ ap₂ ◌++◌ (pair-part g.x X _)
+        (pairs-append (given_pair Y p.y) _ ∙ ap₂ ◌++◌ (pair-part g.y Y _)
+        (pairs-append (given_pair Z p.z) _ ∙ ap₂ ◌++◌ (pair-part g.z Z _) (pair-part g.f F _))) in
         let one : List ℕ → List ℕ = λ pairs. card_line CCB ++ (pairs ++ LF) in
         rw (ex, ey, ez, ef, known, sym (ap any_slot known) ∙ e) (
-        six-parts (card_line CCB) (part g.x (pair X) p.x []) (part g.y (pair Y) p.y []) (part g.z (pair Z) p.z [])
-        (part g.f (pair F) p.f []) LF
+        six-parts (card_line CCB) (part g.x (pair X) (get_or s 0 0) []) (part g.y (pair Y) (get_or s 1 0) []) (part g.z (pair Z) (get_or s 2 0) [])
+        (part g.f (pair F) (get_or s 3 0) []) LF
         ∙ ap one (sym all)
         )
 

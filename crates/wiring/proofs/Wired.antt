@@ -1,19 +1,20 @@
 -- Valid settings are set by their lines: one command at a place, the commands of one cell and of one connector, lifted over their lists.
 use Prim.Native.Nat.{ℕ, suc, ◌+◌, ◌-◌, ◌^◌, ◌≤◌, ◌<◌}
 use mathlib.Core.Path.{◌≡◌, refl, sym, ap, subst, ◌∙◌}
-use mathlib.Core.Bool.{Bool, true, false, cond, and-false}
+use mathlib.Core.Bool.{Bool, true, false, cond, ◌&&◌, ◌||◌, and-false}
+use Rattle.std.specs.Prelude.{None, is_some}
 use mathlib.Core.List.{List, [], ◌∷◌, ◌++◌, map}
 use native.Mathlib.Omega.{arith}
 use lib.Dec.{eqb}
 use lib.ListN.{length, get_or, set, take, replicate, length-map, length-set, length-append, length-replicate}
 use lib.Seq.{sets, sets-eq, take_at, drop_at}
-use borrow.Author.Tests.{le-ltb, lt-ltb, eq-eqb}
+use borrow.Author.Tests.{le-ltb, lt-ltb}
 use Rattle.text.specs.Decimal.{max_digits}
 use Rattle.text.proofs.Stores.{sets-all}
 use Rattle.cells.specs.declared.cell.Cell.{Cell}
 use Rattle.cells.specs.declared.table.Slots.{Slots}
 use Rattle.cells.specs.State.{state_of, cell_of}
-use Rattle.cells.specs.Table.{row_of, any_slot, largest_config}
+use Rattle.cells.specs.Table.{slots, row_of, any_slot, largest_config}
 use Rattle.words.proofs.Bools.{and_left, and_right}
 use Rattle.card.specs.declared.card.Card.{Card}
 use Rattle.card.specs.declared.card.Connector.{Connector}
@@ -30,18 +31,19 @@ use Rattle.card.proofs.Settings.{cell-config, Sound, split}
 use Rattle.card.proofs.ConnectorLaws.{length-each, each-unique}
 use Rattle.card.proofs.ValidLaws.{kind-known, kind-good, source-good, formed, fresh-valid}
 use Rattle.card.proofs.WriteLaws.{CellWritten, ConnectorWritten, written_is, unslotted, configured-is, config-permitted, slots-each, slots-permitted}
-use Rattle.card.proofs.WriteLaws.{slot-unused, slot-most, address-most, used-given, cell-place, connector-place, at-cell, current-written, move-written}
+use Rattle.card.proofs.WriteLaws.{slot-most, address-most, used-given, cell-place, connector-place, at-cell, current-written, move-written}
 use Rattle.card.proofs.WriteLaws.{type-written, config-written, slots-written, beside-cells, move-connector-written, connector-type-written, source-written}
 use Rattle.card.proofs.WriteLaws.{trigger-leaves}
 use Rattle.grammar.specs.declared.grammar.Command.{Command}
 use Rattle.grammar.specs.declared.grammar.Command.TheVariants.{Move, Trigger, SetKind, SetConfig, SetSlots}
-use Rattle.lines.specs.Refusal.{too_large, largest_number, any_too_large, refusal}
+use Rattle.grammar.specs.Grammar.{given}
+use Rattle.lines.specs.Refusal.{too_large, largest_number, given_and, any_given, any_too_large, refusal}
 use Rattle.lines.specs.Line.{wire_of, wires_of, change_for, obeyed, decision, decision_for, shortest_reply, line_decision, line_outcome}
 use Rattle.grammar.specs.Texts.{command_text, printable, printable_slot}
-use Rattle.wiring.specs.Wiring.{only, pairs_in, cell_commands, connector_commands, commands_from, wiring}
+use Rattle.wiring.specs.Wiring.{only, slot_in, pairs_in, cell_commands, connector_commands, commands_from, wiring}
 use Rattle.grammar.specs.Texts.{printable_command}
 use Rattle.wiring.specs.Settable.{fed, all_accepted, Settable}
-use Rattle.lines.proofs.Decisions.{clock-fits, kind_fits, connector-fits}
+use Rattle.lines.proofs.Decisions.{clock_fits, kind_fits, connector_fits}
 use Rattle.grammar.proofs.Printed.{text-parses}
 
 -- ---- commands and their lines
@@ -49,7 +51,7 @@ use Rattle.grammar.proofs.Printed.{text-parses}
 -- commands one after the other, each printable and accepted, lead from c to d
 data Runs (n store : ℕ) : Card → List Command → Card → Type 0 where
   none : {c : Card} → Runs n store c [] c
-  next : {c d : Card} {command : Command} {commands : List Command} → printable_command n command ≡ true → refusal n (context_of n c) store command ≡ 0
+  next : {c d : Card} {command : Command} {commands : List Command} → printable_command n command ≡ true → refusal n (context_of n c) store command ≡ None
       → Runs n store (obeyed n c command) commands d → Runs n store c (command ∷ commands) d
 
 module _ {n store : ℕ} where
@@ -58,7 +60,7 @@ module _ {n store : ℕ} where
   both_run (next prints free early) later = next prints free (both_run early later)
 
   only-runs : (test : Bool) (c : Card) (command : Command) → (test ≡ true → printable_command n command ≡ true)
-      → (test ≡ true → refusal n (context_of n c) store command ≡ 0)
+      → (test ≡ true → refusal n (context_of n c) store command ≡ None)
       → Runs n store c (only test command) (cond test (obeyed n c command) c)
   only-runs true c command prints free = next (prints refl) (free refl) none
   only-runs false c command prints free = none
@@ -79,12 +81,12 @@ record Reaches (n store : ℕ) (c : Card) (commands : List Command) (t : ℕ) (c
 
 -- the line of a command that is not refused is accepted, and obeyed
 module _ (n reply store : ℕ) (room : shortest_reply ≤ reply) where
-  line-accepted : (c : Card) (command : Command) → printable_command n command ≡ true → refusal n (context_of n c) store command ≡ 0
+  line-accepted : (c : Card) (command : Command) → printable_command n command ≡ true → refusal n (context_of n c) store command ≡ None
       → (line_outcome n c (command_text command) reply store).k ≡ 0
   unfolding line_decision line_outcome decision_for decision
-  line-accepted c command prints free = rw (le-ltb reply shortest_reply room, text-parses n command prints) free
+  line-accepted c command prints free = rw (le-ltb reply shortest_reply room, text-parses n command prints, free)
 
-  line-obeyed : (c : Card) (command : Command) → printable_command n command ≡ true → refusal n (context_of n c) store command ≡ 0
+  line-obeyed : (c : Card) (command : Command) → printable_command n command ≡ true → refusal n (context_of n c) store command ≡ None
       → (line_outcome n c (command_text command) reply store).card ≡ obeyed n c command
   unfolding line_decision line_outcome decision_for decision
   line-obeyed c command prints free = rw (le-ltb reply shortest_reply room, text-parses n command prints, free)
@@ -109,11 +111,36 @@ small-printable v h = lt-ltb v (10 ^ max_digits) (omega arith)
 small-fits : (v : ℕ) → v ≤ largest_number → too_large v ≡ false
 small-fits v h = le-ltb largest_number v h
 
-slot-printable : (n : ℕ) (used edge : Bool) (a : ℕ) → valid_slot n used edge a ≡ true → printable_slot used a ≡ true
+-- ---- the slots of a cell, as a line gives them
+
+slot-given : (used : Bool) (a : ℕ) → is_some (slot_in used a) ≡ used
+slot-given true a = refl
+slot-given false a = refl
+
+given-used : (cell : Cell) → given (pairs_in cell) ≡ (row_of cell.kind).used
+given-used cell =
+    let u = (row_of cell.kind).used in
+    λ i. slots (slot-given u.x (get_or cell.slots 0 0) i) (slot-given u.y (get_or cell.slots 1 0) i) (slot-given u.z (get_or cell.slots 2 0) i)
+    (slot-given u.f (get_or cell.slots 3 0) i)
+
+slot-test : (bad : ℕ → Bool) (used : Bool) (a : ℕ) → given_and bad (slot_in used a) ≡ (used && bad a)
+slot-test bad true a = refl
+slot-test bad false a = refl
+
+-- a test of the slots that are given
+slots-test : (bad : ℕ → Bool) (cell : Cell) → let u = (row_of cell.kind).used in let s = cell.slots in any_given bad (pairs_in cell)
+    ≡ (((u.x && bad (get_or s 0 0)) || (u.y && bad (get_or s 1 0))) || ((u.z && bad (get_or s 2 0)) || (u.f && bad (get_or s 3 0))))
+slots-test bad cell =
+    let u = (row_of cell.kind).used in
+    let s = cell.slots in
+    λ i. (slot-test bad u.x (get_or s 0 0) i || slot-test bad u.y (get_or s 1 0) i)
+    || (slot-test bad u.z (get_or s 2 0) i || slot-test bad u.f (get_or s 3 0) i)
+
+slot-printable : (n : ℕ) (used edge : Bool) (a : ℕ) → valid_slot n used edge a ≡ true → printable_slot (slot_in used a) ≡ true
 slot-printable n true edge a ok =
     let most = slot-most n true edge a ok in
     small-printable a (omega arith)
-slot-printable n false edge a ok = eq-eqb a 0 (slot-unused n edge a ok)
+slot-printable n false edge a ok = refl
 
 -- of the slots of a valid cell
 module _ (n : ℕ) (cell : Cell) (ok : valid_cell n cell ≡ true) where
@@ -125,7 +152,8 @@ module _ (n : ℕ) (cell : Cell) (ok : valid_cell n cell ≡ true) where
       let y = slot-most n r.used.y r.edge.y _ each.1 in
       let z = slot-most n r.used.z r.edge.z _ each.2 in
       let f = slot-most n r.used.f r.edge.f _ each.3 in
-      rw (
+      slots-test too_large cell
+      ∙ rw (
         small-fits (get_or cell.slots 0 0) (omega arith),
         small-fits (get_or cell.slots 1 0) (omega arith),
         small-fits (get_or cell.slots 2 0) (omega arith),
@@ -142,7 +170,7 @@ module _ (n : ℕ) (cell : Cell) (ok : valid_cell n cell ≡ true) where
       let r = row_of cell.kind in
       let each = slots-each n cell ok in
       rw (
-        some,
+        ap any_slot (given-used cell) ∙ some,
         slot-printable n r.used.x r.edge.x (get_or cell.slots 0 0) each.0,
         slot-printable n r.used.y r.edge.y (get_or cell.slots 1 0) each.1,
         slot-printable n r.used.z r.edge.z (get_or cell.slots 2 0) each.2,
@@ -160,29 +188,29 @@ whole-cell n cell ok = go (any_slot (row_of cell.kind).used) refl
     go false e = unslotted n cell ok e ∙ written_is n cell ok
 
 -- a slot that is not given keeps what it holds, whatever address is given for it
-slot-given : (given edge : Bool) (v old : ℕ) → wired_slot given edge v old ≡ wired_slot given edge (wire_of given v) old
-slot-given true edge v old = refl
-slot-given false edge v old = refl
+slot-kept : (used edge : Bool) (v old : ℕ) → wired_slot used edge v old ≡ wired_slot used edge (wire_of (slot_in used v)) old
+slot-kept true edge v old = refl
+slot-kept false edge v old = refl
 
-wired-given : (cell : Cell) (given : Slots) (v : List ℕ) → wired cell given v
-    ≡ wired cell given
-    (wire_of given.x (get_or v 0 0) ∷ wire_of given.y (get_or v 1 0) ∷ wire_of given.z (get_or v 2 0) ∷ wire_of given.f (get_or v 3 0) ∷ [])
+wired-given : (cell : Cell) (used : Slots) (v : List ℕ) → wired cell used v
+    ≡ wired cell used
+    (wire_of (slot_in used.x (get_or v 0 0)) ∷ wire_of (slot_in used.y (get_or v 1 0)) ∷ wire_of (slot_in used.z (get_or v 2 0)) ∷ wire_of (slot_in used.f (get_or v 3 0)) ∷ [])
 unfolding wired
-wired-given cell given v =
+wired-given cell used v =
     let edge = (row_of cell.kind).edge in
-    let x = slot-given given.x edge.x (get_or v 0 0) (get_or cell.slots 0 0) in
-    let y = slot-given given.y edge.y (get_or v 1 0) (get_or cell.slots 1 0) in
-    let z = slot-given given.z edge.z (get_or v 2 0) (get_or cell.slots 2 0) in
-    let f = slot-given given.f edge.f (get_or v 3 0) (get_or cell.slots 3 0) in
+    let x = slot-kept used.x edge.x (get_or v 0 0) (get_or cell.slots 0 0) in
+    let y = slot-kept used.y edge.y (get_or v 1 0) (get_or cell.slots 1 0) in
+    let z = slot-kept used.z edge.z (get_or v 2 0) (get_or cell.slots 2 0) in
+    let f = slot-kept used.f edge.f (get_or v 3 0) (get_or cell.slots 3 0) in
     λ i. cell_of cell.kind cell.config (x i ∷ y i ∷ z i ∷ f i ∷ []) (state_of cell)
 
 module _ (n store : ℕ) (apart : first_cell + n ≤ first_connector) where
   module _ (c : Card) (i : ℕ) (within : i < n) where
-    move-free : refusal n (context_of n c) store (Move (first_cell + i)) ≡ 0
+    move-free : refusal n (context_of n c) store (Move (first_cell + i)) ≡ None
     unfolding refusal
     move-free = rw (small-fits (first_cell + i) (omega arith), cell-place n i within)
 
-    kind-free : (old : Cell) (d : Card) → CellWritten c i old d → (v : ℕ) → bad_cell_type v ≡ false → refusal n (context_of n d) store (SetKind v) ≡ 0
+    kind-free : (old : Cell) (d : Card) → CellWritten c i old d → (v : ℕ) → bad_cell_type v ≡ false → refusal n (context_of n d) store (SetKind v) ≡ None
     unfolding refusal
     kind-free old d w v known =
         let small = kind_fits v known in
@@ -196,7 +224,7 @@ module _ (n store : ℕ) (apart : first_cell + n ≤ first_connector) where
       kind-here : (current_cell n d).kind ≡ old.kind
       kind-here = ap (λ (cell : Cell). cell.kind) (current-written n c i within there old d w)
 
-      config-free : (v : ℕ) → v ≤ largest_config → bad_config old.kind v ≡ false → refusal n (context_of n d) store (SetConfig v) ≡ 0
+      config-free : (v : ℕ) → v ≤ largest_config → bad_config old.kind v ≡ false → refusal n (context_of n d) store (SetConfig v) ≡ None
       unfolding refusal
       config-free v small good = rw (at-cell n c i within d w.pointer, small-fits v small, kind-here, good)
 
@@ -206,18 +234,18 @@ module _ (n store : ℕ) (apart : first_cell + n ≤ first_connector) where
 
       -- the slots of a valid cell of this type
       module _ (cell : Cell) (ok : valid_cell n cell ≡ true) (same : old.kind ≡ cell.kind) where
-        slots-free : refusal n (context_of n d) store (SetSlots (pairs_in cell)) ≡ 0
+        slots-free : refusal n (context_of n d) store (SetSlots (pairs_in cell)) ≡ None
         unfolding refusal
         slots-free =
             let kind = kind-here ∙ same in
-            rw (slots_small n cell ok, at-cell n c i within d w.pointer, kind, used-given cell.kind, slots-permitted n cell ok)
+            rw (slots_small n cell ok, at-cell n c i within d w.pointer, kind, given-used cell, used-given cell.kind, slots-test (bad_address n) cell, slots-permitted n cell ok)
 
         slots-obeyed : CellWritten c i (wired old (row_of cell.kind).used cell.slots) (obeyed n d (SetSlots (pairs_in cell)))
         unfolding changed change_for wired
         slots-obeyed =
             let used = (row_of cell.kind).used in
             let wires = wires_of (pairs_in cell) in
-            rw (wired-given old used cell.slots)
+            rw (given-used cell, wired-given old used cell.slots)
             (slots-written n c i within there old d w used (wires.x ∷ wires.y ∷ wires.z ∷ wires.f ∷ []))
 
       -- one of two
@@ -269,16 +297,16 @@ module _ (n store : ℕ) (apart : first_cell + n ≤ first_connector) where
   -- the commands of a valid connector set it, and nothing else of the settings; under trigger 0 no type is refused with 13
   module _ (c : Card) (k : ℕ) (within : k < connector_count) (whole : well_formed c.connectors ≡ true) (idle : c.trigger ≡ 0) where
     type-free : (old : Connector) (d : Card) → ConnectorWritten c k old d → (v : ℕ) → bad_connector_type v ≡ false
-        → refusal n (context_of n d) store (SetKind v) ≡ 0
+        → refusal n (context_of n d) store (SetKind v) ≡ None
     unfolding refusal front_driven
     type-free old d w v known =
-        let small = connector-fits v known in
+        let small = connector_fits v known in
         let away = beside-cells c k within n apart d w.pointer in
         let off = w.trigger ∙ idle in
         rw (away, small-fits v (omega arith), known, off, and-false (eqb d.pointer first_connector))
 
     source_free : (old : Connector) (d : Card) → ConnectorWritten c k old d → (v : ℕ) → bad_address n v ≡ false
-        → refusal n (context_of n d) store (SetConfig v) ≡ 0
+        → refusal n (context_of n d) store (SetConfig v) ≡ None
     unfolding refusal
     source_free old d w v good =
         let most = address-most n v good in
@@ -292,7 +320,7 @@ module _ (n store : ℕ) (apart : first_cell + n ≤ first_connector) where
         let source = connector.source in
         let known = kind-good n connector ok in
         let good = source-good n connector ok in
-        let low = connector-fits kind known in
+        let low = connector_fits kind known in
         let most = address-most n source good in
         let moved = move c (first_connector + k) in
         let w0 = move-connector-written c k within whole in
@@ -303,7 +331,7 @@ module _ (n store : ℕ) (apart : first_cell + n ≤ first_connector) where
         let d2 = obeyed n d1 (SetConfig source) in
         let v2 : ConnectorWritten c k connector d2 =
         rw (beside-cells c k within n apart d1 v1.pointer) (source-written c k within _ d1 v1 source) in
-        let free : refusal n (context_of n c) store (Move (first_connector + k)) ≡ 0 =
+        let free : refusal n (context_of n c) store (Move (first_connector + k)) ≡ None =
         rw (small-fits (first_connector + k) (omega arith), connector-place n k within) in
         record {
           card = d2;
@@ -382,8 +410,8 @@ module _ (n store : ℕ) (apart : first_cell + n ≤ first_connector) where
       let long : length connectors ≡ length (each front.card.connectors) = others ∙ sym (length-each front.card.connectors) in
       let set-connectors : each back.card.connectors ≡ connectors = back.connectors ∙ sets-all (each front.card.connectors) connectors long in
       let sound : Sound n trigger cells (each back.card.connectors) = subst (Sound n trigger cells) (sym set-connectors) s in
-      let low = clock-fits trigger s.clock in
-      let free : refusal n (context_of n back.card) store (Trigger trigger) ≡ 0 = rw (small-fits trigger (omega arith), s.clock) in
+      let low = clock_fits trigger s.clock in
+      let free : refusal n (context_of n back.card) store (Trigger trigger) ≡ None = rw (small-fits trigger (omega arith), s.clock) in
       record {
         card = set_trigger back.card trigger;
         runs = both_run front.runs (both_run back.runs (next (small-printable trigger (omega arith)) free none));

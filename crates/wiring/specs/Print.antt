@@ -4,7 +4,6 @@ use Rattle.std.specs.Prelude.{ℕ, Bool, cond, List, ltb, length, take}
 use Rattle.std.proofs.lemmas.List.Edits.{sets}
 use Rattle.card.specs.Connectors.{each}
 use Rattle.card.specs.declared.card.Card.{Card}
-use Rattle.lines.specs.Refusal.{when}
 use Rattle.wiring.specs.Wiring.{wiring}
 use Rattle.wiring.specs.Parts.{commands_text}
 
@@ -18,7 +17,7 @@ too_long n c size = ltb size (length (wiring_text n c))
 
 -- "k": 0, or 16
 abbrev pub print_number : ℕ → Card → (size : ℕ) → ℕ
-print_number n c size = when (too_long n c size) 16
+print_number n c size = cond (too_long n c size) 16 0
 
 -- "the text's length, 0 when refused"
 abbrev pub print_length : ℕ → Card → (size : ℕ) → ℕ

@@ -1,6 +1,6 @@
 -- The settings of a card as a list of commands, and as the lines that say them. Document 01,
 -- "Lines", has the commands' forms.
-use Rattle.std.specs.Prelude.{ℕ, suc, ◌+◌, Bool, cond, List, [], ◌∷◌, ◌++◌, map, get_or}
+use Rattle.std.specs.Prelude.{ℕ, suc, ◌+◌, Bool, cond, List, [], ◌∷◌, ◌++◌, map, get_or, Option, Some, None}
 use Rattle.cells.specs.declared.cell.Cell.{Cell}
 use Rattle.cells.specs.Table.{row_of, any_slot}
 use Rattle.card.specs.declared.card.Connector.{Connector}
@@ -14,15 +14,19 @@ use Rattle.grammar.specs.Texts.{command_text}
 abbrev pub only : Bool → Command → List Command
 only test command = cond test (command ∷ []) []
 
+-- the address in a slot that is used
+abbrev pub slot_in : (used : Bool) → ℕ → Option ℕ
+slot_in used a = cond used (Some a) None
+
 -- the slots that a cell uses, with the addresses that they hold
 abbrev pub pairs_in : Cell → Pairs
 pairs_in cell =
+    let used = (row_of cell.kind).used in
     record {
-      given = (row_of cell.kind).used;
-      x = get_or cell.slots 0 0;
-      y = get_or cell.slots 1 0;
-      z = get_or cell.slots 2 0;
-      f = get_or cell.slots 3 0;
+      x = slot_in used.x (get_or cell.slots 0 0);
+      y = slot_in used.y (get_or cell.slots 1 0);
+      z = slot_in used.z (get_or cell.slots 2 0);
+      f = slot_in used.f (get_or cell.slots 3 0);
     }
 
 -- a cell: the pointer, the type, the configuration where the type has one, and the slots where it

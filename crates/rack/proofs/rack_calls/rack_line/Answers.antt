@@ -1,5 +1,6 @@
 -- `rack::rack_calls::rack_line` meets its contract.
 use Rattle.std.proofs.Common.{set, sym, ◌∙◌}
+use Rattle.lines.specs.Line.{saves}
 use Rattle.rack.proofs.Calls.{saved_here, refused_result, accepted_result}
 use Rattle.rack.proofs.rack_calls.rack_line.Goals as goal
 
@@ -9,7 +10,8 @@ returns-in-Ok c =
     let l = c.in-Ok.line in
     let h = c.in-Ok.ensures in
     let put = c.put_reply_if-len.ensures in
-    let store = saved_here a.row.now a.number l.place _ h.0 l.response.saves a.store.now _ c.save_if.ensures in (
+    let saved = rw c.saves.ensures at c.save_if.ensures in
+    let store = saved_here a.row.now a.number l.place _ h.0 (saves l.response) a.store.now _ saved in (
       (λ i. record { k = 0; len = put.value i; row = set a.row.now (h.0.value i) l.card; reply = put.reply_after i; store = store i })
           ∙ accepted_result a.row.now a.number a.text.now a.reply.now a.store.now l.card l.response h.1,
       put.upper_bound,
