@@ -77,6 +77,7 @@ fn least_holds(before: [Cell; CELLS], after: [Cell; CELLS], n: u8) -> u32
     all
 }
 
+// Word by word, as its definition is and the law on it (`same-means`), which speaks of each.
 fn same_memory(a: Memory, b: Memory) -> bool
     ensures { result ≡ (same_words a b && same_outputs a b) }
 {
