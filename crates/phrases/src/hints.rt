@@ -108,7 +108,7 @@ fn uses(kind: u8, slot: Slot) -> bool {
         Slot::X => used.x,
         Slot::Y => used.y,
         Slot::Z => used.z,
-        _ => used.f,
+        Slot::F => used.f,
     }
 }
 
@@ -126,7 +126,7 @@ fn is_data(kind: u8, slot: Slot) -> bool {
     match slot {
         Slot::X => is_flop(kind),
         Slot::Y => kind == 13,
-        _ => false,
+        Slot::Z | Slot::F => false,
     }
 }
 

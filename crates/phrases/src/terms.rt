@@ -35,7 +35,7 @@ pub(crate) fn letter(slot: Slot) -> char {
         Slot::X => 'X',
         Slot::Y => 'Y',
         Slot::Z => 'Z',
-        _ => 'F',
+        Slot::F => 'F',
     }
 }
 
@@ -48,7 +48,7 @@ pub fn address_in(cell: Cell, slot: Slot) -> u8
         Slot::X => x,
         Slot::Y => y,
         Slot::Z => z,
-        _ => f,
+        Slot::F => f,
     }
 }
 
@@ -66,14 +66,14 @@ fn flop_role(flop: FlopKind, slot: Slot) -> &'static str {
         (FlopKind::Jk, Slot::X) => " (J)",
         (FlopKind::Jk, Slot::Y) => " (K)",
         (FlopKind::Jk, Slot::Z) => " (clock)",
-        (FlopKind::Jk, _) => "",
+        (FlopKind::Jk, Slot::F) => "",
         (_, Slot::X) => " (D)",
         (_, Slot::Y) => " (clock)",
         (FlopKind::SyncDFlop, Slot::Z) => " (reset at clock)",
         (_, Slot::Z) => " (reset)",
-        (FlopKind::DFlop, _) => " (preset)",
-        (FlopKind::SyncDFlop, _) => " (preset at clock)",
-        (FlopKind::ClearDFlop, _) => " (reset at clock)",
+        (FlopKind::DFlop, Slot::F) => " (preset)",
+        (FlopKind::SyncDFlop, Slot::F) => " (preset at clock)",
+        (FlopKind::ClearDFlop, Slot::F) => " (reset at clock)",
     }
 }
 
@@ -83,7 +83,7 @@ fn timed_role(slot: Slot, x: &'static str, f: &'static str) -> &'static str {
         Slot::X => x,
         Slot::Y => " (clock)",
         Slot::Z => " (reset)",
-        _ => f,
+        Slot::F => f,
     }
 }
 
