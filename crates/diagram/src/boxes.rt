@@ -6,66 +6,66 @@ use crate::kept::{
     CLOCK, EDITED, F, FULL, OTHER, STARTED, TIMED, TRIGGER, Ticks, WOKEN, X, Y, Z, has,
 };
 use crate::places::{Strip, column_width, number_of, x_of};
-use program::writer::{Room, Writer, put, put_with};
+use program::writer::{Writer, Written};
 
-fn put_if(out: &mut Room, w: Writer, wanted: bool, text: &[u8]) -> Writer {
+fn put_if(out: &mut Writer, wanted: bool, text: &[u8]) -> Written {
     if wanted {
-        return put(out, w, text);
+        return out.put(text);
     }
-    w
+    Ok(())
 }
 
-fn either(out: &mut Room, w: Writer, first: bool, a: &[u8], b: &[u8]) -> Writer {
+fn either(out: &mut Writer, first: bool, a: &[u8], b: &[u8]) -> Written {
     if first {
-        return put(out, w, a);
+        return out.put(a);
     }
-    put(out, w, b)
+    out.put(b)
 }
 
 // Cell i was edited before tick t, or a slot has another value.
-fn put_changes(out: &mut Room, w: Writer, ticks: &Ticks, t: usize, i: u32) -> Writer {
-    let a = put_if(out, w, has(ticks, t, EDITED, i), b", edited");
-    let b = put_if(out, a, has(ticks, t, X, i), b", X changed");
-    let c = put_if(out, b, has(ticks, t, Y, i), b", Y changed");
-    let d = put_if(out, c, has(ticks, t, Z, i), b", Z changed");
-    put_if(out, d, has(ticks, t, F, i), b", F changed")
+fn put_changes(out: &mut Writer, ticks: &Ticks, t: usize, i: u32) -> Written {
+    put_if(out, has(ticks, t, EDITED, i), b", edited")?;
+    put_if(out, has(ticks, t, X, i), b", X changed")?;
+    put_if(out, has(ticks, t, Y, i), b", Y changed")?;
+    put_if(out, has(ticks, t, Z, i), b", Z changed")?;
+    put_if(out, has(ticks, t, F, i), b", F changed")
 }
 
 // X, as a trigger or a start, is high.
-fn put_trigger(out: &mut Room, w: Writer, ticks: &Ticks, t: usize, i: u32) -> Writer {
+fn put_trigger(out: &mut Writer, ticks: &Ticks, t: usize, i: u32) -> Written {
     if !has(ticks, t, TRIGGER, i) {
-        return w;
+        return Ok(());
     }
     let starts = has(ticks, t, STARTED, i);
-    either(out, w, starts, b", start high", b", trigger high")
+    either(out, starts, b", start high", b", trigger high")
 }
 
 // F, as a second trigger or a stop.
-fn put_other(out: &mut Room, w: Writer, ticks: &Ticks, t: usize, i: u32) -> Writer {
+fn put_other(out: &mut Writer, ticks: &Ticks, t: usize, i: u32) -> Written {
     if !has(ticks, t, OTHER, i) {
-        return w;
+        return Ok(());
     }
     let stops = has(ticks, t, STARTED, i);
-    either(out, w, stops, b", stop high", b", second trigger high")
+    either(out, stops, b", stop high", b", second trigger high")
 }
 
-fn put_clock(out: &mut Room, w: Writer, ticks: &Ticks, t: usize, i: u32) -> Writer {
+fn put_clock(out: &mut Writer, ticks: &Ticks, t: usize, i: u32) -> Written {
     if !has(ticks, t, CLOCK, i) {
-        return w;
+        return Ok(());
     }
     let timed = has(ticks, t, TIMED, i);
-    either(out, w, timed, b", clock high while active", b", clock high")
+    either(out, timed, b", clock high while active", b", clock high")
 }
 
 // "tick 5, X changed, clock high"
-fn put_title(out: &mut Room, w: Writer, number: u64, ticks: &Ticks, t: usize, i: u32) -> Writer {
-    let a = put_with(out, w, b"<title>tick ", number, b"");
-    let b = put_changes(out, a, ticks, t, i);
-    let c = put_trigger(out, b, ticks, t, i);
-    let d = put_other(out, c, ticks, t, i);
-    let e = put_clock(out, d, ticks, t, i);
-    let f = put_if(out, e, has(ticks, t, FULL, 0), b", full tick");
-    put(out, f, b"</title>")
+fn put_title(out: &mut Writer, number: u64, ticks: &Ticks, t: usize, i: u32) -> Written {
+    out.put_with(b"<title>tick ", number, b"")?;
+    put_changes(out, ticks, t, i)?;
+    put_trigger(out, ticks, t, i)?;
+    put_other(out, ticks, t, i)?;
+    put_clock(out, ticks, t, i)?;
+    put_if(out, has(ticks, t, FULL, 0), b", full tick")?;
+    out.put(b"</title>")
 }
 
 // Whether the rules name cell i in tick t. If not, it is worked out because the tick is full.
@@ -79,42 +79,39 @@ fn is_named(ticks: &Ticks, t: usize, i: u32) -> bool {
 
 // The box of cell i in tick t, which has a number, in a column that begins at x.
 fn put_box(
-    out: &mut Room,
-    w: Writer,
+    out: &mut Writer,
     x: u64,
     width: u64,
     number: u64,
     ticks: &Ticks,
     t: usize,
     i: u32,
-) -> Writer {
-    let a = either(
+) -> Written {
+    either(
         out,
-        w,
         is_named(ticks, t, i),
         b"<path class=\"b\" d=\"M",
         b"<path class=\"a\" d=\"M",
-    );
-    let b = put_with(out, a, b"", x, b" 0h");
-    let c = put_with(out, b, b"", width, b"v21H");
-    let d = put_with(out, c, b"", x, b"z\">");
-    let e = put_title(out, d, number, ticks, t, i);
-    put(out, e, b"</path>\n")
+    )?;
+    out.put_with(b"", x, b" 0h")?;
+    out.put_with(b"", width, b"v21H")?;
+    out.put_with(b"", x, b"z\">")?;
+    put_title(out, number, ticks, t, i)?;
+    out.put(b"</path>\n")
 }
 
 // All boxes of cell i in a strip.
-pub fn put_boxes(out: &mut Room, writer: Writer, ticks: &Ticks, s: Strip, i: u32) -> Writer
+pub fn put_boxes(out: &mut Writer, ticks: &Ticks, s: Strip, i: u32) -> Written
     requires { Fits s }
 {
     let start = s.start;
     let end = s.end;
-    let mut w = writer;
     for t in start..end {
         if has(ticks, t + 1, WOKEN, i) {
             let x = x_of(t - start, s.wide);
             let number = number_of(s.before, t);
-            w = put_box(out, w, x, column_width(s.wide), number, ticks, t + 1, i);
+            put_box(out, x, column_width(s.wide), number, ticks, t + 1, i)?;
         }
     }
-    w
+    Ok(())
 }

@@ -6,82 +6,82 @@ use card::card::Card;
 use card::connectors::connector_at;
 use card::limits::{CONNECTORS_END, FIRST_CONNECTOR, OPEN_DRAIN};
 use phrases::names::{connector, type_name};
-use program::writer::{Room, Writer, put, put_with};
+use program::writer::{Writer, Written};
 
-fn put_cell_name(out: &mut Room, w: Writer, card: Card, i: u32) -> Writer
+fn put_cell_name(out: &mut Writer, card: Card, i: u32) -> Written
     requires { i < 32 }
 {
     let cells = card.cells;
     let cell = cells[i as usize];
-    let a = put_with(out, w, b"cell ", i as u64 + 1, b" ");
-    put(out, a, type_name(cell.kind).as_bytes())
+    out.put_with(b"cell ", i as u64 + 1, b" ")?;
+    out.put(type_name(cell.kind).as_bytes())
 }
 
 // Connector k, BNC1 first.
-fn put_connector(out: &mut Room, w: Writer, k: u8) -> Writer {
-    put(out, w, &connector(k))
+fn put_connector(out: &mut Writer, k: u8) -> Written {
+    out.put(&connector(k))
 }
 
 // What is at a base: a cell or a connector.
-fn put_base(out: &mut Room, w: Writer, base: u8) -> Writer {
+fn put_base(out: &mut Writer, base: u8) -> Written {
     if base < FIRST_CONNECTOR {
-        return put_with(out, w, b"cell ", base as u64, b"");
+        return out.put_with(b"cell ", base as u64, b"");
     }
     if base < CONNECTORS_END {
-        return put_connector(out, w, base - FIRST_CONNECTOR);
+        return put_connector(out, base - FIRST_CONNECTOR);
     }
-    put(out, w, b"reserved")
+    out.put(b"reserved")
 }
 
 // How an address reads it.
-fn put_reading(out: &mut Room, w: Writer, quarter: u8) -> Writer {
+fn put_reading(out: &mut Writer, quarter: u8) -> Written {
     match quarter {
-        0 => w,
-        1 => put(out, w, b"inverse of "),
-        2 => put(out, w, b"rise of "),
-        _ => put(out, w, b"fall of "),
+        0 => Ok(()),
+        1 => out.put(b"inverse of "),
+        2 => out.put(b"rise of "),
+        _ => out.put(b"fall of "),
     }
 }
 
 // An address, by what it reads.
-fn put_address(out: &mut Room, w: Writer, address: u8) -> Writer {
+fn put_address(out: &mut Writer, address: u8) -> Written {
     let base = address % 64;
     let quarter = address / 64;
     if base != 0 {
-        let a = put_reading(out, w, quarter);
-        return put_base(out, a, base);
+        put_reading(out, quarter)?;
+        return put_base(out, base);
     }
     if quarter % 2 == 1 {
-        return put(out, w, b"always high");
+        return out.put(b"always high");
     }
-    put(out, w, b"always low")
+    out.put(b"always low")
 }
 
 // Connector k as an output, with its source.
-fn put_output(out: &mut Room, w: Writer, card: Card, k: u32) -> Writer
+fn put_output(out: &mut Writer, card: Card, k: u32) -> Written
     requires { k < 16 }
 {
     let row = card.connectors;
     let c = connector_at(row, k);
-    let a = put_connector(out, w, k as u8);
-    let b = put(out, a, b" &lt;- ");
-    let d = put_address(out, b, c.source);
+    put_connector(out, k as u8)?;
+    out.put(b" &lt;- ")?;
+    put_address(out, c.source)?;
     if c.kind == OPEN_DRAIN {
-        return put(out, d, b", open-drain");
+        return out.put(b", open-drain");
     }
-    d
+    Ok(())
 }
 
 // The name of row r: inputs, cells, outputs.
-pub fn put_name(out: &mut Room, w: Writer, card: Card, r: u32) -> Writer
+pub fn put_name(out: &mut Writer, card: Card, r: u32) -> Written
     requires { r < most_rows }
 {
     if r < 16 {
-        let a = put_connector(out, w, r as u8);
-        return put(out, a, b" in");
+        put_connector(out, r as u8)?;
+        return out.put(b" in");
     }
     if r < 48 {
-        return put_cell_name(out, w, card, r - 16);
+        return put_cell_name(out, card, r - 16);
     }
-    put_output(out, w, card, r - 48)
+    put_output(out, card, r - 48)
 }

@@ -3,7 +3,7 @@
 ghost use Rattle.std.specs.Prelude.{◌+◌, ◌<◌, ◌≤◌};
 ghost use Rattle.diagram.specs.Page.{columns, most_rows};
 
-use program::writer::{Room, Writer, put_with};
+use program::writer::{Writer, Written};
 use std::num::wrapping_add_u64;
 
 // `columns`: ticks side by side.
@@ -50,10 +50,10 @@ pub fn x_of(k: usize, wide: bool) -> u64
     }
 }
 
-pub fn put_x(out: &mut Room, w: Writer, command: &[u8], k: usize, wide: bool) -> Writer
+pub fn put_x(out: &mut Writer, command: &[u8], k: usize, wide: bool) -> Written
     requires { k ≤ columns }
 {
-    put_with(out, w, command, x_of(k, wide), b"")
+    out.put_with(command, x_of(k, wide), b"")
 }
 
 pub fn column_width(wide: bool) -> u64

@@ -22,6 +22,16 @@ fn run_loop(rt: &HostRuntime, path: &[u8]) -> Result<(), NotRun> {
     Ok(())
 }
 
+// How many bytes come of a file, up to its end or to a read that fails.
+fn read_or_before(file: &mut Source, bytes: &mut [u8; MOST]) -> usize
+    ensures { result ≤ length bytes.new }
+{
+    match read_all(file, bytes) {
+        Ok(n) => n,
+        Err(failed) => failed.after,
+    }
+}
+
 // The bytes that the loop wrote, at the front of a buffer.
 fn read_wrote(rt: &HostRuntime, bytes: &mut [u8; MOST]) -> usize
     ensures { result ≤ length bytes.new }
@@ -30,8 +40,7 @@ fn read_wrote(rt: &HostRuntime, bytes: &mut [u8; MOST]) -> usize
         return 0;
     };
     let mut wrote = Source::Named(file);
-    let got = read_all(&mut wrote, bytes);
-    got.n
+    read_or_before(&mut wrote, bytes)
 }
 
 // What the run over the bytes in memory did is what plrun wrote, and it took them all.
@@ -60,9 +69,9 @@ pub fn run(rt: &HostRuntime, file: &mut Source, path: &[u8], size: u8) -> Result
     let mut session = [0u8; MOST];
     let mut wrote = [0u8; MOST];
     let mut output = [0u8; MOST];
-    let got = read_all(file, &mut session);
+    let given = read_or_before(file, &mut session);
     let n = read_wrote(rt, &mut wrote);
-    put(&wrote[0..n]);
-    compare(&session[0..got.n], &wrote[0..n], &mut output);
+    put(&wrote[..n]);
+    compare(&session[..given], &wrote[..n], &mut output);
     Ok(())
 }

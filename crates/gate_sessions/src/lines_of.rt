@@ -4,7 +4,7 @@ ghost use Rattle.std.specs.Prelude.{◌≤◌, length};
 use crate::{Form, put};
 use card::card::Card;
 use input::system::Source;
-use input::{BUFFER, LINE, Reader, least, next_line, start};
+use input::{BUFFER, Found, LINE, each_line};
 use saved::record::record_length;
 use session::{Event, LONGEST_PRINT};
 use ticks::rest::at_rest;
@@ -66,19 +66,13 @@ fn take_line(card: Card, line: &[u8], store: &mut [u8], form: Form) -> Card {
     }
 }
 
-// The line that a reader has given, if it has given one. It uses as much of the store as a record
-// of the card is long.
-fn take_given(card: Card, r: Reader, block: &[u8], store: &mut [u8], form: Form) -> Card
-    requires start_le_end { r.start ≤ r.end }
-    requires end_in_bounds { r.end ≤ length block.now }
-{
-    if !r.going {
+// What was found of the file: a line uses as much of the store as a record of the card is long.
+fn take(card: Card, found: Found, line: &[u8], store: &mut [u8], form: Form) -> Card {
+    if found != Found::Line {
         return card;
     }
-    let start = r.start;
-    let end = r.end;
-    let n = least(record_length(card.size), store.len());
-    take_line(card, &block[start..end], &mut store[0..n], form)
+    let n = record_length(card.size).min(store.len());
+    take_line(card, line, &mut store[..n], form)
 }
 
 // The card that the lines of an open file leave.
@@ -87,10 +81,9 @@ pub fn run(file: &mut Source, size: u8, form: Form) -> Card {
     let mut line = [0u8; LINE];
     let mut store = [0u8; STORE];
     let mut card = card::card::fresh_of(size);
-    let mut r = start();
-    while r.left > 0 && r.going {
-        r = next_line(r, file, &mut block, &mut line);
-        card = take_given(card, r, &block, &mut store, form);
-    }
+    each_line(file, &mut block, &mut line, |found, text| {
+        card = take(card, found, text, &mut store, form);
+        true
+    });
     card
 }

@@ -26,7 +26,7 @@ ghost use Rattle.std.specs.Prelude.{◌≤◌, length};
 use card::limits::{LARGE, SMALL};
 use explain::line::Style;
 use input::system::{STDOUT, Source, open_read};
-use input::{BUFFER, LINE, Reader, next_line, start};
+use input::{BUFFER, Found, LINE, each_line};
 
 #[derive(Clone, Copy)]
 enum Form {
@@ -160,26 +160,14 @@ fn take_row(rt: &HostRuntime, row: &[u8]) {
 
 // ---- the rows
 
-// The row that a reader has given, if it has given one.
-fn take_given(rt: &HostRuntime, r: Reader, block: &[u8])
-    requires start_le_end { r.start ≤ r.end }
-    requires end_in_bounds { r.end ≤ length block.now }
-{
-    if !r.going {
-        return;
-    }
-    let start = r.start;
-    let end = r.end;
-    take_row(rt, &block[start..end]);
-}
-
 fn main(rt: HostRuntime) {
     let mut block = [0u8; BUFFER];
     let mut row = [0u8; LINE];
     let mut rows = Source::Standard(rt.stdin());
-    let mut r = start();
-    while r.left > 0 && r.going {
-        r = next_line(r, &mut rows, &mut block, &mut row);
-        take_given(&rt, r, &block);
-    }
+    each_line(&mut rows, &mut block, &mut row, |found, line| {
+        if found == Found::Line {
+            take_row(&rt, line);
+        }
+        true
+    });
 }

@@ -12,7 +12,7 @@ ghost use Rattle.std.specs.Prelude.{◌≤◌, ◌<◌, length, IfSome};
 use crate::{put, put_field, put_number};
 use card::limits::{LARGE, SMALL};
 use input::system::{STDOUT, Source};
-use input::{BLOCK, Reader, least, next_line, start};
+use input::{BLOCK, Found, each_line};
 
 // The longest row of digits, the bytes that it says, and the longest buffer for a conversion.
 const LONGEST_ROW: usize = 1100;
@@ -68,7 +68,7 @@ fn put_hex(bytes: &[u8]) {
 
 // The first n bytes, or all where there are fewer.
 fn put_front(bytes: &[u8], n: usize) {
-    put_hex(&bytes[..least(n, bytes.len())]);
+    put_hex(&bytes[..n.min(bytes.len())]);
     put(b"\n");
 }
 
@@ -140,23 +140,14 @@ fn put_row(row: &[u8]) {
 
 // ---- the input
 
-// The row that a reader has given, if it has given one.
-fn put_given(r: Reader, block: &[u8])
-    requires start_le_end { r.start ≤ r.end }
-    requires end_in_bounds { r.end ≤ length block.now }
-{
-    if r.going {
-        put_row(&block[r.start..r.end]);
-    }
-}
-
 pub fn put_table(rt: &HostRuntime) {
     let mut block = [0u8; BUFFER];
     let mut row = [0u8; KEPT];
     let mut rows = Source::Standard(rt.stdin());
-    let mut r = start();
-    while r.left > 0 && r.going {
-        r = next_line(r, &mut rows, &mut block, &mut row);
-        put_given(r, &block);
-    }
+    each_line(&mut rows, &mut block, &mut row, |found, line| {
+        if found == Found::Line {
+            put_row(line);
+        }
+        true
+    });
 }

@@ -1,7 +1,7 @@
 -- Laws of taking lines: bytes without LF, a line that is cut, and the bytes of a block line by line.
 use Prim.Native.Nat.{ℕ, suc, ◌+◌, ◌-◌, ◌≤◌, ◌<◌, min}
 use mathlib.Core.Path.{◌≡◌, refl, sym, ap, ap₂, ◌∙◌}
-use mathlib.Core.Bool.{Bool, true, false, cond}
+use mathlib.Core.Bool.{Bool, true, false, cond, not, true≢false}
 use mathlib.Core.List.{List, [], ◌∷◌, ◌++◌, append_assoc, append-nil}
 use native.Mathlib.Decide.{dec_lt}
 use native.Mathlib.Nat.{le_refl}
@@ -10,9 +10,13 @@ use native.Mathlib.Omega.{arith}
 use lib.Dec.{eqb}
 use lib.ListN.{length, get_or, take, drop, length-take, length-drop}
 use lib.Seq.{sets, take_all, take_at, take-add, take-take, take-append-le, get_or-take, get_or-drop, drop-cons, drop-drop}
-use borrow.Author.Tests.{ne_eqb}
+use borrow.Author.Tests.{ne_eqb, lt-ltb}
 use Rattle.text.proofs.Stores.{front}
-use Rattle.input.specs.Lines.{Taken, ended, longer, takes, takes_all, part, NoLf, cut_to}
+use Rattle.std.specs.Prelude.{Some, None}
+use Rattle.std.specs.List.{position, position_or_len}
+use Rattle.std.proofs.lemmas.Bool.{eq-eqb}
+use Rattle.std.proofs.lemmas.List.Sums.{prefix_len-le-length, fails_before_first}
+use Rattle.input.specs.Lines.{is_lf, Taken, ended, longer, takes, takes_all, part, NoLf, cut_to}
 
 -- ---- the line
 
@@ -68,6 +72,25 @@ free_part block a b none k h e =
     let inside : k < b - a = omega (arith, size) in
     let byte = get_or-take (b - a) (drop a block) k 0 inside ∙ get_or-drop a block k 0 in
     none (a + k) (omega arith) (omega arith) (sym byte ∙ e)
+
+-- where `position` finds nothing, nothing passes
+pub position-none : (p : ℕ → Bool) (xs : List ℕ) → position p xs ≡ None → (j : ℕ) → j < length xs → p (get_or xs j 0) ≡ false
+position-none p xs e j h = fails_before_first p xs j 0 (rw (past (dec_lt first (length xs))) h)
+  where
+    first : ℕ
+    first = position_or_len p xs
+
+    past : Dec (first < length xs) → first ≡ length xs
+    past (yes g) = let some : position p xs ≡ Some first = rw (lt-ltb first (length xs) g) in cc
+    past (no g) = let short = prefix_len-le-length (λ b. not (p b)) xs in omega (arith, short)
+
+-- bytes of a part that are no LF are none in the block
+pub lf_free : (block : List ℕ) (at n end : ℕ) → end ≤ n → n ≤ length block → ((j : ℕ) → j < end - at → is_lf (get_or (part at n block) j 0) ≡ false) → (k : ℕ)
+    → k < end → at ≤ k → get_or block k 0 ≡ 10 → ⊥
+lf_free block at n end h fits none k g b lf =
+    let same : at + (k - at) ≡ k = omega arith in
+    let byte = get_or-take (n - at) (drop at block) (k - at) 0 (omega arith) ∙ get_or-drop at block (k - at) 0 ∙ ap (λ (i : ℕ). get_or block i 0) same in
+    absurd (true≢false (sym (eq-eqb _ _ (byte ∙ lf)) ∙ none (k - at) (omega arith)))
 
 -- ---- the bytes of an input
 

@@ -1,17 +1,17 @@
 -- Laws of a reader of lines: between two reads, the line so far and the bytes after it are what was pending and what the reads gave.
 use Prim.Native.Nat.{ℕ, zero, suc, ◌+◌, ◌-◌, ◌≤◌, ◌<◌}
 use mathlib.Core.Path.{◌≡◌, refl, sym, ap, ◌∙◌}
-use mathlib.Core.Bool.{Bool, true, false, cond, ◌&&◌, true≢false}
+use mathlib.Core.Bool.{Bool, cond}
 use mathlib.Core.List.{List, [], ◌∷◌, ◌++◌, append_assoc, append-nil}
 use native.Mathlib.Decide.{dec_lt}
 use native.Mathlib.Nat.{le_refl}
 use native.Mathlib.Omega.{arith}
 use lib.Dec.{ltb}
 use lib.ListN.{take, drop}
-use borrow.Author.Tests.{ltb-true, lt-ltb, le-ltb}
+use borrow.Author.Tests.{lt-ltb, le-ltb}
 use Rattle.input.specs.Lines.{part, NoLf}
-use Rattle.input.specs.Reading.{pending, Next, EndsFrom, Looked, Refilled}
-use Rattle.input.specs.declared.Reader.{Reader}
+use Rattle.input.specs.Reading.{is_line, pending, Next, EndsFrom, Looked, Refilled}
+use Rattle.input.specs.declared.reader.Reader.{Reader}
 use Rattle.input.proofs.Lines.{cut-cut, part-append, part-cons, free_part}
 
 free-append : (a b : List ℕ) → NoLf a → NoLf b → NoLf (a ++ b)
@@ -108,7 +108,7 @@ underway-again room q₀ q p before block after u over f =
 
 -- where the reads end, the line has ended, or the input has
 pub next-found : (room : ℕ) (r q₀ q p : Reader) (before after : List ℕ) → Looked r q₀ before → Underway room q₀ q before after → p.start ≡ q.start
-    → p.end ≡ q.end → p.n ≡ q.n → p.going ≡ ltb q.end q.n → Next room r p before after
+    → p.end ≡ q.end → p.n ≡ q.n → is_line p.found ≡ ltb q.end q.n → Next room r p before after
 next-found room r q₀ q p before after l u es ee en eg =
     record {
       read = u.read;
@@ -126,7 +126,7 @@ next-found room r q₀ q p before after l u es ee en eg =
     same (no h) =
         part_none before (r.end + 1) r.n (omega arith) ∙ sym (part_none before q₀.start q₀.n (omega (arith, l.start, l.same)))
 
-    rest : Dec (q.end < q.n) → part q.end q.n after ≡ cond p.going (10 ∷ pending p after) []
+    rest : Dec (q.end < q.n) → part q.end q.n after ≡ cond (is_line p.found) (10 ∷ pending p after) []
     rest (yes h) =
         part-cons after q.end q.n h u.ends.inside
         ∙ (λ i. u.ends.lf h i ∷ part (sym ee i + 1) (sym en i) after)
@@ -134,8 +134,3 @@ next-found room r q₀ q p before after l u es ee en eg =
     rest (no h) =
         part_none after q.end q.n (omega arith)
         ∙ ap (λ (b : Bool). cond b (10 ∷ pending p after) []) (sym (eg ∙ le-ltb q.end q.n (omega arith)))
-
--- a reader that goes on after a read has reads left
-pub more-reads : (read : Bool) (left : ℕ) → (read && ltb 1 left) ≡ true → 0 < left - 1
-more-reads true left e = omega (arith, ltb-true 1 left e)
-more-reads false left e = absurd (true≢false (sym e))

@@ -1,7 +1,7 @@
 -- Document 01, "One run": lines of input end at LF, each is taken when its LF comes, and what
 -- follows the last LF is dropped, since no LF comes. What is done with a line is a parameter,
 -- so that every program takes its lines by this definition.
-use Rattle.std.specs.Prelude.{ℕ, ◌-◌, ◌^◌, ◌<◌, ◌≡◌, cond, List, [], ◌∷◌, ◌++◌, eqb, length, get_or, take, drop}
+use Rattle.std.specs.Prelude.{ℕ, ◌+◌, ◌-◌, ◌^◌, ◌<◌, ◌≡◌, Bool, cond, List, [], ◌∷◌, ◌++◌, eqb, length, get_or, take, drop}
 
 -- ---- what bytes of input do
 
@@ -9,6 +9,9 @@ use Rattle.std.specs.Prelude.{ℕ, ◌-◌, ◌^◌, ◌<◌, ◌≡◌, cond, L
 pub record Taken (A : Type 0) : Type 0 where
   pub done : A
   pub line : List ℕ
+
+abbrev pub is_lf : ℕ → Bool
+is_lf b = eqb b 10
 
 -- LF: the line has ended, and its step is made
 abbrev pub ended : {A : Type 0} → (A → List ℕ → A) → Taken A → Taken A
@@ -20,7 +23,7 @@ longer s more = record { done = s.done; line = s.line ++ more }
 
 -- a byte of input, and all of them
 abbrev pub takes : {A : Type 0} → (A → List ℕ → A) → Taken A → ℕ → Taken A
-takes step s b = cond (eqb b 10) (ended step s) (longer s (b ∷ []))
+takes step s b = cond (is_lf b) (ended step s) (longer s (b ∷ []))
 
 unfoldable pub takes_all : {A : Type 0} → (A → List ℕ → A) → Taken A → List ℕ → Taken A
 takes_all step s [] = s
@@ -48,6 +51,10 @@ kept = 96
 -- a block of input
 abbrev pub block_length : ℕ
 block_length = 2048
+
+-- the bytes of a buffer: a line that has not ended, and a block of input
+abbrev pub buffer_length : ℕ
+buffer_length = kept + block_length
 
 -- the reads of a run
 abbrev pub most_reads : ℕ

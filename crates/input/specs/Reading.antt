@@ -1,7 +1,15 @@
 -- What a reader of lines has given, and what it gives next.
-use Rattle.std.specs.Prelude.{ℕ, ◌+◌, ◌≤◌, ◌<◌, min, ◌≡◌, true, cond, List, [], ◌∷◌, ◌++◌, length, get_or, take}
+use Rattle.std.specs.Prelude.{ℕ, ◌+◌, ◌≤◌, ◌<◌, min, ◌≡◌, Bool, true, false, cond, List, [], ◌∷◌, ◌++◌, length, get_or, take}
 use Rattle.input.specs.Lines.{part, NoLf}
-use Rattle.input.specs.declared.Reader.{Reader}
+use Rattle.input.specs.declared.reader.Found.{Found}
+use Rattle.input.specs.declared.reader.Found.TheVariants.{Line, End, Failure}
+use Rattle.input.specs.declared.reader.Reader.{Reader}
+
+-- whether a line was given
+abbrev pub is_line : Found → Bool
+is_line Line = true
+is_line End = false
+is_line Failure = false
 
 -- the bytes after the LF of the line given last: they have been read, and belong to lines that
 -- come next
@@ -15,7 +23,7 @@ pub record Next (room : ℕ) (r q : Reader) (before after : List ℕ) : Type 0 w
   pub read : List ℕ
   pub line : List ℕ
   pub free : NoLf line
-  pub bytes : pending r before ++ read ≡ line ++ cond q.going (10 ∷ pending q after) []
+  pub bytes : pending r before ++ read ≡ line ++ cond (is_line q.found) (10 ∷ pending q after) []
   pub given : take room (part q.start q.end after) ≡ take room line
 
 -- ---- on the way to it
@@ -28,7 +36,7 @@ pub record EndsFrom (from : ℕ) (q : Reader) (block : List ℕ) : Type 0 where
   pub inside : q.n ≤ length block
   pub free : (k : ℕ) → k < q.end → from ≤ k → get_or block k 0 ≡ 10 → ⊥
   pub lf : q.end < q.n → get_or block q.end 0 ≡ 10
-  pub more : q.going ≡ true → 0 < q.left
+  pub more : is_line q.found ≡ true → 0 < q.left
 
 -- after the line given last
 pub record Looked (r q : Reader) (block : List ℕ) : Type 0 where

@@ -7,12 +7,15 @@
 // which bytes come there.
 #![tactic(auto)]
 
+mod reader; // where a reader of lines is
 pub mod system; // what a program reads and writes, and why a call failed
 
-ghost use Rattle.std.specs.Prelude.{true, false, ◌≡◌, ℕ, ◌≤◌, ◌<◌, ◌+◌, min, length, take, get_or};
-ghost use Rattle.input.specs.Lines.{part, kept, block_length, most_reads};
-ghost use Rattle.input.specs.Reading.{Looked, Refilled, Next};
+ghost use Rattle.std.specs.Prelude.{true, false, ltb, ◌≡◌, ℕ, ◌≤◌, ◌<◌, ◌+◌, min, length, take, get_or, IfOk, MatchResult};
+ghost use Rattle.std.specs.List.{position};
+ghost use Rattle.input.specs.Lines.{is_lf, part, kept, block_length, most_reads};
+ghost use Rattle.input.specs.Reading.{is_line, Looked, Refilled, Next};
 
+pub use reader::{Found, Reader};
 use std::io::Read;
 use system::Source;
 
@@ -30,28 +33,18 @@ pub const BUFFER: usize = LINE + BLOCK;
 // read these last for more than four years.
 pub const READS: u64 = 1 << 47;
 
-// Where the line that was given last lies in a block, from `start` to its LF at `end`, and how many
-// bytes of the block have been read.
-#[derive(Clone, Copy)]
-pub struct Reader {
-    pub start: usize,
-    pub end: usize,
-    pub n: usize,
-    // whether a line was given; none is at the input's end, and where a read failed. While the next
-    // line is looked for: whether one may come
-    pub going: bool,
-    // whether the last read failed
-    pub failed: bool,
-    // lines that may still be given, and reads that may be made
-    pub left: u64,
-}
-
 pub fn least(a: usize, b: usize) -> usize
     ensures value { result ≡ min a b }
     ensures upper_bound { result ≤ a }
     ensures upper_bound_2 { result ≤ b }
 {
     if a < b { a } else { b }
+}
+
+fn first_lf(text: &[u8]) -> Option<usize>
+    ensures { result ≡ position is_lf text.now }
+{
+    text.iter().position(|b| *b == b'\n')
 }
 
 // The index of the first LF of a block's n bytes at or after `at`, or n.
@@ -63,14 +56,10 @@ pub fn line_end(block: &[u8], at: usize, n: usize) -> usize
     ensures by_index { (k : ℕ) → k < result → at ≤ k → get_or block.now k 0 ≡ 10 → ⊥ }
     ensures result_value { result < n → get_or block.now result 0 ≡ 10 }
 {
-    let mut i = at;
-    while i < n {
-        if block[i] == b'\n' {
-            return i;
-        }
-        i += 1;
+    match first_lf(&block[at..n]) {
+        Some(k) => at + k,
+        None => n,
     }
-    i
 }
 
 // What is kept of a line that has not ended: its first bytes, as many as there is room for.
@@ -79,172 +68,209 @@ pub fn keep(line: &mut [u8], text: &[u8]) -> usize
     ensures upper_bound { result ≤ length line.old }
     ensures line_len_unchanged { length line.new ≡ length line.old }
 {
-    let n = least(text.len(), line.len());
-    text::copy(line, 0, &text[0..n])
+    let n = text.len().min(line.len());
+    line[..n].copy_from_slice(&text[..n]);
+    n
 }
 
-// How many bytes a read gave, and whether it failed: then it gave none, and `system::fail` says why.
-#[derive(Clone, Copy)]
-pub struct Got {
-    pub n: usize,
-    pub failed: bool,
+// A read that failed, after so many bytes had come: `system::fail` says why.
+#[derive(Clone, Copy, Debug, PartialEq, Eq)]
+pub struct ReadFailed {
+    pub after: usize,
 }
 
-// One read, to the front of a part of a buffer. It is one call of the system, so that what a person
-// types is given at once, and nothing is read ahead.
-fn read_into(input: &mut Source, part: &mut [u8]) -> Got
-    ensures { result.n ≤ length part.old }
+// One read, to the front of a part of a buffer; how many bytes came. It is one call of the system,
+// so that what a person types is given at once, and nothing is read ahead.
+fn read_into(input: &mut Source, part: &mut [u8]) -> Result<usize, ReadFailed>
+    ensures { IfOk result (λ n. n ≤ length part.old) }
 {
     let got = match input {
-        Source::Nothing => Ok(0),
         Source::Standard(standard) => standard.read(part),
         Source::Named(file) => file.read(part),
     };
-    match got {
-        Ok(n) => Got {
-            n: n,
-            failed: false,
-        },
-        Err(_) => Got { n: 0, failed: true },
-    }
+    got.map_err(|_| ReadFailed { after: 0 })
 }
 
 // One read, to a place of a block.
-fn read_at(input: &mut Source, block: &mut [u8], at: usize) -> Got
+fn read_at(input: &mut Source, block: &mut [u8], at: usize) -> Result<usize, ReadFailed>
     requires { at + block_length ≤ length block.old }
-    ensures n_le_block_length { result.n ≤ block_length }
+    ensures n_le_block_length { IfOk result (λ n. n ≤ block_length) }
     ensures block_unchanged { take at block.new ≡ take at block.old }
 {
     read_into(input, &mut block[at..at + BLOCK])
 }
 
 // One read, after the first `len` bytes of a line.
-pub fn read_behind(input: &mut Source, block: &mut [u8], line: &[u8], len: usize) -> Got
+pub fn read_behind(
+    input: &mut Source,
+    block: &mut [u8],
+    line: &[u8],
+    len: usize,
+) -> Result<usize, ReadFailed>
     requires len_in_bounds { len ≤ length line.now }
     requires block_length_in_bounds { len + block_length ≤ length block.old }
-    ensures n_le_block_length { result.n ≤ block_length }
+    ensures n_le_block_length { IfOk result (λ n. n ≤ block_length) }
     ensures block_after { take len block.new ≡ take len line.now }
 {
-    text::copy(block, 0, &line[0..len]);
+    block[..len].copy_from_slice(&line[..len]);
     read_at(input, block, len)
 }
 
-// One read, to the end of a buffer from a place on.
-fn read_from(input: &mut Source, buffer: &mut [u8], at: usize) -> Got
-    requires { at ≤ length buffer.old }
-    ensures { at + result.n ≤ length buffer.old }
-{
-    read_into(input, &mut buffer[at..])
-}
-
-// Reads until a buffer is full or the input ends. Where a read fails, `n` counts the bytes before
-// it.
-pub fn read_all(input: &mut Source, buffer: &mut [u8]) -> Got
-    ensures { result.n ≤ length buffer.new }
+// Reads until a buffer is full or the input ends; how many bytes came.
+pub fn read_all(input: &mut Source, buffer: &mut [u8]) -> Result<usize, ReadFailed>
+    ensures { MatchResult result (λ n. n ≤ length buffer.new) (λ e. e.after ≤ length buffer.new) }
 {
     let mut n: usize = 0;
     while n < buffer.len() {
-        let got = read_from(input, buffer, n);
-        if got.n == 0 {
-            return Got {
-                n: n,
-                failed: got.failed,
-            };
+        match read_into(input, &mut buffer[n..]) {
+            Ok(0) => break,
+            Ok(more) => n += more,
+            Err(_) => return Err(ReadFailed { after: n }),
         }
-        n = n + got.n;
     }
-    Got {
-        n: n,
-        failed: false,
-    }
+    Ok(n)
 }
 
 // ---- line by line
 
-// Before the first byte of an input.
-pub fn start() -> Reader
-    ensures start_value { (result.start ≡ 0) × (result.end ≡ 0) × (result.n ≡ 0) }
-    ensures going_value { result.going ≡ true }
-    ensures left_value { result.left ≡ most_reads }
+// What a read found, with so many reads left. A line may come where it gave a byte, and another
+// read may be made.
+fn found_by(got: Result<usize, ReadFailed>, left: u64) -> Found
+    ensures { is_line result ≡ true → 1 < left }
 {
-    Reader {
-        start: 0,
-        end: 0,
-        n: 0,
-        going: true,
-        failed: false,
-        left: READS,
+    match got {
+        Ok(n) if n > 0 && left > 1 => Found::Line,
+        Ok(_) => Found::End,
+        Err(_) => Found::Failure,
     }
 }
 
-// The bytes after the line that was given last, up to the next LF, or to the last that has been
-// read.
-fn behind(r: Reader, block: &[u8]) -> Reader
-    requires end_le_n { r.end ≤ r.n }
-    requires n_in_bounds { r.n ≤ length block.now }
-    requires left_nonzero { 0 < r.left }
-    ensures { Looked r result block.now }
-{
-    let start = least(r.end + 1, r.n);
-    let end = line_end(block, start, r.n);
-    Reader {
-        start: start,
-        end: end,
-        n: r.n,
-        going: r.left > 1,
-        failed: r.failed,
-        left: r.left - 1,
+impl Reader {
+    // Before the first byte of an input.
+    pub fn new() -> Reader
+        ensures start_value { (result.start ≡ 0) × (result.end ≡ 0) × (result.n ≡ 0) }
+        ensures found_value { result.found ≡ Found.Line }
+        ensures left_value { result.left ≡ most_reads }
+    {
+        Reader {
+            start: 0,
+            end: 0,
+            n: 0,
+            found: Found::Line,
+            left: READS,
+        }
+    }
+
+    // Whether a line was given, or, before the first, whether one may come.
+    pub fn has_line(&self) -> bool
+        ensures { result ≡ is_line self.now.found }
+    {
+        match self.found {
+            Found::Line => true,
+            _ => false,
+        }
+    }
+
+    // The line that was given last, or what follows the last LF, in the block of the reader.
+    pub fn text<'a>(&self, block: &'a [u8]) -> &'a [u8]
+        requires { self.now.n ≤ length block.now }
+        ensures { result.now ≡ part self.now.start self.now.end block.now }
+    {
+        &block[self.start..self.end]
+    }
+
+    // The bytes after the line that was given last, up to the next LF, or to the last that has been
+    // read.
+    fn behind(self, block: &[u8]) -> Reader
+        requires n_in_bounds { self.n ≤ length block.now }
+        requires left_nonzero { 0 < self.left }
+        ensures { Looked self result block.now }
+    {
+        let start = self.n.min(self.end + 1);
+        Reader {
+            start: start,
+            end: line_end(block, start, self.n),
+            n: self.n,
+            found: if self.left > 1 {
+                Found::Line
+            } else {
+                Found::End
+            },
+            left: self.left - 1,
+        }
+    }
+
+    // The line from `start` has no LF up to the last byte that has been read. Its first bytes, as
+    // many as are kept, go to the front of the block, and the bytes of a read after them.
+    fn refilled(self, input: &mut Source, block: &mut [u8], line: &mut [u8]) -> Reader
+        requires n_in_bounds { self.n ≤ length block.old }
+        requires block_length_in_bounds { length line.old + block_length ≤ length block.old }
+        requires left_nonzero { 0 < self.left }
+        ensures { Refilled (length line.old) self result block.old block.new }
+    {
+        let len = keep(line, &block[self.start..self.n]);
+        let got = read_behind(input, block, line, len);
+        let all = len + got.unwrap_or(0);
+        Reader {
+            start: 0,
+            end: line_end(block, len, all),
+            n: all,
+            found: found_by(got, self.left),
+            left: self.left - 1,
+        }
+    }
+
+    // Whether the line that is looked for has ended, and why not.
+    fn found_at_end(&self) -> Found
+        requires { self.now.end ≡ self.now.n → is_line self.now.found ≡ false }
+        ensures { is_line result ≡ ltb self.now.end self.now.n }
+    {
+        if self.end < self.n {
+            Found::Line
+        } else {
+            self.found
+        }
+    }
+
+    // The next line. It lies in the block, from `start` to `end`, without its LF; where no further
+    // LF comes, none is given. The reader is what `new` or this function left, with the same buffers.
+    pub fn next_line(&mut self, input: &mut Source, block: &mut [u8], line: &mut [u8])
+        requires n_in_bounds { self.old.n ≤ length block.old }
+        requires block_length_in_bounds { length line.old + block_length ≤ length block.old }
+        requires left_nonzero { 0 < self.old.left }
+        ensures next { Next (length line.old) self.old self.new block.old block.new }
+        ensures n_in_bounds_2 { self.new.n ≤ length block.new }
+        ensures left_lt_left { self.new.left < self.old.left }
+    {
+        let mut q = self.behind(block);
+        while q.end == q.n && q.has_line() {
+            q = q.refilled(input, block, line);
+        }
+        *self = Reader {
+            start: q.start,
+            end: q.end,
+            n: q.n,
+            found: q.found_at_end(),
+            left: q.left,
+        };
     }
 }
 
-// The line from `start` has no LF up to the last byte that has been read. Its first bytes, as many
-// as are kept, go to the front of the block, and the bytes of a read after them.
-fn refilled(r: Reader, input: &mut Source, block: &mut [u8], line: &mut [u8]) -> Reader
-    requires start_le_n { r.start ≤ r.n }
-    requires n_in_bounds { r.n ≤ length block.old }
+// The lines of an input one after the other, each with what the reader found: what follows the last
+// LF comes at the end, and where a read fails. It goes on as long as `take` says.
+pub fn each_line<F: FnMut(Found, &[u8]) -> bool>(
+    input: &mut Source,
+    block: &mut [u8],
+    line: &mut [u8],
+    mut take: F,
+)
     requires block_length_in_bounds { length line.old + block_length ≤ length block.old }
-    requires left_nonzero { 0 < r.left }
-    ensures { Refilled (length line.old) r result block.old block.new }
+    requires callable { F.IsAlwaysCallable take }
 {
-    let start = r.start;
-    let n = r.n;
-    let len = keep(line, &block[start..n]);
-    let got = read_behind(input, block, line, len);
-    let all = len + got.n;
-    let end = line_end(block, len, all);
-    Reader {
-        start: 0,
-        end: end,
-        n: all,
-        going: (got.n > 0) & (r.left > 1),
-        failed: got.failed,
-        left: r.left - 1,
-    }
-}
-
-// The next line. It lies in the block, from `start` to `end`, without its LF; where no further LF
-// comes, none is given. The reader is what `start` or this function gave, with the same buffers.
-pub fn next_line(r: Reader, input: &mut Source, block: &mut [u8], line: &mut [u8]) -> Reader
-    requires end_le_n { r.end ≤ r.n }
-    requires n_in_bounds { r.n ≤ length block.old }
-    requires block_length_in_bounds { length line.old + block_length ≤ length block.old }
-    requires left_nonzero { 0 < r.left }
-    ensures next { Next (length line.old) r result block.old block.new }
-    ensures start_le_end { result.start ≤ result.end }
-    ensures end_le_n_2 { result.end ≤ result.n }
-    ensures n_in_bounds_2 { result.n ≤ length block.new }
-    ensures left_lt_left { result.left < r.left }
-{
-    let mut q = behind(r, block);
-    while q.end == q.n && q.going {
-        q = refilled(q, input, block, line);
-    }
-    Reader {
-        start: q.start,
-        end: q.end,
-        n: q.n,
-        going: q.end < q.n,
-        failed: q.failed,
-        left: q.left,
+    let mut r = Reader::new();
+    let mut on = true;
+    while on && r.left > 0 && r.has_line() {
+        r.next_line(input, block, line);
+        on = take(r.found, r.text(block));
     }
 }

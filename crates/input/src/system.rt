@@ -14,7 +14,6 @@ pub const STDERR: i32 = 2;
 // What a program reads.
 #[derive(Drop)]
 pub enum Source {
-    Nothing,
     Standard(Stdin),
     Named(File),
 }
@@ -31,37 +30,17 @@ const WORDS: usize = 128;
 // What std writes after the words of an error: its number, which is not shown.
 const NUMBER: &[u8] = b" (os error";
 
-// The words of an error, as std writes them, at the front of a buffer; how many bytes they are.
-fn put_words(error: &Error, out: &mut [u8; WORDS]) -> usize {
-    let mut rest: &mut [u8] = out;
-    let _ = write!(rest, "{error}");
-    let left = rest.len();
-    if left < WORDS { WORDS - left } else { 0 }
-}
-
-// How many bytes words have before the number after them.
-fn without_number(words: &[u8]) -> usize
-    ensures { result ≤ length words.now }
-{
-    let mut i = 0;
-    while i < words.len() {
-        if words[i..].starts_with(NUMBER) {
-            return i;
-        }
-        i += 1;
-    }
-    i
-}
-
 // Says on the error output what failed, and the system's words for why the last call failed.
 pub fn fail(what: &[u8]) {
     let error = last_error();
     let mut text = [0u8; WORDS];
-    let n = put_words(&error, &mut text);
-    let end = crate::least(n, WORDS);
-    let words = &text[0..end];
+    let mut rest: &mut [u8] = &mut text;
+    let _ = write!(rest, "{error}");
+    let left = rest.len();
+    let words = &text[..WORDS.saturating_sub(left)];
+    let number = words.windows(NUMBER.len()).position(|w| w == NUMBER);
     io::write_all(STDERR, what);
     io::write_all(STDERR, b": ");
-    io::write_all(STDERR, &words[0..without_number(words)]);
+    io::write_all(STDERR, &words[..number.unwrap_or(words.len())]);
     io::write_all(STDERR, b"\n");
 }

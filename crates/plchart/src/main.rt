@@ -9,7 +9,6 @@ ghost use Rattle.plchart.specs.Rows.{field_text, row_text, chart_text, field_mos
 
 use card::chart::{ADDRESSES, Entry, chart, entry_of};
 use card::limits::SMALL;
-use program::arguments::{NO_INPUT, has_input};
 
 // The most bytes of a field, ten digits and what ends it, and of a row. All rows have room in this
 // many.
@@ -63,11 +62,11 @@ fn put_chart(out: &mut [u8; TEXT_MOST]) -> usize
 fn print_chart() {
     let mut out = [0u8; TEXT_MOST];
     let n = put_chart(&mut out);
-    program::writer::write(&out[..n]);
+    let _ = program::writer::write(&out[..n]);
 }
 
 fn main(rt: HostRuntime) {
-    let given = program::arguments::read(
+    let runs = program::arguments::read_none(
         &rt,
         b"plchart reads nothing, and prints the chart of the 256 addresses.
 
@@ -76,9 +75,8 @@ usage: plchart
 Each row has an address, its base, and 0 or 1 for inverted, edge and permitted: `129 1 0 1 1` is the rise of
 cell 1.
 ",
-        NO_INPUT,
     );
-    if has_input(&given) {
+    if runs {
         print_chart();
     }
 }

@@ -4,7 +4,6 @@
 #![tactic(auto)]
 
 use input::system::{STDERR, Source, fail};
-use program::arguments::has_input;
 use saved::record::RECORD_LENGTH;
 
 // `:N-k` and LF.
@@ -23,14 +22,13 @@ const ROOM: usize = LONGEST + 1;
 fn convert_from(input: &mut Source) {
     let mut bytes = [0u8; ROOM];
     let mut result = [0u8; RECORD_LENGTH];
-    let got = input::read_all(input, &mut bytes);
-    if got.failed {
+    let Ok(len) = input::read_all(input, &mut bytes) else {
         fail(b"the input");
         return;
-    }
-    let done = convert::convert(&bytes[..got.n], &mut result);
+    };
+    let done = convert::convert(&bytes[..len], &mut result);
     if done.k == 0 {
-        program::writer::write(&result[..done.len]);
+        let _ = program::writer::write(&result[..done.len]);
     } else {
         refuse(done.k);
     }
@@ -48,10 +46,9 @@ Where the record cannot be converted, nothing is written, and :N- and a number o
 
     plsave wiring.lines | plconvert > old.record
 ",
-        0,
+        &[],
     );
-    if has_input(&given) {
-        let mut source = given.input;
-        convert_from(&mut source);
+    if let Some(mut given) = given {
+        convert_from(&mut given.input);
     }
 }

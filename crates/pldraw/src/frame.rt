@@ -3,9 +3,9 @@ ghost use Rattle.std.specs.Prelude.{◌≤◌};
 ghost use Rattle.diagram.specs.Page.{kept_ticks, highest_strip};
 
 use diagram::places::number_of;
-use input::{LINE, least};
+use input::LINE;
 use program::report::{Report, Text};
-use program::writer::{Room, Writer, put, put_number, put_with};
+use program::writer::{Writer, Written};
 use trace::notes::{Form, has_refused, has_rest, put_refused, put_rest};
 
 // What a picture shows: n ticks, those before them, all ticks that ran, and the rows as a set, in
@@ -64,7 +64,7 @@ fn wider(a: u64, b: u64) -> u64 {
 // The room that a line below the legend needs, with a text in it.
 fn note_width(has: bool, text: Text) -> u64 {
     if has {
-        return 7 * (75 + least(text.len, LINE) as u64);
+        return 7 * (75 + text.len.min(LINE) as u64);
     }
     0
 }
@@ -76,138 +76,108 @@ pub fn width_for(strip: u64, report: Report) -> u64 {
     wider(wider(strip, NARROWEST), wider(refused, rest))
 }
 
-pub fn put_size(out: &mut Room, w: Writer, width: u64, height: u64) -> Writer {
-    let a = put_with(
-        out,
-        w,
+pub fn put_size(out: &mut Writer, width: u64, height: u64) -> Written {
+    out.put_with(
         b"<svg xmlns=\"http://www.w3.org/2000/svg\" width=\"",
         width,
         b"\" height=\"",
-    );
-    let b = put_with(out, a, b"", height, b"\" viewBox=\"0 0 ");
-    let c = put_with(out, b, b"", width, b" ");
-    put_with(out, c, b"", height, b"\"")
+    )?;
+    out.put_with(b"", height, b"\" viewBox=\"0 0 ")?;
+    out.put_with(b"", width, b" ")?;
+    out.put_with(b"", height, b"\"")
 }
 
 // ---- style
 
 // The fonts, the colours and the white ground: w waves, n numbers, f the mark of a full tick, b the
 // box of a cell that woke, a that of one that only the full tick worked out, e what was refused.
-pub fn put_style(out: &mut Room, w: Writer) -> Writer {
-    let a = put(
-        out,
-        w,
-        b" font-family=\"Helvetica, Arial, sans-serif\" font-size=\"12\">\n",
-    );
-    let b = put(
-        out,
-        a,
+pub fn put_style(out: &mut Writer) -> Written {
+    out.put(b" font-family=\"Helvetica, Arial, sans-serif\" font-size=\"12\">\n")?;
+    out.put(
         b"<style>.w{fill:none;stroke:#123a6b;stroke-width:1.6}.n{font-size:10px;fill:#555;text-anchor:middle}",
-    );
-    let c = put(
-        out,
-        b,
-        b".f{font-size:10px;font-weight:bold;fill:#8a1c7c;text-anchor:middle}",
-    );
-    let d = put(
-        out,
-        c,
-        b".b{fill:#ffc966}.a{fill:#ffefcf}.e{fill:#b00020}</style>\n",
-    );
-    put(
-        out,
-        d,
-        b"<rect width=\"100%\" height=\"100%\" fill=\"#fff\"/>\n",
-    )
+    )?;
+    out.put(b".f{font-size:10px;font-weight:bold;fill:#8a1c7c;text-anchor:middle}")?;
+    out.put(b".b{fill:#ffc966}.a{fill:#ffefcf}.e{fill:#b00020}</style>\n")?;
+    out.put(b"<rect width=\"100%\" height=\"100%\" fill=\"#fff\"/>\n")
 }
 
 // ---- the head
 
 // How to see the ticks after those that are shown, if there are any.
-fn put_more(out: &mut Room, w: Writer, next: u64, total: u64) -> Writer {
+fn put_more(out: &mut Writer, next: u64, total: u64) -> Written {
     if total < next {
-        return w;
+        return Ok(());
     }
-    put_with(out, w, b"; --from ", next, b" shows the next")
+    out.put_with(b"; --from ", next, b" shows the next")
 }
 
 // Where no tick is shown.
-fn put_none(out: &mut Room, w: Writer, total: u64) -> Writer {
+fn put_none(out: &mut Writer, total: u64) -> Written {
     if total == 0 {
-        return put(out, w, b"no tick ran");
+        return out.put(b"no tick ran");
     }
-    put_with(out, w, b"ticks that ran: ", total, b", so none is shown")
+    out.put_with(b"ticks that ran: ", total, b", so none is shown")
 }
 
 // "ticks 1 to 300 of 305; --from 301 shows the next"
-fn put_span(out: &mut Room, w: Writer, p: Shape) -> Writer {
+fn put_span(out: &mut Writer, p: Shape) -> Written {
     if p.n == 0 {
-        return put_none(out, w, p.total);
+        return put_none(out, p.total);
     }
-    let a = put_with(out, w, b"ticks ", number_of(p.before, 0), b" to ");
-    let b = put_with(out, a, b"", number_of(p.before, p.n - 1), b" of ");
-    let c = put_number(out, b, p.total);
-    put_more(out, c, number_of(p.before, p.n), p.total)
+    out.put_with(b"ticks ", number_of(p.before, 0), b" to ")?;
+    out.put_with(b"", number_of(p.before, p.n - 1), b" of ")?;
+    out.put_number(p.total)?;
+    put_more(out, number_of(p.before, p.n), p.total)
 }
 
 // The title.
-fn put_title(out: &mut Room, w: Writer, p: Shape) -> Writer {
-    let a = put(
-        out,
-        w,
-        b"<text x=\"10\" y=\"20\" font-size=\"14\" font-weight=\"bold\">Trigger card: ",
-    );
-    let b = put_span(out, a, p);
-    put(out, b, b"</text>\n")
+fn put_title(out: &mut Writer, p: Shape) -> Written {
+    out.put(b"<text x=\"10\" y=\"20\" font-size=\"14\" font-weight=\"bold\">Trigger card: ")?;
+    put_span(out, p)?;
+    out.put(b"</text>\n")
 }
 
 // What the tints and marks mean.
-fn put_legend(out: &mut Room, w: Writer) -> Writer {
-    let a = put(
-        out,
-        w,
+fn put_legend(out: &mut Writer) -> Written {
+    out.put(
         b"<path class=\"b\" d=\"M10 30h12v14H10z\"/><text x=\"28\" y=\"41\">cell woken in that tick</text>\n",
-    );
-    let b = put(
-        out,
-        a,
+    )?;
+    out.put(
         b"<text class=\"f\" x=\"184\" y=\"41\">F</text><text x=\"194\" y=\"41\">full tick</text>\n",
-    );
-    put(
-        out,
-        b,
+    )?;
+    out.put(
         b"<path class=\"a\" d=\"M262 30h12v14h-12z\"/><text x=\"280\" y=\"41\">worked out only because it is full</text>\n",
     )
 }
 
 // A line below the legend begins, at a height.
-fn put_note(out: &mut Room, w: Writer, y: u64) -> Writer {
-    put_with(out, w, b"<text class=\"e\" x=\"10\" y=\"", y, b"\">")
+fn put_note(out: &mut Writer, y: u64) -> Written {
+    out.put_with(b"<text class=\"e\" x=\"10\" y=\"", y, b"\">")
 }
 
 // The lines that were refused, if there are any.
-fn put_refusals(out: &mut Room, w: Writer, report: Report) -> Writer {
+fn put_refusals(out: &mut Writer, report: Report) -> Written {
     if !has_refused(report) {
-        return w;
+        return Ok(());
     }
-    let a = put_note(out, w, HEAD + 7);
-    let b = put_refused(out, a, report, Form::Picture);
-    put(out, b, b"</text>\n")
+    put_note(out, HEAD + 7)?;
+    put_refused(out, report, Form::Picture)?;
+    out.put(b"</text>\n")
 }
 
 // A last line that was not entered.
-fn put_unended(out: &mut Room, w: Writer, report: Report) -> Writer {
+fn put_unended(out: &mut Writer, report: Report) -> Written {
     if !has_rest(report) {
-        return w;
+        return Ok(());
     }
-    let a = put_note(out, w, HEAD + 7 + note_height(has_refused(report)));
-    let b = put_rest(out, a, report, Form::Picture);
-    put(out, b, b"</text>\n")
+    put_note(out, HEAD + 7 + note_height(has_refused(report)))?;
+    put_rest(out, report, Form::Picture)?;
+    out.put(b"</text>\n")
 }
 
-pub fn put_head(out: &mut Room, w: Writer, p: Shape, report: Report) -> Writer {
-    let a = put_title(out, w, p);
-    let b = put_legend(out, a);
-    let c = put_refusals(out, b, report);
-    put_unended(out, c, report)
+pub fn put_head(out: &mut Writer, p: Shape, report: Report) -> Written {
+    put_title(out, p)?;
+    put_legend(out)?;
+    put_refusals(out, report)?;
+    put_unended(out, report)
 }

@@ -13,54 +13,38 @@ mod rows; // who has a row
 
 ghost use Rattle.std.specs.Prelude.{◌≤◌};
 ghost use Rattle.diagram.specs.Page.{kept_ticks};
-ghost use Rattle.session.specs.Feed.{Ready};
 
 use card::card::Card;
 use diagram::kept::{KEPT, Ticks, WORDS, keep, waves_of};
 use frame::Shape;
+use input::Found;
 use input::system::Source;
-use input::{BUFFER, LINE};
-use program::arguments;
-use program::writer::{ROOM, empty};
-use session::feed::{Feed, STORE};
+use program::arguments::{Switch, read};
+use program::writer::Writer;
+use session::feed::{Buffers, Feed};
 use std::num::wrapping_add_u64;
 
 // Ticks that were passed over: how many, and what the last of them showed.
 #[derive(Clone, Copy)]
 pub struct Passed {
-    pub feed: Feed,
     pub count: u64,
     pub word: u64,
 }
 
 // At most so many ticks are passed over.
-fn pass(
-    feed: Feed,
-    most: u64,
-    input: &mut Source,
-    block: &mut [u8; BUFFER],
-    line: &mut [u8; LINE],
-    store: &mut [u8; STORE],
-) -> Passed
-    requires { Ready feed.reader }
-    ensures { Ready result.feed.reader }
-{
-    let mut f = feed;
-    let mut count: u64 = 0;
+fn pass(feed: &mut Feed, most: u64, input: &mut Source, buffers: &mut Buffers) -> Passed {
     let mut word: u64 = 0;
-    while count < most {
-        let step = trace::next(f, input, block, line, store);
-        f = step.feed;
-        let shown = step.shown;
-        if !shown.tick.answer.ran {
-            break;
-        }
+    for count in 0..most {
+        let Some(shown) = trace::next(feed, input, buffers) else {
+            return Passed {
+                count: count,
+                word: word,
+            };
+        };
         word = trace::packed(shown);
-        count += 1;
     }
     Passed {
-        feed: f,
-        count: count,
+        count: most,
         word: word,
     }
 }
@@ -68,42 +52,27 @@ fn pass(
 // The ticks that were kept: the card at the last of them, how many, and who has a row.
 #[derive(Clone, Copy)]
 pub struct Gathered {
-    pub feed: Feed,
     pub card: Card,
     pub n: usize,
     pub set: u64,
 }
 
-fn gather(
-    start: Feed,
-    ticks: &mut Ticks,
-    input: &mut Source,
-    block: &mut [u8; BUFFER],
-    line: &mut [u8; LINE],
-    store: &mut [u8; STORE],
-) -> Gathered
-    requires { Ready start.reader }
-    ensures ready { Ready result.feed.reader }
-    ensures n_le_kept_ticks { result.n ≤ kept_ticks }
+fn gather(feed: &mut Feed, ticks: &mut Ticks, input: &mut Source, buffers: &mut Buffers) -> Gathered
+    ensures { result.n ≤ kept_ticks }
 {
-    let mut feed = start;
-    let mut card = start.card;
+    let mut card = feed.card;
     let mut set: u64 = 0;
     let mut n: usize = 0;
     while n < KEPT {
-        let step = trace::next(feed, input, block, line, store);
-        feed = step.feed;
-        let shown = step.shown;
-        if !shown.tick.answer.ran {
+        let Some(shown) = trace::next(feed, input, buffers) else {
             break;
-        }
+        };
         n += 1;
         keep(ticks, n, shown, feed.before);
         card = feed.card;
         set = set | (rows::wired(card) | (waves_of(ticks, n) ^ waves_of(ticks, 1)));
     }
     Gathered {
-        feed: feed,
         card: card,
         n: n,
         set: set,
@@ -135,45 +104,25 @@ fn shape_of(before: u64, drawn: Gathered, behind: u64) -> Shape
 // The run of an input to a card of 16 or 32 cells, from tick `from` on. Where a read fails, that is
 // reported, and nothing is drawn.
 fn draw(input: &mut Source, cells: u8, from: u64) {
-    let mut block = [0u8; BUFFER];
-    let mut line = [0u8; LINE];
-    let mut store = [0u8; STORE];
+    let mut buffers = Buffers::new();
     let mut ticks = [0u64; WORDS];
-    let first = session::feed::start(cells);
-    let start = pass(
-        first,
-        before_of(from),
-        input,
-        &mut block,
-        &mut line,
-        &mut store,
-    );
+    let mut feed = Feed::new(cells);
+    let start = pass(&mut feed, before_of(from), input, &mut buffers);
     ticks[0] = start.word;
-    let drawn = gather(
-        start.feed, &mut ticks, input, &mut block, &mut line, &mut store,
-    );
-    let rest = pass(
-        drawn.feed,
-        u64::MAX,
-        input,
-        &mut block,
-        &mut line,
-        &mut store,
-    );
-    let last = rest.feed;
-    let reader = last.reader;
-    if reader.failed {
+    let drawn = gather(&mut feed, &mut ticks, input, &mut buffers);
+    let rest = pass(&mut feed, u64::MAX, input, &mut buffers);
+    if feed.reader.found == Found::Failure {
         return;
     }
-    let report = last.report;
+    let report = feed.report;
     let shape = shape_of(start.count, drawn, rest.count);
-    let mut out = [0u8; ROOM];
-    page::put_page(&mut out, empty(), drawn.card, &ticks, shape, report);
+    let mut out = Writer::new();
+    let _ = page::put_page(&mut out, drawn.card, &ticks, shape, report);
     program::report::say(report);
 }
 
 fn main(rt: HostRuntime) {
-    let o = arguments::read(
+    let given = read(
         &rt,
         b"pldraw reads lines of a card and ticks, and draws a timing diagram of the ticks that ran, as an SVG picture.
 
@@ -184,10 +133,11 @@ refused are reported in the picture and on the error output. --cells 32 is for a
 
     pldraw first.lines > first.svg
 ",
-        arguments::CELLS | arguments::FROM,
+        &[Switch::Cells, Switch::From],
     );
-    if arguments::has_input(&o) {
-        let mut source = o.input;
-        draw(&mut source, o.cells, o.from);
+    if let Some(mut given) = given {
+        let cells = given.cells;
+        let from = given.from;
+        draw(&mut given.input, cells, from);
     }
 }

@@ -8,7 +8,7 @@ use diagram::kept::Ticks;
 use diagram::places::{COLUMNS, GAP, NUMBERS, RIGHT, ROW, ROWS, Strip, end_of, x_of};
 use diagram::strip::put_strip;
 use program::report::Report;
-use program::writer::{Room, Writer, flush, put, put_with};
+use program::writer::{Writer, Written};
 
 // How many rows a set has.
 fn count_rows(rows: u64) -> u64
@@ -20,39 +20,29 @@ fn count_rows(rows: u64) -> u64
 
 // A strip that begins at height y.
 fn put_strip_at(
-    out: &mut Room,
-    w: Writer,
+    out: &mut Writer,
     card: Card,
     ticks: &Ticks,
     s: Strip,
     rows: u64,
     low: u64,
     y: u64,
-) -> Writer
+) -> Written
     requires { Fits s }
 {
-    let a = put_with(out, w, b"<g transform=\"translate(0 ", y, b")\">\n");
-    let b = put_strip(out, a, card, ticks, s, rows, low);
-    put(out, b, b"</g>\n")
+    out.put_with(b"<g transform=\"translate(0 ", y, b")\">\n")?;
+    put_strip(out, card, ticks, s, rows, low)?;
+    out.put(b"</g>\n")
 }
 
 // The strips of a picture below its head, each with rows down to `low`.
-fn put_strips(
-    out: &mut Room,
-    writer: Writer,
-    card: Card,
-    ticks: &Ticks,
-    p: Shape,
-    low: u64,
-    head: u64,
-) -> Writer
+fn put_strips(out: &mut Writer, card: Card, ticks: &Ticks, p: Shape, low: u64, head: u64) -> Written
     requires n_le_kept_ticks { p.n ≤ kept_ticks }
     requires low_le_highest_strip { low ≤ highest_strip }
     requires head_le_highest_strip { head ≤ highest_strip }
 {
     let n = p.n;
     let rows = p.rows;
-    let mut w = writer;
     let mut start: usize = 0;
     let mut y = head;
     while start < n {
@@ -62,11 +52,11 @@ fn put_strips(
             before: p.before,
             wide: is_wide(n),
         };
-        w = put_strip_at(out, w, card, ticks, s, rows, low, y);
+        put_strip_at(out, card, ticks, s, rows, low, y)?;
         y = y + low + GAP;
         start = start + COLUMNS;
     }
-    w
+    Ok(())
 }
 
 // Whether n ticks have wide columns.
@@ -80,32 +70,25 @@ fn width_of(n: usize, report: Report) -> u64 {
 }
 
 // What is above the strips, each of which has a height.
-fn put_frame(out: &mut Room, w: Writer, p: Shape, report: Report, head: u64, strip: u64) -> Writer
+fn put_frame(out: &mut Writer, p: Shape, report: Report, head: u64, strip: u64) -> Written
     requires n_le_kept_ticks { p.n ≤ kept_ticks }
     requires head_le_highest_strip { head ≤ highest_strip }
     requires strip_le_highest_strip { strip ≤ highest_strip }
 {
     let n = p.n;
-    let a = put_size(out, w, width_of(n, report), height_of(n, head, strip));
-    let b = put_style(out, a);
-    put_head(out, b, p, report)
+    put_size(out, width_of(n, report), height_of(n, head, strip))?;
+    put_style(out)?;
+    put_head(out, p, report)
 }
 
 // The picture, with rows named by the card's wiring. A write that fails ends it.
-pub fn put_page(
-    out: &mut Room,
-    w: Writer,
-    card: Card,
-    ticks: &Ticks,
-    p: Shape,
-    report: Report,
-) -> Writer
+pub fn put_page(out: &mut Writer, card: Card, ticks: &Ticks, p: Shape, report: Report) -> Written
     requires { p.n ≤ kept_ticks }
 {
     let low = NUMBERS + ROW * count_rows(p.rows);
     let head = head_height(report);
-    let a = put_frame(out, w, p, report, head, low + GAP);
-    let b = put_strips(out, a, card, ticks, p, low, head);
-    let c = put(out, b, b"</svg>\n");
-    flush(out, c)
+    put_frame(out, p, report, head, low + GAP)?;
+    put_strips(out, card, ticks, p, low, head)?;
+    out.put(b"</svg>\n")?;
+    out.flush()
 }

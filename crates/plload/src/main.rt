@@ -2,9 +2,8 @@
 // that the card then has, or why the card refuses it.
 #![tactic(auto)]
 
-use input::least;
 use input::system::{STDERR, fail};
-use program::arguments::{Arguments, CELLS, has_input};
+use program::arguments::{Arguments, Switch, read};
 use wiring::parts::TEXT_MOST;
 
 // One byte more than the longest record has: an input that goes on is of no record's length.
@@ -44,24 +43,19 @@ fn load(bytes: &[u8], cells: u8) {
     let card = loaded.card;
     let mut text = [0u8; TEXT_MOST];
     let printed = wiring::print::print(card, &mut text);
-    let len = least(printed.len, TEXT_MOST);
-    program::writer::write(&text[0..len]);
+    let _ = program::writer::write(&text[..printed.len.min(TEXT_MOST)]);
 }
 
-fn load_from(given: Arguments) {
+fn load_from(mut given: Arguments) {
     let mut bytes = [0u8; ROOM];
-    let mut source = given.input;
-    let got = input::read_all(&mut source, &mut bytes);
-    if got.failed {
-        fail(b"the input");
-        return;
+    match input::read_all(&mut given.input, &mut bytes) {
+        Ok(len) => load(&bytes[..len], given.cells),
+        Err(_) => fail(b"the input"),
     }
-    let len = least(got.n, ROOM);
-    load(&bytes[0..len], given.cells);
 }
 
 fn main(rt: HostRuntime) {
-    let given = program::arguments::read(
+    let given = read(
         &rt,
         b"plload reads a record of a card, 276 or 308 bytes, and prints its wiring as lines, which set it again.
 
@@ -72,9 +66,9 @@ Where a card would refuse the record, nothing is printed, and :N-14 or :N-15 on 
 
     plsave wiring.lines | plconvert | plload
 ",
-        CELLS,
+        &[Switch::Cells],
     );
-    if has_input(&given) {
+    if let Some(given) = given {
         load_from(given);
     }
 }

@@ -2,23 +2,20 @@
 // of the card. It is the program of document 02, "Print the wiring as lines".
 #![tactic(auto)]
 
-use program::arguments::{ANYWAY, Arguments, CELLS, has_input};
+use program::arguments::{Arguments, Switch, read};
 use wiring::parts::TEXT_MOST;
 
 fn print_from(given: Arguments) {
-    let wiring = wiring_input::wiring_from(given);
-    if !wiring.ok {
+    let Some(card) = wiring_input::wiring_from(given) else {
         return;
-    }
-    let card = wiring.card;
+    };
     let mut text = [0u8; TEXT_MOST];
     let printed = wiring::print::print(card, &mut text);
-    let len = input::least(printed.len, TEXT_MOST);
-    program::writer::write(&text[0..len]);
+    let _ = program::writer::write(&text[..printed.len.min(TEXT_MOST)]);
 }
 
 fn main(rt: HostRuntime) {
-    let given = program::arguments::read(
+    let given = read(
         &rt,
         b"plprint reads lines of a card and ticks, and prints the wiring that they leave, as lines that set it again.
 
@@ -32,9 +29,9 @@ preset sets:
 
 To compare two wirings, compare what it prints of each by diff.
 ",
-        CELLS | ANYWAY,
+        &[Switch::Cells, Switch::Anyway],
     );
-    if has_input(&given) {
+    if let Some(given) = given {
         print_from(given);
     }
 }

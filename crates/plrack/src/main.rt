@@ -20,7 +20,7 @@ use card::card::{Card, fresh_of};
 use card::limits::{LARGE, SMALL};
 use fields::{RECORD, REPLY, digit, fronts, number, pair, record};
 use input::system::{STDERR, STDOUT, Source};
-use input::{BLOCK, Reader, least, next_line};
+use input::{BLOCK, Found, each_line};
 use rack::rack_calls::{rack_line, rack_load, rack_start, rack_tick};
 use rack::row::start_card;
 use rack::supply::MOST;
@@ -75,7 +75,7 @@ struct Rig {
 
 impl Rig {
     fn row(&mut self) -> &mut [Card] {
-        let n = least(self.n, ROOM);
+        let n = self.n.min(ROOM);
         &mut self.cards[..n]
     }
 }
@@ -228,12 +228,12 @@ fn call(rig: &mut Rig, line: &[u8]) -> Result<(), Expected> {
 // A call and its answer, whose last piece is written with a check: whether that went.
 fn answer(rig: &mut Rig, line: &[u8]) -> bool {
     match call(rig, line) {
-        Ok(()) => program::writer::write(b"\n"),
+        Ok(()) => program::writer::write(b"\n").is_ok(),
         Err(expected) => {
             io::write_all(STDERR, b"plrack: a line is refused: ");
             io::write_all(STDERR, expected.form());
             io::write_all(STDERR, b"\n");
-            program::writer::write(b"?\n")
+            program::writer::write(b"?\n").is_ok()
         }
     }
 }
@@ -246,22 +246,18 @@ fn run(input: &mut Source) {
         cards: [start_card(); ROOM],
         n: 0,
     };
-    let mut r = input::start();
-    while r.left > 0 {
-        r = next_line(r, input, &mut block, &mut line);
-        if !r.going {
-            if r.start < r.end {
-                io::write_all(
-                    STDERR,
-                    b"plrack: the last line has no LF, and is not taken\n",
-                );
-            }
-            return;
+    each_line(input, &mut block, &mut line, |found, text| {
+        if found == Found::Line {
+            return answer(&mut rig, text);
         }
-        if !answer(&mut rig, &block[r.start..r.end]) {
-            return;
+        if !text.is_empty() {
+            io::write_all(
+                STDERR,
+                b"plrack: the last line has no LF, and is not taken\n",
+            );
         }
-    }
+        false
+    });
 }
 
 fn main(rt: HostRuntime) {
@@ -281,10 +277,9 @@ A call prints its number, 0 where it is accepted, and what it answers; a line of
 
     plrack examples/two-cards.rack
 ",
-        0,
+        &[],
     );
-    if program::arguments::has_input(&given) {
-        let mut source = given.input;
-        run(&mut source);
+    if let Some(mut given) = given {
+        run(&mut given.input);
     }
 }

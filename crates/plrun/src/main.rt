@@ -18,10 +18,9 @@ and the number of its refusal; a tick prints T, driven word, cell word, woken se
 
 docs/MANUAL.md says what each line, word and number means; plexplain says why each answer came.
 ",
-        0,
+        &[],
     );
-    if program::arguments::has_input(&given) {
-        let mut source = given.input;
-        session::run::run_from(&mut source, STDOUT);
+    if let Some(mut given) = given {
+        session::run::run_from(&mut given.input, STDOUT);
     }
 }

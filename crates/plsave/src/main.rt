@@ -5,7 +5,7 @@
 ghost use Rattle.std.specs.Prelude.{◌≤◌};
 
 use card::limits::LARGE;
-use program::arguments::{ANYWAY, Arguments, CELLS, has_input};
+use program::arguments::{Arguments, Switch, read};
 use saved::record::RECORD_LENGTH;
 use session::feed::STORE;
 
@@ -17,19 +17,17 @@ fn length_for(cells: u8) -> usize
 }
 
 fn save_from(given: Arguments) {
-    let wiring = wiring_input::wiring_from(given);
-    if !wiring.ok {
+    let Some(card) = wiring_input::wiring_from(given) else {
         return;
-    }
-    let card = wiring.card;
+    };
     let len = length_for(card.size);
     let mut store = [0u8; STORE];
     saved::record::save(card, &mut store);
-    program::writer::write(&store[0..len]);
+    let _ = program::writer::write(&store[..len]);
 }
 
 fn main(rt: HostRuntime) {
-    let given = program::arguments::read(
+    let given = read(
         &rt,
         b"plsave reads lines of a card and ticks, and writes the record of the card that they leave: 308 bytes.
 
@@ -41,9 +39,9 @@ record is written; --anyway writes it all the same. With --cells 32 the record h
 
     plsave wiring.lines > wiring.record
 ",
-        CELLS | ANYWAY,
+        &[Switch::Cells, Switch::Anyway],
     );
-    if has_input(&given) {
+    if let Some(given) = given {
         save_from(given);
     }
 }

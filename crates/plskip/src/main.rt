@@ -5,16 +5,13 @@
 // is no tick of the card's clock, and is left out.
 #![tactic(auto)]
 
-ghost use Rattle.std.specs.Prelude.{◌<◌};
-ghost use Rattle.session.specs.Feed.{Ready};
-
 use card::card::Card;
+use input::Found;
 use input::system::Source;
-use input::{BUFFER, LINE};
-use program::arguments;
-use program::writer::{ROOM, Room, Writer, empty, flush, put_with};
+use program::arguments::{Switch, read};
+use program::writer::{Writer, Written};
 use session::Event;
-use session::feed::{Feed, STORE};
+use session::feed::{Buffers, Feed};
 use steady::steady_for;
 use ticks::view::Input;
 
@@ -89,12 +86,11 @@ fn after_tick(run: Run, before: Card, card: Card, input: Input) -> Run {
 }
 
 // After the line that a feed has given, if it has given one.
-fn after(run: Run, feed: Feed) -> Run {
-    let event = feed.event;
-    if !feed.reader.going {
+fn after(run: Run, feed: &Feed) -> Run {
+    if !feed.reader.has_line() {
         return run;
     }
-    match event {
+    match feed.event {
         Event::Tick(t) => {
             if !t.answer.ran {
                 return run;
@@ -130,19 +126,15 @@ fn fresh_run() -> Run {
 
 // The run of an input. What was refused is reported, and where a read fails nothing is printed.
 fn run_from(file: &mut Source, cells: u8) {
-    let mut block = [0u8; BUFFER];
-    let mut line = [0u8; LINE];
-    let mut store = [0u8; STORE];
+    let mut buffers = Buffers::new();
     let mut run = fresh_run();
-    let mut feed = session::feed::start(cells);
-    let mut r = feed.reader;
-    while r.left > 0 && r.going {
-        feed = session::feed::next(feed, file, &mut block, &mut line, &mut store);
-        run = after(run, feed);
-        r = feed.reader;
+    let mut feed = Feed::new(cells);
+    'lines: while feed.goes_on() {
+        feed.next(file, &mut buffers);
+        run = after(run, &feed);
     }
     program::report::say(feed.report);
-    if !r.failed {
+    if feed.reader.found != Found::Failure {
         print(run.counts);
     }
 }
@@ -150,37 +142,37 @@ fn run_from(file: &mut Source, cells: u8) {
 // ---- what is printed
 
 // What part a number is of a total, in percent, cut to a tenth.
-fn put_share(out: &mut Room, w: Writer, n: u64, total: u64) -> Writer {
+fn put_share(out: &mut Writer, n: u64, total: u64) -> Written {
     if total == 0 {
-        return w;
+        return Ok(());
     }
     let tenths = (n % 281474976710656) * 1000 / total;
-    let a = put_with(out, w, b", ", tenths / 10, b".");
-    put_with(out, a, b"", tenths % 10, b" %")
+    out.put_with(b", ", tenths / 10, b".")?;
+    out.put_with(b"", tenths % 10, b" %")
 }
 
 fn less(a: u64, b: u64) -> u64 {
     if b < a { a - b } else { 0 }
 }
 
-fn put_counts(out: &mut Room, c: Counts) {
-    let a = put_with(out, empty(), b"ticks: ", c.ticks, b"");
-    let b = put_with(out, a, b"\nslept through: ", c.slept, b"");
-    let d = put_share(out, b, c.slept, c.ticks);
+fn put_counts(out: &mut Writer, c: Counts) -> Written {
+    out.put_with(b"ticks: ", c.ticks, b"")?;
+    out.put_with(b"\nslept through: ", c.slept, b"")?;
+    put_share(out, c.slept, c.ticks)?;
     let awake = less(c.ticks, c.slept);
-    let e = put_with(out, d, b"\nawake: ", awake, b" ticks, ");
-    let f = put_with(out, e, b"", c.changes, b" other inputs, ");
-    let g = put_with(out, f, b"", c.lines, b" lines\n");
-    flush(out, g);
+    out.put_with(b"\nawake: ", awake, b" ticks, ")?;
+    out.put_with(b"", c.changes, b" other inputs, ")?;
+    out.put_with(b"", c.lines, b" lines\n")?;
+    out.flush()
 }
 
 fn print(c: Counts) {
-    let mut out = [0u8; ROOM];
-    put_counts(&mut out, c);
+    let mut out = Writer::new();
+    let _ = put_counts(&mut out, c);
 }
 
 fn main(rt: HostRuntime) {
-    let o = arguments::read(
+    let given = read(
         &rt,
         b"plskip reads lines of a card and ticks, and prints how many of the ticks a processor may sleep through.
 
@@ -193,10 +185,10 @@ error output. --cells 32 is for a card of thirty-two cells.
 
     plskip examples/clock.lines
 ",
-        arguments::CELLS,
+        &[Switch::Cells],
     );
-    if arguments::has_input(&o) {
-        let mut source = o.input;
-        run_from(&mut source, o.cells);
+    if let Some(mut given) = given {
+        let cells = given.cells;
+        run_from(&mut given.input, cells);
     }
 }

@@ -9,7 +9,7 @@ ghost use Rattle.std.specs.Prelude.{◌≤◌, ◌<◌};
 use card::card::Card;
 use card::limits::Number;
 use input::system::STDOUT;
-use program::arguments::{ANYWAY, CELLS, has_input};
+use program::arguments::{Switch, read};
 use ticks::view::sees;
 
 // Cells and connectors are known by their bases: the first of the cells, that of the connectors,
@@ -152,11 +152,11 @@ fn survey_of(card: Card) {
     } else {
         put(b"Nothing depends on any line.");
     }
-    program::writer::write(b"\n");
+    let _ = program::writer::write(b"\n");
 }
 
 fn main(rt: HostRuntime) {
-    let given = program::arguments::read(
+    let given = read(
         &rt,
         b"plsurvey reads lines of a card and ticks, and prints what depends on each line of the rig.
 
@@ -169,14 +169,9 @@ thirty-two cells.
 
     plsurvey examples/clock.lines
 ",
-        CELLS | ANYWAY,
+        &[Switch::Cells, Switch::Anyway],
     );
-    if !has_input(&given) {
-        return;
-    }
-    let wiring = wiring_input::wiring_from(given);
-    if wiring.ok {
-        let card = wiring.card;
+    if let Some(card) = given.and_then(wiring_input::wiring_from) {
         survey_of(card);
     }
 }

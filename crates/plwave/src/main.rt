@@ -13,17 +13,15 @@
 
 ghost use Rattle.std.specs.Prelude.{◌≡◌, ◌≤◌, ◌<◌, ◌+◌, length};
 ghost use Rattle.std.proofs.lemmas.List.Edits.{sets};
-ghost use Rattle.session.specs.Feed.{Ready};
 ghost use Rattle.plwave.specs.Dump.{code_of, digit_of, change_of, changes, most_wires};
 
 use card::place::cells_for;
 use input::system::Source;
-use input::{BUFFER, LINE};
 use phrases::names::connector;
-use program::arguments;
+use program::arguments::{Switch, read};
 use program::report::Report;
-use program::writer::{ROOM, Room, Writer, empty, flush, put, put_byte, put_number, put_with};
-use session::feed::STORE;
+use program::writer::{Writer, Written};
+use session::feed::{Buffers, Feed};
 use trace::notes::{Form, has_refused, has_rest, put_refused, put_rest};
 use trace::{Shown, packed};
 
@@ -46,104 +44,99 @@ fn put_code(out: &mut [u8], at: usize, i: u32) -> usize
 
 // ---- the header
 
-fn put_connector(out: &mut Room, s: Writer, k: u8) -> Writer {
-    put(out, s, &connector(k))
+fn put_connector(out: &mut Writer, k: u8) -> Written {
+    out.put(&connector(k))
 }
 
 // The name of wire i of a card of n cells. It says what is driven, since some viewers show no
 // scopes.
-fn put_name(out: &mut Room, s: Writer, i: u32, n: u32) -> Writer
+fn put_name(out: &mut Writer, i: u32, n: u32) -> Written
     requires n_bound { n ≤ 32 }
     requires i_lt_most_wires { i < most_wires }
 {
     if i < 16 {
-        return put_connector(out, s, i as u8);
+        return put_connector(out, i as u8);
     }
     if i < 32 {
-        let a = put(out, s, b"drive_");
-        return put_connector(out, a, (i - 16) as u8);
+        out.put(b"drive_")?;
+        return put_connector(out, (i - 16) as u8);
     }
     if i < 32 + n {
-        return put_with(out, s, b"cell", i as u64 - 31, b"");
+        return out.put_with(b"cell", i as u64 - 31, b"");
     }
-    put_with(out, s, b"woken", (i - n) as u64 - 31, b"")
+    out.put_with(b"woken", (i - n) as u64 - 31, b"")
 }
 
-fn put_wire(out: &mut Room, s: Writer, i: u32, n: u32) -> Writer
+fn put_wire(out: &mut Writer, i: u32, n: u32) -> Written
     requires n_bound { n ≤ 32 }
     requires i_lt_most_wires { i < most_wires }
 {
     let mut code = [0u8; 2];
     let len = put_code(&mut code, 0, i);
-    let a = put(out, s, b"$var wire 1 ");
-    let b = put(out, a, &code[0..len]);
-    let c = put_byte(out, b, b' ');
-    let d = put_name(out, c, i, n);
-    put(out, d, b" $end\n")
+    out.put(b"$var wire 1 ")?;
+    out.put(&code[0..len])?;
+    out.put_byte(b' ')?;
+    put_name(out, i, n)?;
+    out.put(b" $end\n")
 }
 
-fn put_wires(out: &mut Room, s: Writer, from: u32, to: u32, n: u32) -> Writer
+fn put_wires(out: &mut Writer, from: u32, to: u32, n: u32) -> Written
     requires from_le_to { from ≤ to }
     requires to_le_most_wires { to ≤ most_wires }
     requires n_bound { n ≤ 32 }
 {
-    let mut w = s;
     for i in from..to {
-        w = put_wire(out, w, i, n);
+        put_wire(out, i, n)?;
     }
-    w
+    Ok(())
 }
 
-fn put_scope(out: &mut Room, s: Writer, name: &[u8]) -> Writer {
-    let a = put(out, s, b"$scope module ");
-    let b = put(out, a, name);
-    put(out, b, b" $end\n")
+fn put_scope(out: &mut Writer, name: &[u8]) -> Written {
+    out.put(b"$scope module ")?;
+    out.put(name)?;
+    out.put(b" $end\n")
 }
 
-fn end_scope(out: &mut Room, s: Writer) -> Writer {
-    put(out, s, b"$upscope $end\n")
+fn end_scope(out: &mut Writer) -> Written {
+    out.put(b"$upscope $end\n")
 }
 
 // A scope with some of the wires of a card of n cells.
-fn put_group(out: &mut Room, s: Writer, name: &[u8], from: u32, to: u32, n: u32) -> Writer
+fn put_group(out: &mut Writer, name: &[u8], from: u32, to: u32, n: u32) -> Written
     requires from_le_to { from ≤ to }
     requires to_le_most_wires { to ≤ most_wires }
     requires n_bound { n ≤ 32 }
 {
-    let a = put_scope(out, s, name);
-    let b = put_wires(out, a, from, to, n);
-    end_scope(out, b)
+    put_scope(out, name)?;
+    put_wires(out, from, to, n)?;
+    end_scope(out)
 }
 
-fn put_connector_groups(out: &mut Room, s: Writer, cells: u8) -> Writer {
+fn put_connector_groups(out: &mut Writer, cells: u8) -> Written {
     let n = cells_for(cells) as u32;
-    let a = put_group(out, s, b"front", 0, 8, n);
-    let b = put_group(out, a, b"backplane", 8, 16, n);
-    put_group(out, b, b"driven", 16, 32, n)
+    put_group(out, b"front", 0, 8, n)?;
+    put_group(out, b"backplane", 8, 16, n)?;
+    put_group(out, b"driven", 16, 32, n)
 }
 
-fn put_cell_groups(out: &mut Room, s: Writer, cells: u8) -> Writer {
+fn put_cell_groups(out: &mut Writer, cells: u8) -> Written {
     let n = cells_for(cells) as u32;
     let woken = 32 + n;
     let end = woken + n;
-    let a = put_group(out, s, b"cells", 32, woken, n);
-    put_group(out, a, b"woken", woken, end, n)
+    put_group(out, b"cells", 32, woken, n)?;
+    put_group(out, b"woken", woken, end, n)
 }
 
 // It is written at once, so that an output that takes nothing ends the program before it reads.
-fn put_header(out: &mut Room, s: Writer, cells: u8) -> Writer {
-    let a = put(out, s, b"$version plwave $end\n");
-    let b = put(
-        out,
-        a,
-        b"$comment one unit of time is one tick that ran $end\n$timescale 1 us $end\n",
-    );
-    let c = put_scope(out, b, b"card");
-    let d = put_connector_groups(out, c, cells);
-    let e = put_cell_groups(out, d, cells);
-    let f = end_scope(out, e);
-    let g = put(out, f, b"$enddefinitions $end\n");
-    flush(out, g)
+fn put_header(out: &mut Writer, cells: u8) -> Written {
+    out.put(b"$version plwave $end\n")?;
+    out.put(b"$comment one unit of time is one tick that ran $end\n$timescale 1 us $end\n")?;
+    put_scope(out, b"card")?;
+    put_connector_groups(out, cells)?;
+    put_cell_groups(out, cells)?;
+    end_scope(out)?;
+    out.put(b"$enddefinitions $end\n")?;
+    out.flush()
 }
 
 // ---- ticks
@@ -189,17 +182,17 @@ fn put_changes(out: &mut [u8], word: u64, set: u64, from: u32, count: u32) -> us
 }
 
 // The same, to the output.
-fn put_bits(out: &mut Room, s: Writer, word: u64, set: u64, from: u32, count: u32) -> Writer
+fn put_bits(out: &mut Writer, word: u64, set: u64, from: u32, count: u32) -> Written
     requires count_bound { count ≤ 64 }
     requires count_bound_2 { from + count ≤ most_wires }
 {
     let mut bits = [0u8; 256];
     let n = put_changes(&mut bits, word, set, from, count);
-    put(out, s, &bits[0..n])
+    out.put(&bits[0..n])
 }
 
-fn put_time(out: &mut Room, s: Writer, t: u64) -> Writer {
-    put_with(out, s, b"#", t, b"\n")
+fn put_time(out: &mut Writer, t: u64) -> Written {
+    out.put_with(b"#", t, b"\n")
 }
 
 // The wires of a tick: those but the last n, and the last n, those of the cells that woke.
@@ -217,103 +210,103 @@ fn values_of(shown: Shown) -> Values {
 }
 
 // Those that are in a set.
-fn put_values(out: &mut Room, s: Writer, now: Values, set: Values, cells: u8) -> Writer {
+fn put_values(out: &mut Writer, now: Values, set: Values, cells: u8) -> Written {
     let n = cells_for(cells) as u32;
-    let a = put_bits(out, s, now.waves, set.waves, 0, 32 + n);
-    put_bits(out, a, now.woken, set.woken, 32 + n, n)
+    put_bits(out, now.waves, set.waves, 0, 32 + n)?;
+    put_bits(out, now.woken, set.woken, 32 + n, n)
 }
 
 // The first tick, whole.
-fn put_first(out: &mut Room, s: Writer, now: Values, cells: u8) -> Writer {
+fn put_first(out: &mut Writer, now: Values, cells: u8) -> Written {
     let all = Values {
         waves: u64::MAX,
         woken: u64::MAX,
     };
-    let a = put_time(out, s, 0);
-    let b = put(out, a, b"$dumpvars\n");
-    let c = put_values(out, b, now, all, cells);
-    put(out, c, b"$end\n")
+    put_time(out, 0)?;
+    out.put(b"$dumpvars\n")?;
+    put_values(out, now, all, cells)?;
+    out.put(b"$end\n")
 }
 
 // A tick at time t, after one that showed `last`.
-fn put_tick(out: &mut Room, s: Writer, t: u64, now: Values, last: Values, cells: u8) -> Writer {
+fn put_tick(out: &mut Writer, t: u64, now: Values, last: Values, cells: u8) -> Written {
     if t == 0 {
-        return put_first(out, s, now, cells);
+        return put_first(out, now, cells);
     }
     let set = Values {
         waves: now.waves ^ last.waves,
         woken: now.woken ^ last.woken,
     };
     if (set.waves | set.woken) == 0 {
-        return s;
+        return Ok(());
     }
-    let a = put_time(out, s, t);
-    put_values(out, a, now, set, cells)
+    put_time(out, t)?;
+    put_values(out, now, set, cells)
 }
 
 // ---- the end
 
 // The lines that were refused, as a comment.
-fn put_refusals(out: &mut Room, s: Writer, report: Report) -> Writer {
+fn put_refusals(out: &mut Writer, report: Report) -> Written {
     if !has_refused(report) {
-        return s;
+        return Ok(());
     }
-    let a = put(out, s, b"$comment ");
-    let b = put_refused(out, a, report, Form::Wave);
-    put(out, b, b" $end\n")
+    out.put(b"$comment ")?;
+    put_refused(out, report, Form::Wave)?;
+    out.put(b" $end\n")
 }
 
 // A last line that was not entered.
-fn put_unended(out: &mut Room, s: Writer, report: Report) -> Writer {
+fn put_unended(out: &mut Writer, report: Report) -> Written {
     if !has_rest(report) {
-        return s;
+        return Ok(());
     }
-    let a = put(out, s, b"$comment ");
-    let b = put_rest(out, a, report, Form::Wave);
-    put(out, b, b" $end\n")
+    out.put(b"$comment ")?;
+    put_rest(out, report, Form::Wave)?;
+    out.put(b" $end\n")
 }
 
 // What no wave shows, the time after the last tick, and all that waits.
-fn finish(out: &mut Room, s: Writer, report: Report, t: u64) -> Writer {
-    let a = put_refusals(out, s, report);
-    let b = put_unended(out, a, report);
-    let c = put_time(out, b, t);
-    flush(out, c)
+fn finish(out: &mut Writer, report: Report, t: u64) -> Written {
+    put_refusals(out, report)?;
+    put_unended(out, report)?;
+    put_time(out, t)?;
+    out.flush()
 }
 
 // The wave file of an input, of a card of 16 or 32 cells. Time has 64 bits, and the ticks after so
-// many are left out. A write that fails ends the program.
-fn write_wave(input: &mut Source, cells: u8) {
-    let mut block = [0u8; BUFFER];
-    let mut line = [0u8; LINE];
-    let mut store = [0u8; STORE];
-    let mut out = [0u8; ROOM];
-    let mut s = put_header(&mut out, empty(), cells);
-    let mut feed = session::feed::start(cells);
+// many are left out. The feed is left where a write fails, or at the input's end.
+fn put_wave(
+    out: &mut Writer,
+    feed: &mut Feed,
+    input: &mut Source,
+    buffers: &mut Buffers,
+    cells: u8,
+) -> Written {
+    put_header(out, cells)?;
     let mut last = Values { waves: 0, woken: 0 };
-    let mut t: u64 = 0;
-    while t < u64::MAX {
-        if !s.ok {
-            break;
-        }
-        let step = trace::next(feed, input, &mut block, &mut line, &mut store);
-        feed = step.feed;
-        let shown = step.shown;
-        if !shown.tick.answer.ran {
-            break;
-        }
+    for t in 0..u64::MAX {
+        let Some(shown) = trace::next(feed, input, buffers) else {
+            return finish(out, feed.report, t);
+        };
         let now = values_of(shown);
-        s = put_tick(&mut out, s, t, now, last, cells);
+        put_tick(out, t, now, last, cells)?;
         last = now;
-        t += 1;
     }
-    let report = feed.report;
-    finish(&mut out, s, report, t);
-    program::report::say(report);
+    finish(out, feed.report, u64::MAX)
+}
+
+// A write that fails ends the program.
+fn write_wave(input: &mut Source, cells: u8) {
+    let mut buffers = Buffers::new();
+    let mut out = Writer::new();
+    let mut feed = Feed::new(cells);
+    let _ = put_wave(&mut out, &mut feed, input, &mut buffers, cells);
+    program::report::say(feed.report);
 }
 
 fn main(rt: HostRuntime) {
-    let o = arguments::read(
+    let given = read(
         &rt,
         b"plwave reads lines of a card and ticks, and writes a wave file (Value Change Dump) of the ticks that ran.
 
@@ -325,10 +318,10 @@ Each tick that ran is one unit of time; tick 1 is at time 0. Lines that were ref
     plwave first.lines > first.vcd
     gtkwave first.vcd examples/card.gtkw
 ",
-        arguments::CELLS,
+        &[Switch::Cells],
     );
-    if arguments::has_input(&o) {
-        let mut source = o.input;
-        write_wave(&mut source, o.cells);
+    if let Some(mut given) = given {
+        let cells = given.cells;
+        write_wave(&mut given.input, cells);
     }
 }

@@ -7,29 +7,23 @@
 ghost use Rattle.std.specs.Prelude.{◌≡◌, ◌<◌, ◌≤◌, IfSome};
 ghost use Rattle.program.specs.Words.{whole_number, most_from};
 
-use check::same;
 use input::line_end;
 use input::system::{STDERR, Source, fail, open_read};
 use std::env::{Env, FillError};
 use std::io::{IsTerminal, Read};
 
-// The options, as bits of a set. A program says which it takes.
-pub const CELLS: u8 = 1;
+// The options. A program says which it takes.
+#[derive(Clone, Copy, Debug, PartialEq, Eq)]
+pub enum Switch {
+    Cells,
+    Anyway,
+    From,
+    Rows,
+    Asleep,
+}
 
-pub const ANYWAY: u8 = 2;
-
-pub const FROM: u8 = 4;
-
-pub const ROWS: u8 = 8;
-
-pub const ASLEEP: u8 = 16;
-
-// Not an option: the program reads nothing, and takes no file's name.
-pub const NO_INPUT: u8 = 32;
-
-// What is read, `Nothing` where the help was written, or why nothing can be read; the number of
-// cells, 16 or 32; the number of `--from`, 0 where it was not given; and whether each of the other
-// options was given.
+// What is read; the number of cells, 16 or 32; the number of `--from`, 0 where it was not given;
+// and whether each of the other options was given.
 #[derive(Drop)]
 pub struct Arguments {
     pub input: Source,
@@ -38,38 +32,39 @@ pub struct Arguments {
     pub anyway: bool,
     pub rows: bool,
     pub asleep: bool,
+    ghost small: { from < most_from },
 }
 
 // The words so far.
 #[derive(Clone, Copy)]
 struct Words {
-    // the options that were given
-    given: u8,
-    // the option whose number the next word is, 0 for none
-    due: u8,
-    // the place of the file's name, 0 for none
-    file: usize,
+    // the option whose number the next word is
+    due: Option<Switch>,
+    // the place of the file's name
+    file: Option<usize>,
     cells: u8,
     from: u64,
-    // whether the help was written or a word refused
-    over: bool,
+    anyway: bool,
+    rows: bool,
+    asleep: bool,
+    ghost small: { from < most_from },
 }
+
+// No further word is looked at, and the program does not run: its help was written, or a word was
+// refused, which was said.
+#[derive(Clone, Copy, Debug, PartialEq, Eq)]
+struct Stopped;
 
 fn say(text: &[u8]) {
     io::write_all(STDERR, text);
 }
 
 // A word that cannot be taken, why, and where to look.
-fn refuse(w: Words, word: &[u8], why: &[u8]) -> Words
-    requires { w.from < most_from }
-    ensures { result.from < most_from }
-{
+fn refuse(word: &[u8], why: &[u8]) -> Stopped {
     say(word);
     say(why);
     say(b"; --help says what this program takes\n");
-    let mut next = w;
-    next.over = true;
-    next
+    Stopped
 }
 
 // Standard input. A person at a terminal reads what is expected, which is the first line of the
@@ -77,99 +72,47 @@ fn refuse(w: Words, word: &[u8], why: &[u8]) -> Words
 fn standard(rt: &HostRuntime, help: &[u8]) -> Source {
     let input = rt.stdin();
     if input.is_terminal() {
-        let end = line_end(help, 0, help.len());
-        say(&help[0..end]);
+        say(&help[..line_end(help, 0, help.len())]);
         say(b"\nType its input here; Ctrl-D at the start of a line ends it. --help tells more.\n");
     }
     Source::Standard(input)
 }
 
-// A file. A folder opens as one and cannot be read, so a read of no bytes is tried.
-fn named(rt: &HostRuntime, name: &[u8]) -> Source {
+// A file, if it can be read. A folder opens as one and cannot be read, so a read of no bytes is
+// tried.
+fn named(rt: &HostRuntime, name: &[u8]) -> Option<Source> {
     if std::str::from_utf8(name).is_err() {
         say(name);
         say(b": this name is no UTF-8, and no file is opened by such a name\n");
-        return Source::Nothing;
+        return None;
     }
     let Some(mut file) = open_read(rt, name) else {
         fail(name);
-        return Source::Nothing;
+        return None;
     };
-    let mut none = [0u8; 1];
-    if file.read(&mut none[0..0]).is_err() {
+    if file.read(&mut []).is_err() {
         fail(name);
-        return Source::Nothing;
+        return None;
     }
-    Source::Named(file)
+    Some(Source::Named(file))
 }
 
 // ---- a word
 
 // Whether a word is an option and no file's name. `-` alone is standard input.
 fn is_option(word: &[u8]) -> bool {
-    if 1 < word.len() {
-        return word[0] == b'-';
-    }
-    false
+    1 < word.len() && word[0] == b'-'
 }
 
-// Which option a word is, 0 for none.
-fn option_of(word: &[u8]) -> u8 {
-    if same(word, b"--cells") {
-        return CELLS;
+fn option_of(word: &[u8]) -> Option<Switch> {
+    match word {
+        b"--cells" => Some(Switch::Cells),
+        b"--anyway" => Some(Switch::Anyway),
+        b"--from" => Some(Switch::From),
+        b"--rows" => Some(Switch::Rows),
+        b"--asleep" => Some(Switch::Asleep),
+        _ => None,
     }
-    if same(word, b"--anyway") {
-        return ANYWAY;
-    }
-    if same(word, b"--from") {
-        return FROM;
-    }
-    if same(word, b"--rows") {
-        return ROWS;
-    }
-    if same(word, b"--asleep") { ASLEEP } else { 0 }
-}
-
-// The texts that any program writes on demand. All programs have one version.
-fn is_asked(help: &[u8], word: &[u8]) -> bool {
-    if same(word, b"--help") | same(word, b"-h") {
-        crate::writer::write(help);
-        return true;
-    }
-    if same(word, b"--version") {
-        crate::writer::write(b"14.2.0\n");
-        return true;
-    }
-    false
-}
-
-// An option that the program takes. Its number is due where it has one.
-fn with_option(w: Words, option: u8) -> Words
-    requires { w.from < most_from }
-    ensures { result.from < most_from }
-{
-    let mut next = w;
-    next.given = w.given | option;
-    if (option & (CELLS | FROM)) != 0 {
-        next.due = option;
-    }
-    next
-}
-
-fn option(w: Words, help: &[u8], word: &[u8], takes: u8) -> Words
-    requires { w.from < most_from }
-    ensures { result.from < most_from }
-{
-    let option = option_of(word) & takes;
-    if option != 0 {
-        return with_option(w, option);
-    }
-    if is_asked(help, word) {
-        let mut next = w;
-        next.over = true;
-        return next;
-    }
-    refuse(w, word, b": no such option")
 }
 
 // The number that a whole word is: one to ten digits with no leading zero.
@@ -181,92 +124,118 @@ fn whole_number(word: &[u8]) -> Option<u64>
     if n.next == word.len() { n.value } else { None }
 }
 
-// The number after `--cells`: a card has 16 cells or 32.
-fn with_cells(w: Words, word: &[u8]) -> Words
-    requires { w.from < most_from }
-    ensures { result.from < most_from }
-{
-    let mut next = w;
-    next.due = 0;
-    if same(word, b"32") {
-        next.cells = 32;
-        return next;
-    }
-    if same(word, b"16") {
-        next.cells = 16;
-        return next;
-    }
-    refuse(next, b"--cells", b" wants 16 or 32 after it")
-}
-
-// The number after `--from`.
-fn with_from(w: Words, word: &[u8]) -> Words
-    requires { w.from < most_from }
-    ensures { result.from < most_from }
-{
-    let mut next = w;
-    next.due = 0;
-    let Some(from) = whole_number(word) else {
-        return refuse(
-            next,
-            b"--from",
-            b" wants a number of one to ten digits after it",
-        );
-    };
-    next.from = from;
-    next
-}
-
-// The name of the file, at a place of the words.
-fn with_file(w: Words, word: &[u8], takes: u8, place: usize) -> Words
-    requires { w.from < most_from }
-    ensures { result.from < most_from }
-{
-    if (takes & NO_INPUT) != 0 {
-        return refuse(w, word, b": this program reads nothing");
-    }
-    if w.file != 0 {
-        return refuse(w, word, b": one file is read, and another was named before");
-    }
-    let mut next = w;
-    next.file = place;
-    next
-}
-
-// A word at a place.
-fn with_word(w: Words, help: &[u8], word: &[u8], takes: u8, place: usize) -> Words
-    requires { w.from < most_from }
-    ensures { result.from < most_from }
-{
-    if w.due == CELLS {
-        return with_cells(w, word);
-    }
-    if w.due == FROM {
-        return with_from(w, word);
-    }
-    if is_option(word) {
-        return option(w, help, word, takes);
-    }
-    with_file(w, word, takes, place)
-}
-
-// The same, of the word at a place. After a word that was refused no other is looked at.
-fn word_at(rt: &HostRuntime, w: Words, help: &[u8], takes: u8, place: usize) -> Words
-    requires { w.from < most_from }
-    ensures { result.from < most_from }
-{
-    if w.over {
-        return w;
-    }
-    let mut word = io::buffer();
-    match rt.arg(place, &mut word) {
-        Ok(len) => with_word(w, help, &word[0..len], takes, place),
-        Err(_) => {
-            fail(b"a word");
-            let mut next = w;
-            next.over = true;
-            next
+impl Words {
+    fn new() -> Words {
+        Words {
+            due: None,
+            file: None,
+            cells: 16,
+            from: 0,
+            anyway: false,
+            rows: false,
+            asleep: false,
         }
+    }
+
+    // An option that the program takes. Its number is due where it has one.
+    fn switch(&mut self, switch: Switch) {
+        match switch {
+            Switch::Cells | Switch::From => self.due = Some(switch),
+            Switch::Anyway => self.anyway = true,
+            Switch::Rows => self.rows = true,
+            Switch::Asleep => self.asleep = true,
+        }
+    }
+
+    // An option, or a text that any program writes on demand. All programs have one version.
+    fn option(&mut self, help: &[u8], word: &[u8], takes: &[Switch]) -> Result<(), Stopped> {
+        match option_of(word) {
+            Some(switch) if takes.contains(&switch) => {
+                self.switch(switch);
+                return Ok(());
+            }
+            _ => {}
+        }
+        match word {
+            b"--help" | b"-h" => {
+                let _ = crate::writer::write(help);
+                Err(Stopped)
+            }
+            b"--version" => {
+                let _ = crate::writer::write(b"14.2.0\n");
+                Err(Stopped)
+            }
+            _ => Err(refuse(word, b": no such option")),
+        }
+    }
+
+    // The number after `--cells`: a card has 16 cells or 32.
+    fn cells(&mut self, word: &[u8]) -> Result<(), Stopped> {
+        self.due = None;
+        match word {
+            b"32" => self.cells = 32,
+            b"16" => self.cells = 16,
+            _ => return Err(refuse(b"--cells", b" wants 16 or 32 after it")),
+        }
+        Ok(())
+    }
+
+    // The number after `--from`.
+    fn from(&mut self, word: &[u8]) -> Result<(), Stopped> {
+        self.due = None;
+        let Some(from) = whole_number(word) else {
+            return Err(refuse(b"--from", b" wants a number of one to ten digits after it"));
+        };
+        self.from = from;
+        Ok(())
+    }
+
+    // The name of the file, at a place of the words.
+    fn file(&mut self, word: &[u8], reads: bool, place: usize) -> Result<(), Stopped> {
+        if !reads {
+            return Err(refuse(word, b": this program reads nothing"));
+        }
+        if self.file.is_some() {
+            return Err(refuse(word, b": one file is read, and another was named before"));
+        }
+        self.file = Some(place);
+        Ok(())
+    }
+
+    // A word at a place.
+    fn word(
+        &mut self,
+        help: &[u8],
+        word: &[u8],
+        takes: &[Switch],
+        reads: bool,
+        place: usize,
+    ) -> Result<(), Stopped> {
+        match self.due {
+            Some(Switch::Cells) => self.cells(word),
+            Some(_) => self.from(word),
+            None if is_option(word) => self.option(help, word, takes),
+            None => self.file(word, reads, place),
+        }
+    }
+
+    // All words, up to one that stops.
+    fn words(
+        &mut self,
+        rt: &HostRuntime,
+        help: &[u8],
+        takes: &[Switch],
+        reads: bool,
+    ) -> Result<(), Stopped> {
+        for place in 1..count_words(rt) {
+            let mut word = io::buffer();
+            let Ok(len) = rt.arg(place, &mut word) else {
+                fail(b"a word");
+                return Err(Stopped);
+            };
+            self.word(help, &word[..len], takes, reads, place)?;
+        }
+        Ok(())
     }
 }
 
@@ -274,88 +243,62 @@ fn word_at(rt: &HostRuntime, w: Words, help: &[u8], takes: u8, place: usize) -> 
 
 // How many words there are, with the program's own name at place 0, which a page does not have.
 fn count_words(rt: &HostRuntime) -> usize {
-    let mut none = [0u8; 1];
     for place in 1..usize::MAX {
-        if let Err(FillError::NotPresent) = rt.arg(place, &mut none[0..0]) {
+        if let Err(FillError::NotPresent) = rt.arg(place, &mut []) {
             return place;
         }
     }
     usize::MAX
 }
 
-fn all_words(rt: &HostRuntime, help: &[u8], takes: u8) -> Words
-    ensures { result.from < most_from }
-{
-    let mut w = Words {
-        given: 0,
-        due: 0,
-        file: 0,
-        cells: 16,
-        from: 0,
-        over: false,
-    };
-    for place in 1..count_words(rt) {
-        w = word_at(rt, w, help, takes, place);
+// The words of a program that takes these options, and reads an input or does not.
+fn all_words(
+    rt: &HostRuntime,
+    help: &[u8],
+    takes: &[Switch],
+    reads: bool,
+) -> Result<Words, Stopped> {
+    let mut w = Words::new();
+    let stopped = w.words(rt, help, takes, reads);
+    if w.due.is_some() {
+        return Err(refuse(b"the last option", b" wants a number after it"));
     }
-    if w.due != 0 {
-        return refuse(w, b"the last option", b" wants a number after it");
-    }
-    w
+    stopped?;
+    Ok(w)
 }
 
-// The file at a place of the words, or standard input.
-fn open_at(rt: &HostRuntime, help: &[u8], place: usize) -> Source {
-    if place == 0 {
-        return standard(rt, help);
-    }
+// The file at a place of the words.
+fn open_at(rt: &HostRuntime, help: &[u8], place: usize) -> Option<Source> {
     let mut name = io::buffer();
-    match rt.arg(place, &mut name) {
-        Ok(len) => open_word(rt, help, &name[0..len]),
-        Err(_) => {
-            fail(b"a word");
-            Source::Nothing
-        }
+    let Ok(len) = rt.arg(place, &mut name) else {
+        fail(b"a word");
+        return None;
+    };
+    match &name[..len] {
+        b"-" => Some(standard(rt, help)),
+        name => named(rt, name),
     }
 }
 
-fn open_word(rt: &HostRuntime, help: &[u8], word: &[u8]) -> Source {
-    if same(word, b"-") {
-        return standard(rt, help);
-    }
-    named(rt, word)
-}
-
-// What a program reads, by the words that it was started with.
-fn opened(rt: &HostRuntime, w: Words, help: &[u8], takes: u8) -> Source {
-    if w.over {
-        return Source::Nothing;
-    }
-    if (takes & NO_INPUT) != 0 {
-        return Source::Standard(rt.stdin());
-    }
-    open_at(rt, help, w.file)
-}
-
-// Whether there is something to read.
-pub fn has_input(given: &Arguments) -> bool {
-    if let Source::Nothing = given.input {
-        return false;
-    }
-    true
-}
-
-// The words of a program that takes these options.
-pub fn read(rt: &HostRuntime, help: &[u8], takes: u8) -> Arguments
-    ensures { result.from < most_from }
-{
-    let w = all_words(rt, help, takes);
-    let input = opened(rt, w, help, takes);
-    Arguments {
+// The words of a program that takes these options and reads an input. There is nothing to do where
+// the help was written, and where an input cannot be read, which was said.
+pub fn read(rt: &HostRuntime, help: &[u8], takes: &[Switch]) -> Option<Arguments> {
+    let w = all_words(rt, help, takes, true).ok()?;
+    let input = match w.file {
+        Some(place) => open_at(rt, help, place)?,
+        None => standard(rt, help),
+    };
+    Some(Arguments {
         input: input,
         cells: w.cells,
         from: w.from,
-        anyway: (w.given & ANYWAY) != 0,
-        rows: (w.given & ROWS) != 0,
-        asleep: (w.given & ASLEEP) != 0,
-    }
+        anyway: w.anyway,
+        rows: w.rows,
+        asleep: w.asleep,
+    })
+}
+
+// The words of a program that reads nothing: whether it may run.
+pub fn read_none(rt: &HostRuntime, help: &[u8]) -> bool {
+    all_words(rt, help, &[], false).is_ok()
 }

@@ -3,63 +3,42 @@
 // refused, so a program says what the file is and what to do, and stops.
 use input::system::STDERR;
 
-#[derive(Clone, Copy)]
+#[derive(Clone, Copy, Debug, PartialEq, Eq)]
 pub enum Form {
-    // lines as the card takes them, as far as this shows
-    Plain,
     CrLf,
     ByteOrderMark,
     Utf16,
     BlankAtEnd,
 }
 
-fn byte_or(line: &[u8], at: usize, other: u8) -> u8 {
-    if at < line.len() { line[at] } else { other }
-}
-
-fn last_byte(line: &[u8]) -> u8 {
-    let n = line.len();
-    if 0 < n { line[n - 1] } else { b'.' }
-}
-
 // The form by how an input begins.
-fn form_of_start(line: &[u8]) -> Form {
-    let first = byte_or(line, 0, b'.');
-    let second = byte_or(line, 1, b'.');
-    let third = byte_or(line, 2, b'.');
-    let little = (first == 0xff) & (second == 0xfe);
-    let big = (first == 0xfe) & (second == 0xff);
-    if (little | big) | ((first == 0) | (second == 0)) {
-        return Form::Utf16;
+fn form_of_start(line: &[u8]) -> Option<Form> {
+    match line {
+        [0xff, 0xfe, ..] | [0xfe, 0xff, ..] => Some(Form::Utf16),
+        [0, ..] | [_, 0, ..] => Some(Form::Utf16),
+        [0xef, 0xbb, 0xbf, ..] => Some(Form::ByteOrderMark),
+        _ => None,
     }
-    if ((first == 0xef) & (second == 0xbb)) & (third == 0xbf) {
-        return Form::ByteOrderMark;
-    }
-    Form::Plain
 }
 
 // The form by how a line ends.
-fn form_of_end(line: &[u8]) -> Form {
-    let last = last_byte(line);
-    if last == b'\r' {
-        return Form::CrLf;
+fn form_of_end(line: &[u8]) -> Option<Form> {
+    match line {
+        [.., b'\r'] => Some(Form::CrLf),
+        [.., b' ' | b'\t'] => Some(Form::BlankAtEnd),
+        _ => None,
     }
-    if (last == b' ') | (last == b'\t') {
-        return Form::BlankAtEnd;
-    }
-    Form::Plain
 }
 
-// The form that a line shows, without its LF; lines are counted from 1.
-pub fn form_of(line: &[u8], number: u64) -> Form {
-    if number == 1 {
-        let start = form_of_start(line);
-        if let Form::Plain = start {
-            return form_of_end(line);
-        }
-        return start;
-    }
-    form_of_end(line)
+// The form that a line shows, without its LF; lines are counted from 1. There is none where lines
+// are as the card takes them, as far as this one shows.
+pub fn form_of(line: &[u8], number: u64) -> Option<Form> {
+    let start = if number == 1 {
+        form_of_start(line)
+    } else {
+        None
+    };
+    start.or(form_of_end(line))
 }
 
 fn say(text: &[u8]) {
@@ -72,13 +51,9 @@ fn say_line(number: u64, text: &[u8]) {
     say(text);
 }
 
-// Says what the file is and what to do, with the line that shows it. The result is whether there
-// was anything to say.
-pub fn say_form(form: Form, number: u64) -> bool {
+// Says what the file is and what to do, with the line that shows it.
+pub fn say_form(form: Form, number: u64) {
     match form {
-        Form::Plain => {
-            return false;
-        }
         Form::CrLf => say_line(
             number,
             b": lines end with CR LF: save with Unix line ends, or take the CR out by tr -d '\\r'\n",
@@ -94,5 +69,4 @@ pub fn say_form(form: Form, number: u64) -> bool {
             b" ends with a blank: take it out, or all of them by sed 's/[[:blank:]]*$//'\n",
         ),
     }
-    true
 }

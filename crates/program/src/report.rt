@@ -2,11 +2,11 @@
 // a last line that has not ended, which is never entered.
 //
 // It says how many there were and which came first, on the error output.
-ghost use Rattle.std.specs.Prelude.{◌≡◌, length};
+ghost use Rattle.std.specs.Prelude.{◌≡◌};
 ghost use Rattle.program.specs.Report.{text_of, one_more, after_line, after_first, at_end};
 
+use input::LINE;
 use input::system::STDERR;
-use input::{LINE, least};
 
 // The first bytes of a line, all of one that a card takes.
 #[derive(Clone, Copy)]
@@ -28,6 +28,12 @@ pub struct Report {
     pub rest: Text,
 }
 
+impl Text {
+    pub fn as_slice(&self) -> &[u8] {
+        &self.bytes[..self.len.min(LINE)]
+    }
+}
+
 fn no_text() -> Text {
     let bytes = [0u8; LINE];
     Text {
@@ -40,8 +46,8 @@ pub fn text_of(line: &[u8]) -> Text
     ensures { result ≡ text_of line.now }
 {
     let mut bytes = [0u8; LINE];
-    let n = least(line.len(), LINE);
-    text::copy(&mut bytes, 0, &line[0..n]);
+    let n = line.len().min(LINE);
+    text::copy(&mut bytes, 0, &line[..n]);
     Text {
         bytes: bytes,
         len: n,
@@ -132,29 +138,16 @@ pub fn shown(b: u8) -> u8 {
     if (b < 32) | (126 < b) { b'?' } else { b }
 }
 
-fn show(bytes: &mut [u8])
-    ensures { length bytes.new ≡ length bytes.old }
-{
-    let mut i: usize = 0;
-    while i < bytes.len() {
-        bytes[i] = shown(bytes[i]);
-        i += 1;
-    }
-}
-
 fn say_bytes(bytes: &[u8]) {
     io::write_all(STDERR, bytes);
 }
 
-fn say_front(bytes: &[u8], len: usize) {
-    let n = least(len, bytes.len());
-    say_bytes(&bytes[0..n]);
-}
-
 fn say_text(text: Text) {
-    let mut bytes = text.bytes;
-    show(&mut bytes);
-    say_front(&bytes, text.len);
+    let mut shows = text;
+    for b in shows.bytes.iter_mut() {
+        *b = shown(*b);
+    }
+    say_bytes(shows.as_slice());
 }
 
 // "2 lines were refused; the first is line 7: 36CCA Y=99 (:N-7)"

@@ -17,13 +17,15 @@ use Rattle.saved.specs.Record.{config_width, record_length, load_number}
 use Rattle.saved.proofs.Records.{loaded-by}
 use Rattle.lines.specs.Line.{line_outcome}
 use Rattle.input.specs.Lines.{takes_all, part, kept}
-use Rattle.input.specs.Reading.{pending, Next}
-use Rattle.input.specs.declared.Reader.{Reader}
+use Rattle.input.specs.Reading.{is_line, pending, Next}
+use Rattle.input.specs.declared.reader.Reader.{Reader}
 use Rattle.input.proofs.Lines.{takes-append, takes_part}
 use Rattle.input.proofs.Reading.{part_none}
-use Rattle.session.specs.Session.{Entry, tick_line, is_load_line, by_tick, by_load, by_line, entered, event_of, Enters}
+use Rattle.session.specs.Session.{Entry, tick_line, is_load_line, by_tick, by_load, by_line, if_tick, entered, event_of, Enters}
 use Rattle.session.specs.Run.{RunState, start_state, enters}
 use Rattle.session.specs.Feed.{store_length, store_of, Given, Fed, FedFrom}
+use Rattle.std.specs.Prelude.{Option, Some, None}
+use Rattle.session.specs.declared.TickLine.{TickLine}
 use Rattle.session.specs.declared.Entered.{Entered}
 use Rattle.session.specs.declared.Event.{Event}
 use Rattle.session.specs.declared.Event.TheVariants.{Line}
@@ -95,7 +97,7 @@ module _ (c : Card) (text line held : List ℕ) (same : take kept text ≡ take 
 
 -- the reader has given the line, or its front, and no further one comes
 pub fed_by : {feed f : Feed} {r : Reader} {block held block' held' : List ℕ} {room : ℕ} → room ≡ kept → f.reader ≡ r → f.before ≡ feed.card
-    → Next room feed.reader r block block' → Given r.going feed.card (part r.start r.end block') held f.card f.event held'
+    → Next room feed.reader r block block' → Given (is_line r.found) feed.card (part r.start r.end block') held f.card f.event held'
     → Fed feed f block held block' held'
 fed_by {feed} {f} {r} {held = held} {block' = block'} {held' = held'} whole same before x g =
     let cut = ap (λ (k : ℕ). take k (part r.start r.end block')) (sym whole) ∙ x.given ∙ ap (λ (k : ℕ). take k x.line) whole in
@@ -105,12 +107,12 @@ fed_by {feed} {f} {r} {held = held} {block' = block'} {held' = held'} whole same
             read = x.read;
             line = x.line;
             free = x.free;
-            bytes = x.bytes ∙ ap (λ (q : Reader). x.line ++ cond q.going (10 ∷ pending q block') []) (sym same);
+            bytes = x.bytes ∙ ap (λ (q : Reader). x.line ++ cond (is_line q.found) (10 ∷ pending q block') []) (sym same);
             given = ap (λ (q : Reader). take kept (part q.start q.end block')) same ∙ cut;
           };
       before = before;
       given =
-          subst (λ (q : Reader). Given q.going feed.card x.line held f.card f.event held') (sym same)
+          subst (λ (q : Reader). Given (is_line q.found) feed.card x.line held f.card f.event held') (sym same)
           (given-cut feed.card (part r.start r.end block') x.line held cut g);
     }
 
@@ -119,18 +121,18 @@ fed_by {feed} {f} {r} {held = held} {block' = block'} {held' = held'} whole same
 -- no line changes the size of a card
 entered-size : (n : ℕ) (c : Card) (t store : List ℕ) → (entered n c t store).card.size ≡ c.size
 unfolding entered line_outcome
-entered-size n c t store = go (tick_line t).ok (is_load_line t)
+entered-size n c t store = go (tick_line t) (is_load_line t)
   where
     either : (b : Bool) (d : Card) → d.size ≡ c.size → (cond b d c).size ≡ c.size
     either true d e = e
     either false d e = refl
 
-    go : (tick load : Bool) → (cond tick (by_tick n c t store) (cond load (by_load n c store) (by_line n c t store))).card.size ≡ c.size
-    go true load = by-tick n (tick_line t).full c (tick_line t).input (λ r. r.card.size ≡ c.size) (λ _. refl) (λ _. refl)
-    go false true = rw (loaded-by n c store) (either (eqb (load_number n store) 0) _ refl)
-    go false false = changed-size n c _
+    go : (k : Option TickLine) (load : Bool) → (if_tick k (λ k. by_tick n c k store) (cond load (by_load n c store) (by_line n c t store))).card.size ≡ c.size
+    go (Some k) load = by-tick n k.full c k.input (λ r. r.card.size ≡ c.size) (λ _. refl) (λ _. refl)
+    go None true = rw (loaded-by n c store) (either (eqb (load_number n store) 0) _ refl)
+    go None false = changed-size n c _
 
-pub fed-first : (cells : ℕ) (f : Feed) (block : List ℕ) → f.card ≡ fresh_of (cells_for cells) → f.reader.going ≡ true → f.reader.n ≡ 0
+pub fed-first : (cells : ℕ) (f : Feed) (block : List ℕ) → f.card ≡ fresh_of (cells_for cells) → is_line f.reader.found ≡ true → f.reader.n ≡ 0
     → FedFrom (cells_for cells) f block (replicate store_length 0)
 unfolding takes_all start_state cells_for
 fed-first cells f block card going none =
@@ -153,7 +155,7 @@ fed-first cells f block card going none =
     zeros false = refl
 
 -- a feed that goes on, and the next line
-module _ {n : ℕ} {feed f : Feed} {block held block' held' : List ℕ} (on : feed.reader.going ≡ true) (u : FedFrom n feed block held)
+module _ {n : ℕ} {feed f : Feed} {block held block' held' : List ℕ} (on : is_line feed.reader.found ≡ true) (u : FedFrom n feed block held)
     (e : Fed feed f block held block' held') where
   line : List ℕ
   line = e.next.line
@@ -232,10 +234,10 @@ module _ {n : ℕ} {feed f : Feed} {block held block' held' : List ℕ} (on : fe
   fed-next =
       record {
         read = u.read ++ e.next.read;
-        taken = then f.reader.going;
-        bytes = bytes_on f.reader.going (pending f.reader block') e.next.bytes;
-        size = size-on f.reader.going e.given.card;
-        card = card-on f.reader.going e.given.card;
-        store = store-on f.reader.going e.given.store;
-        whole = whole-on f.reader.going;
+        taken = then (is_line f.reader.found);
+        bytes = bytes_on (is_line f.reader.found) (pending f.reader block') e.next.bytes;
+        size = size-on (is_line f.reader.found) e.given.card;
+        card = card-on (is_line f.reader.found) e.given.card;
+        store = store-on (is_line f.reader.found) e.given.store;
+        whole = whole-on (is_line f.reader.found);
       }

@@ -1,6 +1,6 @@
 -- Tick lines and what lines print, by computation, as tables: what each is read as and prints,
 -- beside what it should be.
-use Rattle.std.specs.Prelude.{ℕ, ◌≡◌, refl, Bool, true, false, List, [], ◌∷◌, ◌++◌, map}
+use Rattle.std.specs.Prelude.{ℕ, ◌≡◌, refl, Bool, true, false, Option, Some, None, List, [], ◌∷◌, ◌++◌, map}
 use Prim.Native.String.{String}
 use Rattle.text.specs.Digits.{every, value_by}
 use Rattle.text.specs.Decimal.{is_digit, decimal_from, decimal}
@@ -10,29 +10,29 @@ use Rattle.card.specs.Address.{cell_count, cell_room}
 use Rattle.ticks.specs.declared.tick.Answer.{Answer}
 use Rattle.lines.specs.Line.{ending}
 use Rattle.session.specs.declared.TickLine.{TickLine}
-use Rattle.session.specs.Session.{no_tick, tick_line, cell_digits, tick_text, load_text, plain_reply}
+use Rattle.session.specs.Session.{tick_line, cell_digits, tick_text, load_text, plain_reply}
 
-ticks : (full : Bool) (code sample attached : ℕ) → TickLine
-ticks full code sample attached = record { ok = true; full = full; input = record { code = code; sample = sample; attached = attached } }
+ticks : (full : Bool) (code sample attached : ℕ) → Option TickLine
+ticks full code sample attached = Some (record { full = full; input = record { code = code; sample = sample; attached = attached } })
 
 -- given, expected
-abbrev table : List (String × TickLine)
+abbrev table : List (String × Option TickLine)
 table =
     -- "`T c w a F` or `T c w a Q`"
     ("T 0 0100 ffff Q", ticks false 0 0x0100 0xffff)
     ∷ ("T 9 01af fe00 F", ticks true 9 0x01af 0xfe00)
     -- without the attached word, in capitals, a digit more or less, another blank
-    ∷ ("T 0 0100 Q", no_tick)
-    ∷ ("T 0 0100 FFFF Q", no_tick)
-    ∷ ("T 0 0100 fffff Q", no_tick)
-    ∷ ("T 0 0100 fff Q", no_tick)
-    ∷ ("T 0 100 ffff Q", no_tick)
-    ∷ ("T 0 0100 ffff  Q", no_tick)
-    ∷ ("T 0 0100ffff  Q", no_tick)
-    ∷ ("T 0 0100 ffff q", no_tick)
+    ∷ ("T 0 0100 Q", None)
+    ∷ ("T 0 0100 FFFF Q", None)
+    ∷ ("T 0 0100 fffff Q", None)
+    ∷ ("T 0 0100 fff Q", None)
+    ∷ ("T 0 100 ffff Q", None)
+    ∷ ("T 0 0100 ffff  Q", None)
+    ∷ ("T 0 0100ffff  Q", None)
+    ∷ ("T 0 0100 ffff q", None)
     ∷ []
 
-examples : map (λ (e : String × TickLine). tick_line (bytes_of e.0)) table ≡ map (λ (e : String × TickLine). e.1) table
+examples : map (λ (e : String × Option TickLine). tick_line (bytes_of e.0)) table ≡ map (λ (e : String × Option TickLine). e.1) table
 unfolding ticks every value_by is_digit is_hex hex_value hex_in hex_at tick_line
 examples = refl
 

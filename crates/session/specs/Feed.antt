@@ -4,23 +4,13 @@ use Rattle.std.specs.Prelude.{ℕ, ◌+◌, ◌≤◌, ◌≡◌, Bool, true, co
 use Rattle.card.specs.declared.card.Card.{Card}
 use Rattle.card.specs.Address.{cell_room, cells_for}
 use Rattle.saved.specs.Record.{config_width, record_length}
-use Rattle.input.specs.Lines.{takes_all, kept, block_length}
-use Rattle.input.specs.Reading.{pending, Next}
-use Rattle.input.specs.declared.Reader.{Reader}
+use Rattle.input.specs.Lines.{takes_all, kept}
+use Rattle.input.specs.Reading.{is_line, pending, Next}
 use Rattle.session.specs.Session.{entered, event_of}
 use Rattle.session.specs.Run.{start_state, enters}
 use Rattle.session.specs.declared.Event.{Event}
 use Rattle.session.specs.declared.Event.TheVariants.{Line}
 use Rattle.session.specs.declared.feed.Feed.{Feed}
-
--- the bytes of the block: a line that has not ended, and a block of input
-abbrev pub buffer_length : ℕ
-buffer_length = kept + block_length
-
--- the line that was given last lies in the block
-pub record Ready (r : Reader) : Type 0 where
-  pub order : r.end ≤ r.n
-  pub within : r.n ≤ buffer_length
 
 -- ---- one line
 
@@ -44,7 +34,7 @@ pub record Given (lf : Bool) (c : Card) (text held : List ℕ) (d : Card) (v : E
 pub record Fed (feed f : Feed) (block held block' held' : List ℕ) : Type 0 where
   pub next : Next kept feed.reader f.reader block block'
   pub before : f.before ≡ feed.card
-  pub given : Given f.reader.going feed.card next.line held f.card f.event held'
+  pub given : Given (is_line f.reader.found) feed.card next.line held f.card f.event held'
 
 -- ---- all of them
 
@@ -55,8 +45,8 @@ pub record Fed (feed f : Feed) (block held block' held' : List ℕ) : Type 0 whe
 pub record FedFrom (n : ℕ) (f : Feed) (block held : List ℕ) : Type 0 where
   pub read : List ℕ
   pub taken : List ℕ
-  pub bytes : read ≡ taken ++ cond f.reader.going (pending f.reader block) []
+  pub bytes : read ≡ taken ++ cond (is_line f.reader.found) (pending f.reader block) []
   pub size : cells_for f.card.size ≡ n
   pub card : f.card ≡ (takes_all enters (start_state n) taken).done.card
   pub store : store_of n held ≡ (takes_all enters (start_state n) taken).done.store
-  pub whole : f.reader.going ≡ true → (takes_all enters (start_state n) taken).line ≡ []
+  pub whole : is_line f.reader.found ≡ true → (takes_all enters (start_state n) taken).line ≡ []

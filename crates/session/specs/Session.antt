@@ -1,6 +1,6 @@
 -- Document 01, "One run": what one line of input does to the card, the store and the output. Bytes
 -- are written as numbers.
-use Rattle.std.specs.Prelude.{ℕ, ◌-◌, ◌≤◌, ◌≡◌, refl, Bool, true, false, ◌&&◌, ◌||◌, cond, List, [], ◌∷◌, ◌++◌, eqb, leb, length, get_or, take}
+use Rattle.std.specs.Prelude.{ℕ, ◌-◌, ◌≤◌, ◌≡◌, refl, Bool, true, false, ◌&&◌, ◌||◌, cond, Option, Some, None, List, [], ◌∷◌, ◌++◌, eqb, leb, length, get_or, take}
 use Rattle.std.proofs.lemmas.List.Edits.{sets}
 use Rattle.text.specs.Decimal.{is_digit, decimal}
 use Rattle.std.specs.Option.{is_some, unwrap_or}
@@ -31,18 +31,14 @@ tick_words t = (is_some (hex_at t 4) && eqb (get_or t 8 0) 32) && (is_some (hex_
 abbrev pub tick_kind : List ℕ → Bool
 tick_kind t = eqb (get_or t 14 0) 70 || eqb (get_or t 14 0) 81
 
-abbrev pub no_tick : TickLine
-no_tick = record { ok = false; full = false; input = record { code = 0; sample = 0; attached = 0 } }
-
-unfoldable pub tick_line : List ℕ → TickLine
+unfoldable pub tick_line : List ℕ → Option TickLine
 tick_line t =
     cond (eqb (length t) 15 && (tick_head t && (tick_words t && tick_kind t)))
-    (record {
-      ok = true;
+    (Some (record {
       full = eqb (get_or t 14 0) 70;
       input = record { code = get_or t 2 0 - 48; sample = unwrap_or (hex_at t 4) 0; attached = unwrap_or (hex_at t 9) 0 };
-    })
-    no_tick
+    }))
+    None
 
 -- "A tick prints `T` driven, cells, set (hex), count (decimal), or `T -` idle"
 abbrev pub word : ℕ → List ℕ
@@ -90,8 +86,8 @@ plain_reply r = take (length r - 2) r ++ (10 ∷ [])
 abbrev pub longest_print : ℕ
 longest_print = 36
 
-abbrev pub ticked : ℕ → Card → List ℕ → Ticked
-ticked n c t = tick n (tick_line t).full c (tick_line t).input
+abbrev pub ticked : ℕ → Card → TickLine → Ticked
+ticked n c k = tick n k.full c k.input
 
 -- what a line leaves: the card, the store, and the bytes that it prints
 pub record Entry : Type 0 where
@@ -99,8 +95,8 @@ pub record Entry : Type 0 where
   pub store : List ℕ
   pub printed : List ℕ
 
-abbrev pub by_tick : ℕ → Card → List ℕ → List ℕ → Entry
-by_tick n c t store = record { card = (ticked n c t).card; store = store; printed = tick_text n (ticked n c t).answer }
+abbrev pub by_tick : ℕ → Card → TickLine → List ℕ → Entry
+by_tick n c k store = record { card = (ticked n c k).card; store = store; printed = tick_text n (ticked n c k).answer }
 
 abbrev pub by_load : ℕ → Card → List ℕ → Entry
 by_load n c store = record { card = loaded n c store; store = store; printed = load_text (load_number n store) }
@@ -113,9 +109,14 @@ by_line n c t store =
       printed = plain_reply (line_reply n c t shortest_reply (length store));
     }
 
+-- the one of a line that is a tick, by the tick, or the other
+abbrev pub if_tick : {A : Type 0} → Option TickLine → (TickLine → A) → A → A
+if_tick (Some k) f other = f k
+if_tick None f other = other
+
 -- a tick, a load, or a card line; a malformed T line is no card line either, and so prints `:N-2`
 unfoldable pub entered : ℕ → Card → List ℕ → List ℕ → Entry
-entered n c t store = cond (tick_line t).ok (by_tick n c t store) (cond (is_load_line t) (by_load n c store) (by_line n c t store))
+entered n c t store = if_tick (tick_line t) (λ k. by_tick n c k store) (cond (is_load_line t) (by_load n c store) (by_line n c t store))
 
 -- ---- what happened
 
@@ -123,8 +124,8 @@ entered n c t store = cond (tick_line t).ok (by_tick n c t store) (cond (is_load
 -- number
 unfoldable pub event_of : ℕ → Card → (text store : List ℕ) → Event
 event_of n c t store =
-    cond (tick_line t).ok
-    (Tick (record { full = (tick_line t).full; input = (tick_line t).input; answer = (ticked n c t).answer }))
+    if_tick (tick_line t)
+    (λ k. Tick (record { full = k.full; input = k.input; answer = (ticked n c k).answer }))
     (cond (is_load_line t) (Load (load_number n store)) (Line (line_outcome n c t shortest_reply (length store)).k))
 
 -- the number of the refusal, or 0: no tick is refused

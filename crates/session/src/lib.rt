@@ -3,6 +3,7 @@
 
 pub mod feed; // the lines of an input, for every program but plrun
 pub mod run; // the loop of plrun
+mod step; // the next line of a feed
 
 ghost use Rattle.std.specs.Prelude.{◌++◌, ◌≡◌, ◌≤◌, ◌<◌, ◌+◌, ◌-◌, length};
 ghost use Rattle.std.proofs.lemmas.List.Edits.{sets};
@@ -25,7 +26,6 @@ pub const LONGEST_PRINT: usize = 36;
 // A line that asks for a tick: its kind, and what comes in with it.
 #[derive(Clone, Copy)]
 pub struct TickLine {
-    pub ok: bool,
     pub full: bool,
     pub input: Input,
 }
@@ -65,22 +65,12 @@ pub fn refusal_of(event: Event) -> u8
     }
 }
 
-// The line read as a tick.
-pub fn tick_line(text: &[u8]) -> TickLine
+// The line read as a tick, if it is one.
+pub fn tick_line(text: &[u8]) -> Option<TickLine>
     ensures { result ≡ tick_line text.now }
 {
-    let nothing = Input {
-        code: 0,
-        sample: 0,
-        attached: 0,
-    };
-    let none = TickLine {
-        ok: false,
-        full: false,
-        input: nothing,
-    };
     if text.len() != 15 {
-        return none;
+        return None;
     }
     let code = text[2];
     let sample = text::hex4_at(text, 4);
@@ -90,17 +80,16 @@ pub fn tick_line(text: &[u8]) -> TickLine
     let words = (sample.is_some() & (text[8] == b' ')) & (attached.is_some() & (text[13] == b' '));
     if head & (words & ((kind == b'F') | (kind == b'Q'))) {
         let input = Input {
-            code: code - 48,
+            code: code - b'0',
             sample: sample.unwrap_or(0),
             attached: attached.unwrap_or(0),
         };
-        TickLine {
-            ok: true,
+        Some(TickLine {
             full: kind == b'F',
             input: input,
-        }
+        })
     } else {
-        none
+        None
     }
 }
 
@@ -165,7 +154,7 @@ fn put_load(out: &mut [u8], k: u8) -> usize
 fn without(n: usize, m: usize) -> usize
     ensures { result ≡ n - m }
 {
-    if n < m { 0 } else { n - m }
+    n.saturating_sub(m)
 }
 
 // A reply of a line, with LF in place of CR LF.
@@ -185,10 +174,7 @@ fn put_plain(out: &mut [u8], reply: &[u8]) -> usize
 pub fn is_load(text: &[u8]) -> bool
     ensures { result ≡ is_load_line text.now }
 {
-    if text.len() != 1 {
-        return false;
-    }
-    text[0] == b'L'
+    text.len() == 1 && text[0] == b'L'
 }
 
 // The tick that a line asks for.
@@ -232,34 +218,25 @@ pub fn enter(card: Card, text: &[u8], store: &mut [u8], out: &mut [u8]) -> Enter
         (event_of (cells_for card.size) card text.now store.old)
         result store.new out.old out.new }
 {
-    let t = tick_line(text);
-    if t.ok {
+    if let Some(t) = tick_line(text) {
         let done = do_tick(card, t);
-        let answer = done.answer;
-        let next = done.card;
-        let input = t.input;
         let tick = TickDone {
             full: t.full,
-            input: input,
-            answer: answer,
+            input: t.input,
+            answer: done.answer,
         };
-        let event = Event::Tick(tick);
-        let len = put_tick(out, answer, card.size);
         return Entered {
-            card: next,
-            event: event,
-            len: len,
+            card: done.card,
+            event: Event::Tick(tick),
+            len: put_tick(out, done.answer, card.size),
         };
     }
     if is_load(text) {
         let loaded = saved::record::load(card, store);
-        let next = loaded.card;
-        let event = Event::Load(loaded.k);
-        let len = put_load(out, loaded.k);
         return Entered {
-            card: next,
-            event: event,
-            len: len,
+            card: loaded.card,
+            event: Event::Load(loaded.k),
+            len: put_load(out, loaded.k),
         };
     }
     enter_line(card, text, store, out)

@@ -83,13 +83,6 @@ pub struct Over {
     pub printed: usize,
 }
 
-// How many bytes were printed, and what write answered.
-#[derive(Clone, Copy)]
-pub struct Written {
-    pub used: usize,
-    pub wrote: bool,
-}
-
 // A line has ended: it is entered, and what it prints goes after what is printed already.
 fn enter(state: State, text: &[u8], store: &mut [u8], out: &mut [u8]) -> State
     requires { state.used + longest_print ≤ length out.old }
@@ -194,19 +187,6 @@ pub fn run_over(input: &[u8], output: &mut [u8]) -> Over
     }
 }
 
-// One write, of the first `used` bytes.
-fn write_front(output: i32, out: &[u8], used: usize) -> Written
-    requires { used ≤ length out.now }
-    ensures used_value { result.used ≡ used }
-    ensures used_in_bounds { result.used ≤ length out.now }
-{
-    let wrote = io::write_all(output, &out[0..used]);
-    Written {
-        used: used,
-        wrote: wrote,
-    }
-}
-
 // One read, and what its lines print. After a write that failed nothing more is written, so that
 // what came out is never without its middle.
 fn turn(
@@ -233,20 +213,20 @@ fn turn(
         used: 0,
     };
     let read = read_behind(input, block, line, len);
-    let got = read.n;
+    let got = read.unwrap_or(0);
     let next = take_block(s, block, len + got, line, store, out);
-    let written = write_front(output, out, next.used);
+    let wrote = io::write_all(output, &out[..next.used]);
     let after = next.card;
     Run {
         card: after,
         len: next.len,
         got: got,
-        failed: read.failed,
-        used: written.used,
-        wrote: written.wrote,
-        going: (got > 0) & written.wrote,
+        failed: read.is_err(),
+        used: next.used,
+        wrote: wrote,
+        going: (got > 0) & wrote,
         taken: run.taken + got as u64,
-        printed: run.printed + written.used as u64,
+        printed: run.printed + next.used as u64,
         left: run.left - 1,
     }
 }
@@ -289,12 +269,6 @@ fn run_with(input: &mut Source, output: i32, line: &mut [u8; LINE]) -> Run
     r
 }
 
-// The first bytes of a line that has not ended.
-fn say_front(line: &[u8], len: usize) {
-    let n = input::least(len, line.len());
-    say_rest(text_of(&line[0..n]));
-}
-
 // What a run has to report, on the error output: a call that failed, and a line that has not ended.
 fn say(run: Run, line: &[u8; LINE]) {
     if !run.wrote {
@@ -303,7 +277,7 @@ fn say(run: Run, line: &[u8; LINE]) {
     if run.failed {
         fail(b"the input");
     }
-    say_front(line, run.len);
+    say_rest(text_of(&line[..run.len.min(LINE)]));
 }
 
 // The run of plrun: what the lines of an input print goes to an output.

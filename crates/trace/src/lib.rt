@@ -7,67 +7,35 @@
 pub mod notes; // what a picture says of lines that it does not show
 
 ghost use Rattle.std.specs.Prelude.{◌≡◌};
-ghost use Rattle.session.specs.Feed.{Ready};
 ghost use Rattle.trace.specs.Shows;
 ghost use Rattle.trace.specs.Shows.{shown_in};
 
 use card::card::Card;
 use input::system::Source;
-use input::{BUFFER, LINE};
-use session::feed::{Feed, STORE};
+use session::feed::{Buffers, Feed};
 use session::{Event, TickDone};
-use ticks::tick::Answer;
-use ticks::view::Input;
 
-// What a line showed: the tick that it was, with the levels that the card read in it, BNC1 first. A
-// line that is no tick shows one that did not run.
+// What a tick showed: itself, with the levels that the card read in it, BNC1 first.
 #[derive(Clone, Copy)]
 pub struct Shown {
     pub tick: TickDone,
     pub levels: u16,
 }
 
-// What a line shows that is no tick.
-fn nothing() -> Shown
-    ensures { result ≡ Shows.nothing }
-{
-    let input = Input {
-        code: 0,
-        sample: 0,
-        attached: 0,
-    };
-    let answer = Answer {
-        ran: false,
-        driven: 0,
-        cells: 0,
-        woken: 0,
-        count: 0,
-    };
-    let tick = TickDone {
-        full: false,
-        input: input,
-        answer: answer,
-    };
-    Shown {
-        tick: tick,
-        levels: 0,
-    }
-}
-
-// What a line showed that left this card.
-fn shown_in(event: Event, card: Card) -> Shown
+// What a line showed that left this card, if it was a tick.
+fn shown_in(event: Event, card: Card) -> Option<Shown>
     ensures { result ≡ shown_in event card }
 {
     match event {
         Event::Tick(t) => {
             let m = card.memory;
-            Shown {
+            Some(Shown {
                 tick: t,
                 levels: m.levels,
-            }
+            })
         }
-        Event::Load(_) => nothing(),
-        Event::Line(_) => nothing(),
+        Event::Load(_) => None,
+        Event::Line(_) => None,
     }
 }
 
@@ -83,36 +51,15 @@ pub fn packed(s: Shown) -> u64
     s.levels as u64 + driven + cells
 }
 
-// The lines so far, and what the last of them showed.
-#[derive(Clone, Copy)]
-pub struct Trace {
-    pub feed: Feed,
-    pub shown: Shown,
-}
-
-// The input up to the next tick that ran, or to its end, where nothing is shown. The feed is what
-// `session::feed::start` or this function gave, with the same input and buffers.
-pub fn next(
-    feed: Feed,
-    input: &mut Source,
-    block: &mut [u8; BUFFER],
-    line: &mut [u8; LINE],
-    store: &mut [u8; STORE],
-) -> Trace
-    requires { Ready feed.reader }
-    ensures { Ready result.feed.reader }
-{
-    let mut f = feed;
-    let mut shown = nothing();
-    let mut r = f.reader;
-    while r.left > 0 && r.going && !shown.tick.answer.ran {
-        f = session::feed::next(f, input, block, line, store);
-        let event = f.event;
-        shown = shown_in(event, f.card);
-        r = f.reader;
+// What the next tick showed that ran; none did up to the end of the input. The feed is what
+// `Feed::new` or this function left, with the same input and buffers.
+pub fn next(feed: &mut Feed, input: &mut Source, buffers: &mut Buffers) -> Option<Shown> {
+    'lines: while feed.goes_on() {
+        feed.next(input, buffers);
+        match shown_in(feed.event, feed.card) {
+            Some(shown) if shown.tick.answer.ran => return Some(shown),
+            _ => {}
+        }
     }
-    Trace {
-        feed: f,
-        shown: shown,
-    }
+    None
 }

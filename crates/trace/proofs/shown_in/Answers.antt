@@ -8,8 +8,8 @@ returns-in-Tick c = rw c.in-Tick.is
 
 pub returns-in-Load : goal.returns-in-Load
 unfolding shown_in
-returns-in-Load c = rw (c.in-Load.is, c.nothing.ensures)
+returns-in-Load c = rw c.in-Load.is
 
 pub returns-in-Line : goal.returns-in-Line
 unfolding shown_in
-returns-in-Line c = rw (c.in-Line.is, c.nothing-in-Line.ensures)
+returns-in-Line c = rw c.in-Line.is
