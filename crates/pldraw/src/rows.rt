@@ -11,26 +11,26 @@
 ghost use Rattle.std.specs.Prelude.{◌<◌};
 
 use card::card::{Card, Connector};
-use card::connectors::each_of;
-use card::limits::{CELLS, CONNECTORS, INPUT};
+use card::connectors::connector_at;
+use card::limits::{CELLS, CONNECTORS, CONNECTORS_END, FIRST_CONNECTOR, INPUT};
 use cells::cell::Cell;
 
 // The connector that an address reads, in any of its four ways; none where it reads something else.
-fn connector_at(address: u8) -> u64 {
+fn connector_in(address: u8) -> u64 {
     let base = address % 64;
-    if base < 33 {
-        return 0;
+    match base {
+        FIRST_CONNECTOR..CONNECTORS_END => words::with_set(0, (base - FIRST_CONNECTOR) as u32),
+        _ => 0,
     }
-    if base > 48 {
-        return 0;
-    }
-    words::with_set(0, base as u32 - 33)
 }
 
 // The connectors that a cell's slots read. A slot that its type does not use is 0.
 fn read_by(cell: Cell) -> u64 {
-    let s = cell.slots;
-    (connector_at(s[0]) | connector_at(s[1])) | (connector_at(s[2]) | connector_at(s[3]))
+    let mut set = 0;
+    for address in cell.slots {
+        set |= connector_in(address);
+    }
+    set
 }
 
 // Cell i and what it reads, where it is wired.
@@ -50,31 +50,19 @@ fn by_connector(k: u32, c: Connector) -> u64
     if (c.kind == INPUT) | (c.source == 0) {
         return 0;
     }
-    words::with_set(connector_at(c.source), k)
-}
-
-fn by_cells(cells: [Cell; CELLS]) -> u64 {
-    let mut set: u64 = 0;
-    for i in 0..CELLS as u32 {
-        set = set | by_cell(i, cells[i as usize]);
-    }
-    set
-}
-
-fn by_connectors(connectors: [Connector; CONNECTORS]) -> u64 {
-    let mut set: u64 = 0;
-    for k in 0..16u32 {
-        set = set | by_connector(k, connectors[k as usize]);
-    }
-    set
+    words::with_set(connector_in(c.source), k)
 }
 
 // All that is wired.
 pub fn wired(card: Card) -> u64 {
-    let cells = card.cells;
-    let row = card.connectors;
-    let connectors = each_of(row);
-    by_cells(cells) | by_connectors(connectors)
+    let mut set = 0;
+    for i in 0..CELLS as u32 {
+        set |= by_cell(i, card.cells[i as usize]);
+    }
+    for k in 0..CONNECTORS as u32 {
+        set |= by_connector(k, connector_at(card.connectors, k));
+    }
+    set
 }
 
 // The rows of a set, by what the connectors of a card are.
