@@ -2,115 +2,70 @@
 // at a box.
 ghost use Rattle.diagram.specs.Page.{Fits};
 
-use crate::kept::{
-    CLOCK, EDITED, F, FULL, OTHER, STARTED, TIMED, TRIGGER, Ticks, WOKEN, X, Y, Z, has,
-};
+use crate::kept::{Ticks, Why};
 use crate::places::{Strip, column_width, number_of, x_of};
+use card::limits::CELLS;
+use phrases::terms::{is_counter, is_timer};
 use program::writer::{Writer, Written};
+use reasons::cell::any_reason;
 
-fn put_if(out: &mut Writer, wanted: bool, text: &[u8]) -> Written {
-    if wanted {
-        return out.put(text);
+// Why a cell wakes: ", X changed, clock high while active".
+fn put_reasons(out: &mut Writer, why: &Why) -> Written {
+    let q = why.found;
+    let counter = is_counter(why.kind);
+    let timed = counter | is_timer(why.kind);
+    let reasons = [
+        (q.edited, ", edited"),
+        (q.moved.x, ", X changed"),
+        (q.moved.y, ", Y changed"),
+        (q.moved.z, ", Z changed"),
+        (q.moved.f, ", F changed"),
+        (q.trigger & counter, ", start high"),
+        (q.trigger & !counter, ", trigger high"),
+        (q.other & counter, ", stop high"),
+        (q.other & !counter, ", second trigger high"),
+        (q.clock & timed, ", clock high while active"),
+        (q.clock & !timed, ", clock high"),
+    ];
+    for (holds, text) in reasons {
+        if holds {
+            out.put(text.as_bytes())?;
+        }
     }
     Ok(())
 }
 
-fn either(out: &mut Writer, first: bool, a: &[u8], b: &[u8]) -> Written {
-    if first {
-        return out.put(a);
-    }
-    out.put(b)
-}
-
-// Cell i was edited before tick t, or a slot has another value.
-fn put_changes(out: &mut Writer, ticks: &Ticks, t: usize, i: u32) -> Written {
-    put_if(out, has(ticks, t, EDITED, i), b", edited")?;
-    put_if(out, has(ticks, t, X, i), b", X changed")?;
-    put_if(out, has(ticks, t, Y, i), b", Y changed")?;
-    put_if(out, has(ticks, t, Z, i), b", Z changed")?;
-    put_if(out, has(ticks, t, F, i), b", F changed")
-}
-
-// X, as a trigger or a start, is high.
-fn put_trigger(out: &mut Writer, ticks: &Ticks, t: usize, i: u32) -> Written {
-    if !has(ticks, t, TRIGGER, i) {
-        return Ok(());
-    }
-    let starts = has(ticks, t, STARTED, i);
-    either(out, starts, b", start high", b", trigger high")
-}
-
-// F, as a second trigger or a stop.
-fn put_other(out: &mut Writer, ticks: &Ticks, t: usize, i: u32) -> Written {
-    if !has(ticks, t, OTHER, i) {
-        return Ok(());
-    }
-    let stops = has(ticks, t, STARTED, i);
-    either(out, stops, b", stop high", b", second trigger high")
-}
-
-fn put_clock(out: &mut Writer, ticks: &Ticks, t: usize, i: u32) -> Written {
-    if !has(ticks, t, CLOCK, i) {
-        return Ok(());
-    }
-    let timed = has(ticks, t, TIMED, i);
-    either(out, timed, b", clock high while active", b", clock high")
-}
-
-// "tick 5, X changed, clock high"
-fn put_title(out: &mut Writer, number: u64, ticks: &Ticks, t: usize, i: u32) -> Written {
-    out.put_with(b"<title>tick ", number, b"")?;
-    put_changes(out, ticks, t, i)?;
-    put_trigger(out, ticks, t, i)?;
-    put_other(out, ticks, t, i)?;
-    put_clock(out, ticks, t, i)?;
-    put_if(out, has(ticks, t, FULL, 0), b", full tick")?;
-    out.put(b"</title>")
-}
-
-// Whether the rules name cell i in tick t. If not, it is worked out because the tick is full.
-fn is_named(ticks: &Ticks, t: usize, i: u32) -> bool {
-    let x = has(ticks, t, EDITED, i) | has(ticks, t, X, i);
-    let y = has(ticks, t, Y, i) | has(ticks, t, Z, i);
-    let z = has(ticks, t, F, i) | has(ticks, t, CLOCK, i);
-    let f = has(ticks, t, TRIGGER, i) | has(ticks, t, OTHER, i);
-    (x | y) | (z | f)
-}
-
-// The box of cell i in tick t, which has a number, in a column that begins at x.
-fn put_box(
-    out: &mut Writer,
-    x: u64,
-    width: u64,
-    number: u64,
-    ticks: &Ticks,
-    t: usize,
-    i: u32,
-) -> Written {
-    either(
-        out,
-        is_named(ticks, t, i),
-        b"<path class=\"b\" d=\"M",
-        b"<path class=\"a\" d=\"M",
-    )?;
+// The box of a cell in a tick, which has a number, in a column that begins at x. A cell that the
+// rules do not name is worked out because the tick is full. Its title is as
+// "tick 5, X changed, clock high".
+fn put_box(out: &mut Writer, x: u64, width: u64, number: u64, full: bool, why: &Why) -> Written {
+    out.put(if any_reason(why.found) {
+        b"<path class=\"b\" d=\"M"
+    } else {
+        b"<path class=\"a\" d=\"M"
+    })?;
     out.put_with(b"", x, b" 0h")?;
     out.put_with(b"", width, b"v21H")?;
     out.put_with(b"", x, b"z\">")?;
-    put_title(out, number, ticks, t, i)?;
-    out.put(b"</path>\n")
+    out.put_with(b"<title>tick ", number, b"")?;
+    put_reasons(out, why)?;
+    if full {
+        out.put(b", full tick")?;
+    }
+    out.put(b"</title></path>\n")
 }
 
 // All boxes of cell i in a strip.
 pub fn put_boxes(out: &mut Writer, ticks: &Ticks, s: Strip, i: u32) -> Written
     requires { Fits s }
 {
-    let start = s.start;
-    let end = s.end;
-    for t in start..end {
-        if has(ticks, t + 1, WOKEN, i) {
-            let x = x_of(t - start, s.wide);
+    for t in s.start..s.end {
+        let tick = ticks.at(t + 1);
+        if words::bit(tick.woken as u64, i % 64) {
+            let x = x_of(t - s.start, s.wide);
             let number = number_of(s.before, t);
-            put_box(out, x, column_width(s.wide), number, ticks, t + 1, i)?;
+            let why = &tick.cells[i as usize % CELLS];
+            put_box(out, x, column_width(s.wide), number, tick.full, why)?;
         }
     }
     Ok(())

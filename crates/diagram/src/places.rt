@@ -4,7 +4,6 @@ ghost use Rattle.std.specs.Prelude.{◌+◌, ◌<◌, ◌≤◌};
 ghost use Rattle.diagram.specs.Page.{columns, most_rows};
 
 use program::writer::{Writer, Written};
-use std::num::wrapping_add_u64;
 
 // `columns`: ticks side by side.
 pub const COLUMNS: usize = 60;
@@ -64,7 +63,7 @@ pub fn column_width(wide: bool) -> u64
 
 // The number of tick t after others, counted from 1. No run has so many ticks that the sum wraps.
 pub fn number_of(before: u64, t: usize) -> u64 {
-    wrapping_add_u64(wrapping_add_u64(before, t as u64), 1)
+    before.wrapping_add(t as u64).wrapping_add(1)
 }
 
 // The bit of what a tick showed that row r shows.

@@ -3,7 +3,7 @@ ghost use Rattle.std.specs.Prelude.{◌+◌, ◌<◌, ◌≤◌};
 ghost use Rattle.diagram.specs.Page.{columns, most_rows, Fits};
 
 use crate::boxes::put_boxes;
-use crate::kept::{FULL, Ticks, has, waves_of};
+use crate::kept::Ticks;
 use crate::labels::put_name;
 use crate::places::{
     LEFT, NUMBERS, ROW, ROWS, Strip, bit_of, column_width, number_of, put_x, x_of,
@@ -29,25 +29,23 @@ fn put_start(out: &mut Writer, high: bool) -> Written {
 
 // Bit i of what tick t showed.
 fn shows(ticks: &Ticks, t: usize, i: u32) -> bool {
-    words::bit(waves_of(ticks, t), i % 64)
+    words::bit(ticks.at(t).waves, i % 64)
 }
 
 // The wave of a bit, with an edge where it differs from the tick before, in the first column too.
 fn put_wave(out: &mut Writer, ticks: &Ticks, s: Strip, i: u32) -> Written
     requires { Fits s }
 {
-    let start = s.start;
-    let end = s.end;
-    let mut last = shows(ticks, start, i);
+    let mut last = shows(ticks, s.start, i);
     put_start(out, last)?;
-    for t in start..end {
+    for t in s.start..s.end {
         let now = shows(ticks, t + 1, i);
         if now ^ last {
-            put_step(out, now, t - start, s.wide)?;
+            put_step(out, now, t - s.start, s.wide)?;
         }
         last = now;
     }
-    put_x(out, b"H", end - start, s.wide)?;
+    put_x(out, b"H", s.end - s.start, s.wide)?;
     out.put(b"\"/>\n")
 }
 
@@ -108,17 +106,15 @@ fn put_column_head(out: &mut Writer, number: u64, full: bool, k: usize, wide: bo
 fn put_numbers(out: &mut Writer, ticks: &Ticks, s: Strip) -> Written
     requires { Fits s }
 {
-    let start = s.start;
-    let end = s.end;
     out.put_with(
         b"<text class=\"n\" x=\"",
         LEFT - 40,
         b"\" y=\"12\">tick</text>\n",
     )?;
-    for t in start..end {
+    for t in s.start..s.end {
         let number = number_of(s.before, t);
-        let full = has(ticks, t + 1, FULL, 0);
-        put_column_head(out, number, full, t - start, s.wide)?;
+        let full = ticks.at(t + 1).full;
+        put_column_head(out, number, full, t - s.start, s.wide)?;
     }
     Ok(())
 }
@@ -144,9 +140,8 @@ fn put_grid(
     requires step_nonzero { 0 < step }
     requires offset_bound { offset < 5 }
 {
-    let end = n + 1;
     put_path(out, colour)?;
-    for k in 0..end {
+    for k in 0..n + 1 {
         if (offset + k) % step == 0 {
             put_upright(out, k, wide, low)?;
         }

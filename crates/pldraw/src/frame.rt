@@ -57,10 +57,6 @@ pub fn height_of(n: usize, head: u64, strip: u64) -> u64
     }
 }
 
-fn wider(a: u64, b: u64) -> u64 {
-    if a < b { b } else { a }
-}
-
 // The room that a line below the legend needs, with a text in it.
 fn note_width(has: bool, text: Text) -> u64 {
     if has {
@@ -73,7 +69,7 @@ fn note_width(has: bool, text: Text) -> u64 {
 pub fn width_for(strip: u64, report: Report) -> u64 {
     let refused = note_width(has_refused(report), report.line);
     let rest = note_width(has_rest(report), report.rest);
-    wider(wider(strip, NARROWEST), wider(refused, rest))
+    strip.max(NARROWEST).max(refused).max(rest)
 }
 
 pub fn put_size(out: &mut Writer, width: u64, height: u64) -> Written {

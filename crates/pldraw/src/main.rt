@@ -15,14 +15,13 @@ ghost use Rattle.std.specs.Prelude.{◌≤◌};
 ghost use Rattle.diagram.specs.Page.{kept_ticks};
 
 use card::card::Card;
-use diagram::kept::{KEPT, Ticks, WORDS, keep, waves_of};
+use diagram::kept::{KEPT, Ticks};
 use frame::Shape;
 use input::Found;
 use input::system::Source;
 use program::arguments::{Switch, read};
 use program::writer::Writer;
 use session::feed::{Buffers, Feed};
-use std::num::wrapping_add_u64;
 
 // Ticks that were passed over: how many, and what the last of them showed.
 #[derive(Clone, Copy)]
@@ -36,17 +35,11 @@ fn pass(feed: &mut Feed, most: u64, input: &mut Source, buffers: &mut Buffers) -
     let mut word: u64 = 0;
     for count in 0..most {
         let Some(shown) = trace::next(feed, input, buffers) else {
-            return Passed {
-                count: count,
-                word: word,
-            };
+            return Passed { count, word };
         };
         word = trace::packed(shown);
     }
-    Passed {
-        count: most,
-        word: word,
-    }
+    Passed { count: most, word }
 }
 
 // The ticks that were kept: the card at the last of them, how many, and who has a row.
@@ -61,30 +54,16 @@ fn gather(feed: &mut Feed, ticks: &mut Ticks, input: &mut Source, buffers: &mut 
     ensures { result.n ≤ kept_ticks }
 {
     let mut card = feed.card;
-    let mut set: u64 = 0;
-    let mut n: usize = 0;
-    while n < KEPT {
+    let mut set = 0;
+    for n in 0..KEPT {
         let Some(shown) = trace::next(feed, input, buffers) else {
-            break;
+            return Gathered { card, n, set };
         };
-        n += 1;
-        keep(ticks, n, shown, feed.before);
+        ticks.keep(n + 1, shown, &feed.before);
         card = feed.card;
-        set = set | (rows::wired(card) | (waves_of(ticks, n) ^ waves_of(ticks, 1)));
+        set |= rows::wired(card) | (ticks.at(n + 1).waves ^ ticks.at(1).waves);
     }
-    Gathered {
-        card: card,
-        n: n,
-        set: set,
-    }
-}
-
-// How many ticks come before tick `from`.
-fn before_of(from: u64) -> u64 {
-    if from == 0 {
-        return 0;
-    }
-    from - 1
+    Gathered { card, n: KEPT, set }
 }
 
 // What the picture shows. No run has so many ticks that a sum wraps.
@@ -92,11 +71,11 @@ fn shape_of(before: u64, drawn: Gathered, behind: u64) -> Shape
     requires { drawn.n ≤ kept_ticks }
     ensures { result.n ≤ kept_ticks }
 {
-    let through = wrapping_add_u64(before, drawn.n as u64);
+    let through = before.wrapping_add(drawn.n as u64);
     Shape {
         n: drawn.n,
-        before: before,
-        total: wrapping_add_u64(through, behind),
+        before,
+        total: through.wrapping_add(behind),
         rows: rows::in_order(drawn.set, drawn.card),
     }
 }
@@ -105,10 +84,9 @@ fn shape_of(before: u64, drawn: Gathered, behind: u64) -> Shape
 // reported, and nothing is drawn.
 fn draw(input: &mut Source, cells: u8, from: u64) {
     let mut buffers = Buffers::new();
-    let mut ticks = [0u64; WORDS];
     let mut feed = Feed::new(cells);
-    let start = pass(&mut feed, before_of(from), input, &mut buffers);
-    ticks[0] = start.word;
+    let start = pass(&mut feed, from.saturating_sub(1), input, &mut buffers);
+    let mut ticks = Ticks::new(start.word);
     let drawn = gather(&mut feed, &mut ticks, input, &mut buffers);
     let rest = pass(&mut feed, u64::MAX, input, &mut buffers);
     if feed.reader.found == Found::Failure {
