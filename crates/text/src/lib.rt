@@ -80,15 +80,17 @@ pub fn number_at(text: &[u8], at: usize) -> Number
 }
 
 // Writes the bytes at `at`, and returns the place after them. The caller sees to it that they have
-// room; nothing else of `out` changes.
+// room; nothing else of `out` changes. The library's copy_from_slice takes an address as a number of
+// 64 bits, which the processors of the firmware do not have.
 pub fn copy(out: &mut [u8], at: usize, bytes: &[u8]) -> usize
     requires { at + length bytes.now ≤ length out.old }
     ensures out_after { out.new ≡ sets out.old at bytes.now }
     ensures value { result ≡ at + length bytes.now }
 {
-    let end = at + bytes.len();
-    out[at..end].copy_from_slice(bytes);
-    end
+    for (i, byte) in bytes.iter().enumerate() {
+        out[at + i] = *byte;
+    }
+    at + bytes.len()
 }
 
 // Writes n in decimal at `at`, the higher digits first, and returns the place after it. There must
