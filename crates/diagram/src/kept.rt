@@ -1,4 +1,6 @@
 // The ticks that a picture keeps: what each of them showed, and why the cells woke in it.
+ghost use Rattle.std.specs.Prelude.{◌≡◌, ◌%◌, slice_index_or};
+
 use card::card::Card;
 use card::limits::{CELLS, CellWord};
 use cells::table::Slots;
@@ -70,7 +72,9 @@ impl Ticks {
 
     // Tick t. The remainder changes no tick of a picture: with it no caller has to show that there
     // is room.
-    pub fn at(&self, t: usize) -> &Kept {
+    pub fn at(&self, t: usize) -> &Kept
+        ensures { result.now ≡ slice_index_or self.now.ticks (t % 301) result.now }
+    {
         &self.ticks[t % TICKS]
     }
 
