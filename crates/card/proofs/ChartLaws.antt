@@ -21,8 +21,8 @@ not-not : (b : Bool) → not (not b) ≡ b
 not-not true = refl
 not-not false = refl
 
-pub entry-allowed : (n a : ℕ) → a < address_count → not (bad_address n a) ≡ (entry_of n a).permitted
-entry-allowed n a h = ap not (entry-refused n a h) ∙ not-not (entry_of n a).permitted
+pub entry_allowed : (n a : ℕ) → a < address_count → not (bad_address n a) ≡ (entry_of n a).permitted
+entry_allowed n a h = ap not (entry-refused n a h) ∙ not-not (entry_of n a).permitted
 
 -- the bases that only a large card has, permitted beside those of a small one
 large-bases : (b : ℕ) → b < 64 → (permitted_base cell_count b || (ltb cell_count b && leb b cell_room)) ≡ permitted_base cell_room b

@@ -1,4 +1,5 @@
 -- An accepted preset keeps a card valid: what it sets is valid, by one test over the whole table, and stays so where there are more cells.
+use Rattle.std.specs.Prelude.{unwrap_or}
 use Rattle.std.proofs.Common.{◌≡◌, ℕ, ◌+◌, ◌<◌, ◌≤◌, Bool, true, false, cond, not, ◌&&◌, ◌||◌, eqb, ltb, leb, List, [], ◌∷◌, ◌++◌, length, get_or, drop, refl, ap, arith, length-take-le, eq-eqb, le-leb, leb-true}
 use mathlib.Core.Bool.{or-true}
 use mathlib.Core.Option
@@ -136,7 +137,7 @@ module _ (n : ℕ) (more : cell_count ≤ n) where
       let each = slots-each cell_count cell ok in
       rw (
         kind-known cell_count cell ok,
-        le-leb cell.config r.largest (config-most cell_count cell ok),
+        le-leb cell.config (unwrap_or r.largest 0) (config-most cell_count cell ok),
         eq-eqb (length s) 4 (cell-slots cell_count cell ok),
         slot-more r.used.x r.edge.x (get_or s 0 0) each.0,
         slot-more r.used.y r.edge.y (get_or s 1 0) each.1,

@@ -1,4 +1,6 @@
 -- Laws of settings: a test of every entry of a list, as a loop makes it, at one entry, and after a change; and what valid settings are.
+use Rattle.std.specs.Prelude.{unwrap_or}
+use Rattle.std.specs.List.{list_all}
 use Rattle.std.proofs.Common.{◌≡◌, ℕ, zero, suc, ◌+◌, ◌<◌, ◌≤◌, Bool, true, false, not, ◌&&◌, eqb, leb, List, [], ◌∷◌, ◌++◌, map, length, get_or, take, set, replicate, sym, refl, ap, ◌∙◌, ap₂, zero-le, le_trans, le_of_suc-le-suc, not-suc-le-zero, lt-suc_self, add-one, arith, get_or-take, take-suc, eq-eqb, eqb-true, leb-true}
 use mathlib.Core.Bool.{and-true}
 use lib.ListN.{length-map}
@@ -123,12 +125,18 @@ module _ (n trigger : ℕ) (cells : List Cell) (connectors : List Connector) whe
         s.connectors-pass,
       )
 
+-- a test of every entry, by the library's word for it
+pub every-all : {A : Type 0} (f : A → Bool) (xs : List A) → list_all f xs ≡ every f xs
+unfolding every
+every-all f [] = refl
+every-all f (x ∷ xs) = ap (λ (b : Bool). f x && b) (every-all f xs)
+
 -- ---- what valid settings have
 
 -- no type allows more than the largest configuration
-pub largest-fits : (kind : ℕ) → (row_of kind).largest ≤ largest_config
+pub largest-fits : (kind : ℕ) → unwrap_or (row_of kind).largest 0 ≤ largest_config
 largest-fits kind =
-    leb-true (row_of kind).largest largest_config (every-row (λ (r : Row). leb r.largest largest_config) refl kind)
+    leb-true (unwrap_or (row_of kind).largest 0) largest_config (every-row (λ (r : Row). leb (unwrap_or r.largest 0) largest_config) refl kind)
 
 module _ (n : ℕ) (cell : Cell) (ok : valid_cell n cell ≡ true) where
   pub cell-slots : length cell.slots ≡ 4
@@ -136,14 +144,14 @@ module _ (n : ℕ) (cell : Cell) (ok : valid_cell n cell ≡ true) where
   cell-slots =
       eqb-true (length cell.slots) 4
       (and_left (eqb (length cell.slots) 4) _
-      (and_right (not (bad_cell_type cell.kind) && leb cell.config (row_of cell.kind).largest) (valid_slots n (row_of cell.kind) cell.slots) ok))
+      (and_right (not (bad_cell_type cell.kind) && leb cell.config (unwrap_or (row_of cell.kind).largest 0)) (valid_slots n (row_of cell.kind) cell.slots) ok))
 
-  pub config-most : cell.config ≤ (row_of cell.kind).largest
+  pub config-most : cell.config ≤ unwrap_or (row_of cell.kind).largest 0
   unfolding valid_cell
   config-most =
-      let limit = leb cell.config (row_of cell.kind).largest in
+      let limit = leb cell.config (unwrap_or (row_of cell.kind).largest 0) in
       let known = not (bad_cell_type cell.kind) in
-      leb-true cell.config (row_of cell.kind).largest
+      leb-true cell.config (unwrap_or (row_of cell.kind).largest 0)
       (and_right known limit (and_left (known && limit) (valid_slots n (row_of cell.kind) cell.slots) ok))
 
   pub cell-config : cell.config ≤ largest_config

@@ -1,4 +1,5 @@
 -- A fresh card is valid, and every accepted edit keeps a card valid: one law for each. Of presets, see PresetValid.
+use Rattle.std.specs.Prelude.{Option, None, Some, unwrap_or}
 use Rattle.std.proofs.Common.{◌≡◌, ℕ, ◌+◌, ◌-◌, ◌%◌, ◌<◌, ◌≤◌, Bool, true, false, cond, not, ◌&&◌, ◌||◌, eqb, ltb, leb, List, [], ◌∷◌, ◌++◌, map, length, get_or, take, drop, set, replicate, sym, refl, ap, ◌∙◌, true≢false, zero-le, arith, length-set, length-take-le, get_or-set_other, get_or-take, get_or-set_same, take_at, ltb-false, ltb-true, le-ltb, eq-eqb, ne_eqb, le-leb}
 use mathlib.Core.Bool.{and-false}
 use native.Mathlib.Decide.{ℕ_discrete}
@@ -20,7 +21,7 @@ use Rattle.card.specs.Connectors.{input, kind_at, source_at, connector_at, with_
 use Rattle.card.specs.Fresh.{no_cell, fresh_cell, fresh_connectors, fresh_of}
 use Rattle.card.specs.Valid.{front_trigger, permitted_base, bad_clock, bad_cell_type, bad_connector_type, bad_config, unused_slot, bad_address, front_driven}
 use Rattle.text.specs.Digits.{every}
-use Rattle.card.specs.Valid.{valid_slot, valid_slots, valid_cell, valid_connector, valid, valid_settings, valid_card}
+use Rattle.card.specs.Valid.{over, valid_slot, valid_slots, valid_cell, valid_connector, valid, valid_settings, valid_card}
 use Rattle.card.specs.Edits.{is_at_cell, is_at_connector, with_cell, with_connectors, cleared_cell, cleared_cells, blank_slots, stored_address, wired_slot}
 use Rattle.card.specs.Edits.{current_cell}
 use Rattle.card.specs.Edits.{put_cell, put_connectors, move, set_trigger, home, typed, set_type, configured, set_config, stated, set_state}
@@ -42,27 +43,31 @@ blank-slots : (n kind : ℕ) → valid_slots n (row_of kind) (blank_slots (row_o
 unfolding valid_slots valid_slot bad_address permitted_base
 blank-slots n kind = every-row (λ (r : Row). valid_slots n r (blank_slots r.edge)) refl kind
 
+-- a number that is not over a range
+over-most : (l : Option ℕ) (v : ℕ) → over l v ≡ false → v ≤ unwrap_or l 0
+over-most None v e = absurd (true≢false e)
+over-most (Some largest) v e = ltb-false largest v e
+
 typed-valid : (n kind : ℕ) → bad_cell_type kind ≡ false → valid_cell n (typed kind) ≡ true
 unfolding valid_cell typed
-typed-valid n kind known = rw (known, le-leb 0 (row_of kind).largest zero-le) (blank-slots n kind)
+typed-valid n kind known = rw (known, le-leb 0 (unwrap_or (row_of kind).largest 0) zero-le) (blank-slots n kind)
 
 module _ (n : ℕ) (cell : Cell) (ok : valid_cell n cell ≡ true) where
   -- its slots pass
   pub slots-pass : valid_slots n (row_of cell.kind) cell.slots ≡ true
   unfolding valid_cell
-  slots-pass = and_right (not (bad_cell_type cell.kind) && leb cell.config (row_of cell.kind).largest) _ ok
+  slots-pass = and_right (not (bad_cell_type cell.kind) && leb cell.config (unwrap_or (row_of cell.kind).largest 0)) _ ok
 
   pub kind-known : bad_cell_type cell.kind ≡ false
   unfolding valid_cell
-  kind-known = not-true _ (and_left _ (leb cell.config (row_of cell.kind).largest) (and_left _ (valid_slots n (row_of cell.kind) cell.slots) ok))
+  kind-known = not-true _ (and_left _ (leb cell.config (unwrap_or (row_of cell.kind).largest 0)) (and_left _ (valid_slots n (row_of cell.kind) cell.slots) ok))
 
   -- a permitted configuration
   configured-valid : (v : ℕ) → bad_config cell.kind v ≡ false → valid_cell n (configured cell v) ≡ true
   unfolding valid_cell bad_config configured
   configured-valid v fits =
-      let largest = (row_of cell.kind).largest in
-      let most : v ≤ largest = ltb-false largest v (or_right (not (row_of cell.kind).configured) _ fits) in
-      rw (kind-known, le-leb v largest most) slots-pass
+      let most = over-most (row_of cell.kind).largest v fits in
+      rw (kind-known, le-leb v (unwrap_or (row_of cell.kind).largest 0) most) slots-pass
 
 -- ---- a slot
 
@@ -119,7 +124,7 @@ unfolding valid_cell valid_slots unused_slot wired
 wired-valid n cell given x y z f ok unused good =
     let row = row_of cell.kind in
     let s = cell.slots in
-    let head = and_left (not (bad_cell_type cell.kind) && leb cell.config row.largest) (valid_slots n row s) ok in
+    let head = and_left (not (bad_cell_type cell.kind) && leb cell.config (unwrap_or row.largest 0)) (valid_slots n row s) ok in
     let was = all-four _ _ _ _ (and_right (eqb (length s) 4) _ (slots-pass n cell ok)) in
     let u = none-four _ _ _ _ unused in
     let g = none-four _ _ _ _ good in

@@ -1,5 +1,6 @@
 -- Laws of writes: a valid cell is what lines make of its settings; and what a write at a place leaves of the card's settings.
 use Rattle.std.proofs.Common.{◌≡◌, ℕ, ◌+◌, ◌-◌, ◌<◌, ◌≤◌, Bool, true, false, cond, not, ◌&&◌, ◌||◌, eqb, ltb, List, [], ◌∷◌, length, get_or, set, sym, refl, ap, ◌∙◌, arith, get_or-set_same, set-set, ltb-false, le-ltb, eqb-true, leb-true}
+use Rattle.std.specs.Prelude.{Option, None, Some, is_some, unwrap_or}
 use mathlib.Core.Bool.{or-true, false≢true}
 use lib.Seq.{set-get_or}
 use borrow.Author.Tests.{eqb-false, not-true}
@@ -20,7 +21,7 @@ use Rattle.card.specs.Connectors.{well_formed}
 use Rattle.cells.specs.State.{cell_of}
 use Rattle.card.specs.Fresh.{clear_state, no_cell}
 use Rattle.card.specs.Valid.{largest_address, front_trigger, front_driven, bad_place, bad_connector_type, bad_config, unused_slot, bad_address, valid_slot}
-use Rattle.card.specs.Valid.{valid_slots, valid_cell}
+use Rattle.card.specs.Valid.{over, valid_slots, valid_cell}
 use Rattle.card.specs.Edits.{is_at_cell, is_at_connector, blank_slot, cleared_cell, stored_address, wired_slot, configured_state, current_cell}
 use Rattle.card.specs.Edits.{put_cell, put_connectors, move, set_trigger, typed, set_type, configured, set_config, wired, set_slots, set_connector_type}
 use Rattle.card.specs.Edits.{set_source}
@@ -76,10 +77,6 @@ edges-used =
     every-row (λ (r : Row). ((r.used.x || not r.edge.x) && (r.used.y || not r.edge.y))
     && ((r.used.z || not r.edge.z) && (r.used.f || not r.edge.f))) refl
 
--- a type without a configuration has none but 0
-largest-none : (kind : ℕ) → ((row_of kind).configured || eqb (row_of kind).largest 0) ≡ true
-largest-none = every-row (λ (r : Row). r.configured || eqb r.largest 0) refl
-
 -- the slots that a type uses may be given
 pub used-given : (kind : ℕ) → unused_slot kind (row_of kind).used ≡ false
 unfolding unused_slot
@@ -92,6 +89,11 @@ used-given kind = go (row_of kind).used.x (row_of kind).used.y (row_of kind).use
     go : (x y z f : Bool) → (((x && not x) || (y && not y)) || ((z && not z) || (f && not f))) ≡ false
     go x y z f = rw (never x, never y, never z, never f)
 
+-- a number within a range
+within-over : (l : Option ℕ) (v : ℕ) → is_some l ≡ true → v ≤ unwrap_or l 0 → over l v ≡ false
+within-over None v e h = absurd (false≢true e)
+within-over (Some largest) v e h = le-ltb largest v h
+
 clear_stays : (kept : Kept) → configured_state kept clear_state ≡ clear_state
 unfolding configured_state
 clear_stays Stateless = refl
@@ -100,24 +102,23 @@ clear_stays Count = refl
 clear_stays Counted = refl
 
 module _ (n : ℕ) (cell : Cell) (ok : valid_cell n cell ≡ true) where
-  pub config-permitted : (row_of cell.kind).configured ≡ true → bad_config cell.kind cell.config ≡ false
+  pub config-permitted : is_some (row_of cell.kind).largest ≡ true → bad_config cell.kind cell.config ≡ false
   unfolding bad_config
-  config-permitted e = rw (e, le-ltb (row_of cell.kind).largest cell.config (config-most n cell ok))
+  config-permitted e = within-over (row_of cell.kind).largest cell.config e (config-most n cell ok)
 
   -- the type and the configuration
   pub configured-is : configured_as cell ≡ cell_of cell.kind cell.config (typed cell.kind).slots clear_state
   unfolding configured_as configured typed
-  configured-is = go (row_of cell.kind).configured (largest-none cell.kind)
+  configured-is = go (row_of cell.kind).largest (config-most n cell ok)
     where
       blank : ℕ → Cell
       blank v = cell_of cell.kind v (typed cell.kind).slots clear_state
 
-      go : (b : Bool) → (b || eqb (row_of cell.kind).largest 0) ≡ true
-          → cond b (configured (typed cell.kind) cell.config) (typed cell.kind) ≡ blank cell.config
-      go true e = λ i. cell_of cell.kind cell.config (typed cell.kind).slots (clear_stays (row_of cell.kind).kept i)
-      go false e =
-          let none = eqb-true (row_of cell.kind).largest 0 e in
-          let zero : 0 ≡ cell.config = omega (arith, config-most n cell ok) in
+      go : (l : Option ℕ) → cell.config ≤ unwrap_or l 0
+          → cond (is_some l) (configured (typed cell.kind) cell.config) (typed cell.kind) ≡ blank cell.config
+      go (Some largest) h = λ i. cell_of cell.kind cell.config (typed cell.kind).slots (clear_stays (row_of cell.kind).kept i)
+      go None h =
+          let zero : 0 ≡ cell.config = omega arith in
           ap blank zero
 
   -- the four slots pass

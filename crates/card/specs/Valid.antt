@@ -1,6 +1,6 @@
 -- Document 01, rows 5 to 13 of "When the card says no", as tests of single values; and the settings
 -- that lines can set, which a record may hold.
-use Rattle.std.specs.Prelude.{ℕ, Bool, true, false, cond, not, ◌&&◌, ◌||◌, List, length, take, ◌==◌, nat_le, nat_lt, slice_index, slice_index_or}
+use Rattle.std.specs.Prelude.{ℕ, Bool, true, false, cond, not, ◌&&◌, ◌||◌, List, length, take, ◌==◌, nat_le, nat_lt, slice_index, slice_index_or, Option, None, Some, is_some, unwrap_or}
 use Rattle.text.specs.Digits.{every}
 use Rattle.cells.specs.declared.table.Slots.{Slots}
 use Rattle.cells.specs.declared.table.Row.{Row}
@@ -44,9 +44,13 @@ bad_connector_type v = nat_lt push_pull_type v
 unfoldable pub bad_clock : ℕ → Bool
 bad_clock v = nat_lt largest_clock v
 
--- 9: "configuration over its range, or a type that has none"
+-- 9: "configuration over its range, or a type that has none", by the largest of the range
+abbrev pub over : Option ℕ → ℕ → Bool
+over None v = true
+over (Some largest) v = nat_lt largest v
+
 unfoldable pub bad_config : (kind v : ℕ) → Bool
-bad_config kind v = not (row_of kind).configured || nat_lt (row_of kind).largest v
+bad_config kind v = over (row_of kind).largest v
 
 -- 10: "slot not used", of the slots that are given
 unfoldable pub unused_slot : ℕ → Slots → Bool
@@ -79,7 +83,7 @@ valid_slots n row s =
 -- the largest configuration of a type without one is 0
 unfoldable pub valid_cell : ℕ → Cell → Bool
 valid_cell n cell =
-    (not (bad_cell_type cell.kind) && nat_le cell.config (row_of cell.kind).largest) && valid_slots n (row_of cell.kind) cell.slots
+    (not (bad_cell_type cell.kind) && nat_le cell.config (unwrap_or (row_of cell.kind).largest 0)) && valid_slots n (row_of cell.kind) cell.slots
 
 unfoldable pub valid_connector : ℕ → Connector → Bool
 valid_connector n k = not (bad_connector_type k.kind) && not (bad_address n k.source)
@@ -110,7 +114,7 @@ is_counted Counted = true
 
 -- 9, of a read: "a type that has none"; document 02: of a counter "a CCA Z read gives the count"
 unfoldable pub no_config : ℕ → Bool
-no_config kind = not ((row_of kind).configured || is_counted (row_of kind).kept)
+no_config kind = not (is_some (row_of kind).largest || is_counted (row_of kind).kept)
 
 -- 12: "no state, or over 1 in a flip-flop"; document 02, "Long exposures": "A counter's F over
 -- 65535 gives 12"

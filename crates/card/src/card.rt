@@ -10,7 +10,7 @@ use cells::cell::{Cell, Pulses};
 
 // A front or backplane connector by itself: its type (0 input, 1 open-drain, 2 push-pull) and the
 // address that it is driven from.
-#[derive(Clone, Copy)]
+#[derive(Clone, Copy, Debug, PartialEq, Eq)]
 pub struct Connector {
     pub kind: u8,
     pub source: u8,
@@ -20,7 +20,7 @@ pub struct Connector {
 // those that are of it, bit 0 for BNC1 to bit 15 for TTL7 as in the sample. The others are inputs.
 // One that is in both words is push-pull; lines and loads leave none.
 #[repr(C)]
-#[derive(Clone, Copy)]
+#[derive(Clone, Copy, Debug, PartialEq, Eq)]
 pub struct Connectors {
     pub sources: [u8; CONNECTORS],
     pub push_pull: u16,
@@ -32,7 +32,7 @@ pub struct Connectors {
 // and `levels2` are those of the tick before it, and `outputs3` those of the one before that. No
 // tick has to write anything for a cell that sleeps.
 #[repr(C)]
-#[derive(Clone, Copy)]
+#[derive(Clone, Copy, Debug, PartialEq, Eq)]
 pub struct Memory {
     pub driven: u16,
     pub pulled: u16,
@@ -45,7 +45,7 @@ pub struct Memory {
 
 // The card.
 #[repr(C)]
-#[derive(Clone, Copy)]
+#[derive(Clone, Copy, Debug, PartialEq, Eq)]
 pub struct Card {
     pub cells: [Cell; CELLS],
     pub connectors: Connectors,
@@ -56,6 +56,16 @@ pub struct Card {
     pub size: u8,
     pub tallies: Tallies,
 }
+
+// A constant 0, which a cell is before anything sets it.
+pub(crate) const BLANK: Cell = Cell {
+    kind: 0,
+    config: 0,
+    slots: [0; 4],
+    count: Pulses(0),
+    bit: false,
+    pulse: false,
+};
 
 // A card that powers up with settings: all else is fresh.
 pub fn started(
@@ -76,42 +86,33 @@ pub fn started(
         levels: 0,
         levels2: 0,
     };
-    let tallies = no_tallies();
     Card {
-        cells: cells,
-        connectors: connectors,
-        edited: edited,
-        memory: memory,
+        cells,
+        connectors,
+        edited,
+        memory,
         pointer: FIRST_CELL,
-        trigger: trigger,
-        size: size,
-        tallies: tallies,
+        trigger,
+        size,
+        tallies: no_tallies(),
     }
 }
 
 // A card of a size as it first powers up.
+#[tactic(auto, unfolding(crate::specs::Address::cells_for))]
 pub fn fresh_of(size: u8) -> Card
     ensures { result ≡ Fresh.fresh_of (cells_for size) }
 {
-    let cell = Cell {
-        kind: 0,
-        config: 0,
-        slots: [0, 0, 0, 0],
-        count: Pulses(0),
-        bit: false,
-        pulse: false,
-    };
-    let sources = [0; CONNECTORS];
     let connectors = Connectors {
-        sources: sources,
+        sources: [0; CONNECTORS],
         push_pull: FRONT_WORD,
         open_drain: 0,
     };
-    let n = cells_for(size);
-    started(n, 0, [cell; CELLS], connectors, 0)
+    started(cells_for(size), 0, [BLANK; CELLS], connectors, 0)
 }
 
 // A small card as it first powers up.
+#[tactic(auto, unfolding(crate::specs::Fresh::fresh, crate::specs::Address::cells_for))]
 pub fn fresh() -> Card
     ensures { result ≡ Fresh.fresh }
 {

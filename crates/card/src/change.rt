@@ -12,7 +12,7 @@ use cells::cell::{Config, Count};
 use cells::table::Slots;
 
 // The slots that a write gives, each with its address.
-#[derive(Clone, Copy)]
+#[derive(Clone, Copy, Debug, PartialEq, Eq)]
 pub struct Wires {
     pub given: Slots,
     pub x: u8,
@@ -23,7 +23,7 @@ pub struct Wires {
 
 // `Kind`, `Config`, `State` and `Slots` are of the cell at the pointer, `ConnectorKind` and
 // `Source` of the connector there.
-#[derive(Clone, Copy)]
+#[derive(Clone, Copy, Debug, PartialEq, Eq)]
 pub enum Change {
     Nothing,
     Pointer(u8),
@@ -39,6 +39,7 @@ pub enum Change {
 }
 
 // The card with a change made.
+#[tactic(auto, unfolding(crate::specs::Change::changed))]
 pub fn apply(card: Card, change: Change) -> Card
     ensures { result ≡ changed (cells_for card.size) card change }
 {

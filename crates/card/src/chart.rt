@@ -6,7 +6,7 @@ ghost use Rattle.card.specs.Chart.{entry_of, entry_in, Charted};
 use crate::limits::{LARGE, SMALL};
 
 // What the chart says of an address.
-#[derive(Clone, Copy)]
+#[derive(Clone, Copy, Debug, PartialEq, Eq)]
 pub struct Entry {
     pub base: u8,
     pub inverted: bool,
@@ -21,7 +21,7 @@ pub const ADDRESSES: usize = 256;
 // the checker takes no constant of 256 structs.
 pub type Chart = [u32; ADDRESSES];
 
-const CHART: Chart = [
+static CHART: Chart = [
     0x00_00_00_01,
     0x01_00_00_01,
     0x02_00_00_01,
@@ -280,15 +280,15 @@ const CHART: Chart = [
     0x3f_01_01_00,
 ];
 
-// The chart. A constant array is made anew wherever it is read: a caller makes it once and gives it
-// by reference.
-pub fn chart() -> Chart
-    ensures { Charted result }
+// The chart, where it stands.
+pub fn chart() -> &'static Chart
+    ensures { Charted result.now }
 {
-    CHART
+    &CHART
 }
 
 // The entry that a word holds.
+#[tactic(auto, unfolding(crate::specs::Chart::entry_in))]
 fn entry_in(word: u32) -> Entry
     ensures { result ≡ entry_in word }
 {
@@ -310,12 +310,12 @@ fn is_upper(base: u8, size: u8) -> bool
 
 // The entry of an address on a card of this size. The table is the small card's; on a large one the
 // bases of its other cells are permitted too.
-pub fn entry_of(chart: &Chart, a: u8, size: u8) -> Entry
-    requires { Charted chart.now }
+pub fn entry_of(a: u8, size: u8) -> Entry
     ensures { result ≡ entry_of (cells_for size) a }
 {
-    let mut e = entry_in(chart[a as usize]);
-    let more = is_upper(e.base, size);
-    e.permitted = e.permitted | more;
-    e
+    let e = entry_in(chart()[a as usize]);
+    Entry {
+        permitted: e.permitted | is_upper(e.base, size),
+        ..e
+    }
 }

@@ -8,6 +8,7 @@ use crate::card::{Connector, Connectors};
 use crate::limits::{CONNECTORS, INPUT, OPEN_DRAIN, PUSH_PULL};
 
 // The type of connector k. Push-pull is tested first, so that one in both words is push-pull.
+#[tactic(auto, unfolding(crate::specs::Connectors::kind_at))]
 pub fn kind_at(c: Connectors, k: u32) -> u8
     requires { k < connector_count }
     ensures { result ≡ kind_at c k }
@@ -23,14 +24,14 @@ pub fn kind_at(c: Connectors, k: u32) -> u8
 }
 
 // Connector k.
+#[tactic(auto, unfolding(crate::specs::Connectors::source_at))]
 pub fn connector_at(c: Connectors, k: u32) -> Connector
     requires { k < connector_count }
     ensures { result ≡ connector_at c k }
 {
-    let sources = c.sources;
     Connector {
         kind: kind_at(c, k),
-        source: sources[k as usize],
+        source: c.sources[k as usize],
     }
 }
 
@@ -46,29 +47,26 @@ fn with_bit(w: u16, k: u32, b: bool) -> u16
 }
 
 // With another type, or another source, at k.
+#[tactic(auto, unfolding(crate::specs::Connectors::with_kind))]
 pub(crate) fn with_kind(c: Connectors, k: u32, kind: u8) -> Connectors
     requires { k < connector_count }
     ensures { result ≡ with_kind c k kind }
 {
-    let sources = c.sources;
     Connectors {
-        sources: sources,
         push_pull: with_bit(c.push_pull, k, kind == PUSH_PULL),
         open_drain: with_bit(c.open_drain, k, kind == OPEN_DRAIN),
+        ..c
     }
 }
 
+#[tactic(auto, unfolding(crate::specs::Connectors::with_source))]
 pub(crate) fn with_source(c: Connectors, k: u32, source: u8) -> Connectors
     requires { k < connector_count }
     ensures { result ≡ with_source c k source }
 {
     let mut sources = c.sources;
     sources[k as usize] = source;
-    Connectors {
-        sources: sources,
-        push_pull: c.push_pull,
-        open_drain: c.open_drain,
-    }
+    Connectors { sources, ..c }
 }
 
 // All of them, one by one.
@@ -81,8 +79,7 @@ pub fn each_of(c: Connectors) -> [Connector; CONNECTORS]
     };
     let mut all = [none; CONNECTORS];
     for k in 0..CONNECTORS as u32 {
-        let one = connector_at(c, k);
-        all[k as usize] = one;
+        all[k as usize] = connector_at(c, k);
     }
     all
 }
@@ -101,7 +98,7 @@ pub fn from_each(all: [Connector; CONNECTORS]) -> Connectors
         drain = words::pushed(drain, k, c.kind == OPEN_DRAIN);
     }
     Connectors {
-        sources: sources,
+        sources,
         push_pull: push as u16,
         open_drain: drain as u16,
     }

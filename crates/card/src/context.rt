@@ -11,7 +11,7 @@ use crate::edits::{at_cell, current_cell, current_connector};
 use crate::limits::{CellWord, FIRST_CONNECTOR, FRONT_TRIGGER, Number};
 use crate::presets::sets_front;
 use crate::valid::{front_driven, is_counted};
-use cells::cell::{Cell, Config, State, state_of};
+use cells::cell::{Cell, Config, State};
 use cells::table::{Kept, row_of};
 
 // What a read gives: anything that the card holds, and nothing is wider than a configuration.
@@ -19,7 +19,7 @@ pub type Value = Config;
 
 // A small part of the card: no line looks at more before it changes something. `at_cell` says
 // whether the pointer is at a cell.
-#[derive(Clone, Copy)]
+#[derive(Clone, Copy, Debug, PartialEq, Eq)]
 pub struct Context {
     pub pointer: u8,
     pub at_cell: bool,
@@ -34,17 +34,14 @@ pub struct Context {
 pub fn context_of(card: Card) -> Context
     ensures { result ≡ context_of (cells_for card.size) card }
 {
-    let cell = current_cell(card);
-    let connector = current_connector(card);
-    let m = card.memory;
     Context {
         pointer: card.pointer,
         at_cell: at_cell(card),
         trigger: card.trigger,
-        cell: cell,
-        connector: connector,
-        levels: m.levels,
-        outputs: m.outputs,
+        cell: current_cell(card),
+        connector: current_connector(card),
+        levels: card.memory.levels,
+        outputs: card.memory.outputs,
         size: card.size,
     }
 }
@@ -53,24 +50,20 @@ pub fn context_of(card: Card) -> Context
 pub fn read_type(x: Context) -> Value
     ensures { result ≡ type_read x }
 {
-    let cell = x.cell;
-    let connector = x.connector;
     if x.at_cell {
-        cell.kind as Value
+        Value::from(x.cell.kind)
     } else {
-        connector.kind as Value
+        Value::from(x.connector.kind)
     }
 }
 
 // A cell's configuration, or a counter's count.
+#[tactic(auto, unfolding(crate::specs::Context::config_shown))]
 fn config_shown(cell: Cell) -> Value
     ensures { result ≡ config_shown cell }
 {
-    let row = row_of(cell.kind);
-    let kept = row.kept;
-    let count = cell.count;
-    if is_counted(kept) {
-        count.0
+    if is_counted(row_of(cell.kind).kept) {
+        cell.count.0
     } else {
         cell.config
     }
@@ -80,24 +73,21 @@ fn config_shown(cell: Cell) -> Value
 pub fn read_config(x: Context) -> Value
     ensures { result ≡ config_read x }
 {
-    let cell = x.cell;
-    let connector = x.connector;
     if x.at_cell {
-        config_shown(cell)
+        config_shown(x.cell)
     } else {
-        connector.source as Value
+        Value::from(x.connector.source)
     }
 }
 
+#[tactic(auto, unfolding(crate::specs::Context::state_as))]
 fn state_as(kept: Kept, s: State) -> Value
     ensures { result ≡ state_as kept s }
 {
-    let count = s.count;
     match kept {
         Kept::Stateless => 0,
-        Kept::Bit => if s.bit { 1 } else { 0 },
-        Kept::Count => count.0,
-        Kept::Counted => count.0,
+        Kept::Bit => Value::from(s.bit),
+        Kept::Count | Kept::Counted => s.count.0,
     }
 }
 
@@ -106,10 +96,7 @@ fn state_as(kept: Kept, s: State) -> Value
 pub fn read_state(x: Context) -> Value
     ensures { result ≡ state_read x }
 {
-    let cell = x.cell;
-    let row = row_of(cell.kind);
-    let kept = row.kept;
-    state_as(kept, state_of(cell))
+    state_as(row_of(x.cell.kind).kept, State::from(x.cell))
 }
 
 // What slot number i of the cell at the pointer holds, X being 0; there is none from 4 on, and its
@@ -117,22 +104,24 @@ pub fn read_state(x: Context) -> Value
 pub fn read_slot(x: Context, i: usize) -> Value
     ensures { result ≡ slot_read x i }
 {
-    let cell = x.cell;
-    let slots = cell.slots;
-    if i < 4 { slots[i] as Value } else { 0 }
+    if i < 4 {
+        Value::from(x.cell.slots[i])
+    } else {
+        0
+    }
 }
 
 // The levels of the front connectors, and of the backplane, as of the last tick.
 pub fn read_front(x: Context) -> Value
     ensures { result ≡ front_read x }
 {
-    (x.levels % 256) as Value
+    Value::from(x.levels % 256)
 }
 
 pub fn read_back(x: Context) -> Value
     ensures { result ≡ back_read x }
 {
-    (x.levels / 256) as Value
+    Value::from(x.levels / 256)
 }
 
 // The cells 1 to 16, and 17 to 32.

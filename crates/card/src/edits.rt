@@ -8,13 +8,13 @@ ghost use Rattle.card.specs.Edits.{cleared_cell, cleared_cells};
 ghost use Rattle.card.specs.Edits.{set_type, set_config, set_state, wired_slots, set_slots, set_connector_type};
 ghost use Rattle.card.specs.Edits.{set_source, blank_slot};
 
-use crate::card::{Card, Connector};
+use crate::card::{BLANK, Card, Connector};
 use crate::connectors::{connector_at, with_kind, with_source};
 use crate::limits::{
     CELLS, EDGES, EditedSet, FIRST_CELL, FIRST_CONNECTOR, FRONT_TRIGGER, INPUT, Number,
 };
 use crate::place::{cells_for, is_cell, is_connector};
-use cells::cell::{Cell, Config, Count, Pulses, State, state_of, with_state};
+use cells::cell::{Cell, Config, Count, Pulses, State};
 use cells::table::{Kept, Slots, row_of};
 
 const CLEAR: State = State {
@@ -31,6 +31,7 @@ pub(crate) fn at_cell(card: Card) -> bool
 }
 
 // The cell at the pointer.
+#[tactic(auto, unfolding(crate::specs::Edits::current_cell))]
 pub(crate) fn current_cell(card: Card) -> Cell
     ensures { result ≡ current_cell (cells_for card.size) card }
 {
@@ -39,25 +40,18 @@ pub(crate) fn current_cell(card: Card) -> Cell
         let at = (p - FIRST_CELL) as usize;
         card.cells[at]
     } else {
-        Cell {
-            kind: 0,
-            config: 0,
-            slots: [0, 0, 0, 0],
-            count: Pulses(0),
-            bit: false,
-            pulse: false,
-        }
+        BLANK
     }
 }
 
 // The connector at the pointer.
+#[tactic(auto, unfolding(crate::specs::Edits::current_connector))]
 pub(crate) fn current_connector(card: Card) -> Connector
     ensures { result ≡ current_connector card }
 {
     let p = card.pointer;
     if is_connector(p as Number) {
-        let connectors = card.connectors;
-        connector_at(connectors, (p - FIRST_CONNECTOR) as u32)
+        connector_at(card.connectors, u32::from(p - FIRST_CONNECTOR))
     } else {
         Connector {
             kind: INPUT,
@@ -67,6 +61,7 @@ pub(crate) fn current_connector(card: Card) -> Connector
 }
 
 // The cell at the pointer replaced, and edited.
+#[tactic(auto, unfolding(crate::specs::Edits::put_cell))]
 fn put_cell(card: Card, cell: Cell) -> Card
     ensures { result ≡ put_cell (cells_for card.size) card cell }
 {
@@ -86,35 +81,31 @@ fn put_cell(card: Card, cell: Cell) -> Card
 pub fn move_to(card: Card, p: u8) -> Card
     ensures { result ≡ Edits.move card p }
 {
-    let mut next = card;
-    next.pointer = p;
-    next
+    Card { pointer: p, ..card }
 }
 
 // Under clock 4 the front connector BNC1 brings the trigger, so it becomes an input.
+#[tactic(auto, unfolding(crate::specs::Edits::set_trigger))]
 pub fn set_trigger(card: Card, t: u8) -> Card
     ensures { result ≡ set_trigger card t }
 {
-    let mut next = card;
-    next.trigger = t;
-    if t == FRONT_TRIGGER {
-        let connectors = card.connectors;
-        let free = with_kind(connectors, 0, INPUT);
-        next.connectors = free;
+    let connectors = if t == FRONT_TRIGGER {
+        with_kind(card.connectors, 0, INPUT)
+    } else {
+        card.connectors
+    };
+    Card {
+        trigger: t,
+        connectors,
+        ..card
     }
-    next
 }
 
 // A cell with its state cleared.
 fn cleared_cell(cell: Cell) -> Cell
     ensures { result ≡ cleared_cell cell }
 {
-    let none = Pulses(0);
-    let mut next = cell;
-    next.count = none;
-    next.bit = false;
-    next.pulse = false;
-    next
+    cell.with_state(CLEAR)
 }
 
 // The first n cells with their states cleared. A loop up to a number that the card gives is not
@@ -124,9 +115,8 @@ fn cleared(cells: [Cell; CELLS], n: usize) -> [Cell; CELLS]
     ensures { result ≡ cleared_cells n cells }
 {
     let mut next = cells;
-    for i in 0..n {
-        let cell = cleared_cell(cells[i]);
-        next[i] = cell;
+    for cell in &mut next[..n] {
+        *cell = cleared_cell(*cell);
     }
     next
 }
@@ -140,16 +130,16 @@ pub fn all_edited(n: u8) -> EditedSet
     (one << (n as u32)) - 1
 }
 
+#[tactic(auto, unfolding(crate::specs::Edits::home))]
 pub(crate) fn home(card: Card) -> Card
     ensures { result ≡ Edits.home (cells_for card.size) card }
 {
-    let cells = card.cells;
     let n = cells_for(card.size);
-    let after = cleared(cells, n as usize);
-    let mut next = card;
-    next.cells = after;
-    next.edited = all_edited(n);
-    next
+    Card {
+        cells: cleared(card.cells, n as usize),
+        edited: all_edited(n),
+        ..card
+    }
 }
 
 // The slots of a cell that has just been given its type.
@@ -159,27 +149,24 @@ fn blank_slot(edge: bool) -> u8
     if edge { EDGES } else { 0 }
 }
 
+#[tactic(auto, unfolding(crate::specs::Edits::typed))]
 fn typed(kind: u8) -> Cell
     ensures { result ≡ Edits.typed kind }
 {
-    let row = row_of(kind);
-    let edge = row.edge;
-    let slots = [
-        blank_slot(edge.x),
-        blank_slot(edge.y),
-        blank_slot(edge.z),
-        blank_slot(edge.f),
-    ];
+    let edge = row_of(kind).edge;
     Cell {
-        kind: kind,
-        config: 0,
-        slots: slots,
-        count: Pulses(0),
-        bit: false,
-        pulse: false,
+        kind,
+        slots: [
+            blank_slot(edge.x),
+            blank_slot(edge.y),
+            blank_slot(edge.z),
+            blank_slot(edge.f),
+        ],
+        ..BLANK
     }
 }
 
+#[tactic(auto, unfolding(crate::specs::Edits::set_type))]
 pub(crate) fn set_type(card: Card, kind: u8) -> Card
     ensures { result ≡ set_type (cells_for card.size) card kind }
 {
@@ -187,58 +174,54 @@ pub(crate) fn set_type(card: Card, kind: u8) -> Card
 }
 
 // A timer starts anew under another duration.
+#[tactic(auto, unfolding(crate::specs::Edits::configured_state))]
 fn configured_state(kept: Kept, s: State) -> State
     ensures { result ≡ configured_state kept s }
 {
     match kept {
-        Kept::Stateless => s,
-        Kept::Bit => s,
         Kept::Count => CLEAR,
-        Kept::Counted => s,
+        Kept::Stateless | Kept::Bit | Kept::Counted => s,
     }
 }
 
+#[tactic(auto, unfolding(crate::specs::Edits::configured, crate::specs::Edits::set_config))]
 pub(crate) fn set_config(card: Card, config: Config) -> Card
     ensures { result ≡ set_config (cells_for card.size) card config }
 {
     let cell = current_cell(card);
-    let row = row_of(cell.kind);
-    let kept = row.kept;
-    let s = configured_state(kept, state_of(cell));
-    let mut next = with_state(cell, s);
-    next.config = config;
+    let s = configured_state(row_of(cell.kind).kept, State::from(cell));
+    let next = Cell {
+        config,
+        ..cell.with_state(s)
+    };
     put_cell(card, next)
 }
 
 fn with_bit(s: State, bit: bool) -> State
     ensures { result ≡ bit_state s bit }
 {
-    let mut next = s;
-    next.bit = bit;
-    next
+    State { bit, ..s }
 }
 
 // Another count ends a pulse.
 fn with_count(s: State, count: Pulses) -> State
     ensures { result ≡ count_state s count }
 {
-    let mut next = s;
-    next.count = count;
-    next.pulse = false;
-    next
+    State {
+        count,
+        pulse: false,
+        ..s
+    }
 }
 
 // A counter with another count stays active, or inactive.
 fn recounted(s: State, count: Pulses) -> State
     ensures { result ≡ recounted_state s count }
 {
-    State {
-        count: count,
-        bit: s.bit,
-        pulse: s.pulse,
-    }
+    State { count, ..s }
 }
 
+#[tactic(auto, unfolding(crate::specs::Edits::stated_as))]
 fn stated_as(kept: Kept, s: State, v: Count) -> State
     ensures { result ≡ stated_as kept s v }
 {
@@ -250,14 +233,13 @@ fn stated_as(kept: Kept, s: State, v: Count) -> State
     }
 }
 
+#[tactic(auto, unfolding(crate::specs::Edits::stated, crate::specs::Edits::set_state))]
 pub(crate) fn set_state(card: Card, v: Count) -> Card
     ensures { result ≡ set_state (cells_for card.size) card v }
 {
     let cell = current_cell(card);
-    let row = row_of(cell.kind);
-    let kept = row.kept;
-    let s = stated_as(kept, state_of(cell), v);
-    put_cell(card, with_state(cell, s))
+    let s = stated_as(row_of(cell.kind).kept, State::from(cell), v);
+    put_cell(card, cell.with_state(s))
 }
 
 // What a slot holds after a write: an edge slot stores the address of an edge.
@@ -271,56 +253,48 @@ fn wired_slot(given: bool, edge: bool, v: u8, old: u8) -> u8
     }
 }
 
-// The four slots, one element replaced after the other.
+// The four slots.
 fn wired_slots(old: [u8; 4], given: Slots, edge: Slots, v: [u8; 4]) -> [u8; 4]
     ensures { result ≡ wired_slots given edge v old }
 {
-    let mut slots = old;
-    slots[0] = wired_slot(given.x, edge.x, v[0], old[0]);
-    slots[1] = wired_slot(given.y, edge.y, v[1], old[1]);
-    slots[2] = wired_slot(given.z, edge.z, v[2], old[2]);
-    slots[3] = wired_slot(given.f, edge.f, v[3], old[3]);
-    slots
+    [
+        wired_slot(given.x, edge.x, v[0], old[0]),
+        wired_slot(given.y, edge.y, v[1], old[1]),
+        wired_slot(given.z, edge.z, v[2], old[2]),
+        wired_slot(given.f, edge.f, v[3], old[3]),
+    ]
 }
 
+#[tactic(auto, unfolding(crate::specs::Edits::wired, crate::specs::Edits::set_slots))]
 pub(crate) fn set_slots(card: Card, given: Slots, v: [u8; 4]) -> Card
     ensures { result ≡ set_slots (cells_for card.size) card given v }
 {
     let cell = current_cell(card);
-    let row = row_of(cell.kind);
-    let edge = row.edge;
-    let old = cell.slots;
-    let slots = wired_slots(old, given, edge, v);
-    let mut next = cell;
-    next.slots = slots;
-    put_cell(card, next)
+    let slots = wired_slots(cell.slots, given, row_of(cell.kind).edge, v);
+    put_cell(card, Cell { slots, ..cell })
 }
 
+#[tactic(auto, unfolding(crate::specs::Edits::put_connectors, crate::specs::Edits::set_connector_type))]
 pub fn set_connector_type(card: Card, kind: u8) -> Card
     ensures { result ≡ set_connector_type card kind }
 {
     let p = card.pointer;
     if is_connector(p as Number) {
-        let connectors = card.connectors;
-        let typed = with_kind(connectors, (p - FIRST_CONNECTOR) as u32, kind);
-        let mut next = card;
-        next.connectors = typed;
-        next
+        let connectors = with_kind(card.connectors, u32::from(p - FIRST_CONNECTOR), kind);
+        Card { connectors, ..card }
     } else {
         card
     }
 }
 
+#[tactic(auto, unfolding(crate::specs::Edits::put_connectors, crate::specs::Edits::set_source))]
 pub fn set_source(card: Card, source: u8) -> Card
     ensures { result ≡ set_source card source }
 {
     let p = card.pointer;
     if is_connector(p as Number) {
-        let connectors = card.connectors;
-        let routed = with_source(connectors, (p - FIRST_CONNECTOR) as u32, source);
-        let mut next = card;
-        next.connectors = routed;
-        next
+        let connectors = with_source(card.connectors, u32::from(p - FIRST_CONNECTOR), source);
+        Card { connectors, ..card }
     } else {
         card
     }

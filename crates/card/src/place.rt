@@ -5,6 +5,7 @@ ghost use Rattle.card.specs.Address.{cell_room, cells_for, connector_count, firs
 use crate::limits::{CONNECTORS_END, FIRST_CELL, FIRST_CONNECTOR, LARGE, Number, SMALL};
 
 // The number of cells of a card of this size.
+#[tactic(auto, unfolding(crate::specs::Address::cells_for))]
 pub fn cells_for(size: u8) -> u8
     ensures value { result ≡ cells_for size }
     ensures upper_bound { result ≤ cell_room }

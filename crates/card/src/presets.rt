@@ -11,11 +11,11 @@ ghost use Rattle.card.specs.PresetRows.{CellRows};
 ghost use Rattle.card.specs.Presets.{offered, is_large, preset_cell, preset_source, sets_front, sourced, preset};
 ghost use Rattle.card.specs.Fresh.{no_cell};
 
-use crate::card::{Card, Connector};
+use crate::card::{BLANK, Card, Connector};
 use crate::connectors::{each_of, from_each};
 use crate::limits::{CELLS, CONNECTORS, EditedSet, FIRST_CELL, LARGE, Number, PUSH_PULL};
 use crate::place::cells_for;
-use cells::cell::{Cell, Config, Pulses};
+use cells::cell::{Cell, Config};
 
 // How many rows the two tables have: no preset has a number past the first, and none past the
 // second sets a cell.
@@ -26,7 +26,7 @@ const CELL_ROWS: usize = 37;
 // A row for each preset number, read by bytes: the connectors that it sources, a bit for each from
 // BNC1 on; those of them that take the first address; the first and the second address; 1 where a
 // connector's address is its index further.
-const SOURCES: [u64; SOURCE_ROWS] = [
+static SOURCES: [u64; SOURCE_ROWS] = [
     0x00_00_00_00_00,
     0x00_00_00_00_00,
     0x00_00_00_00_00,
@@ -93,7 +93,7 @@ const SOURCES: [u64; SOURCE_ROWS] = [
 // there, then that cell's type, configuration and slots X Y Z F; in the second row, after a zero,
 // 1 where the addresses in X and Y are the cell's index further, then the type, configuration and
 // slots of the other cells. No later preset sets a cell.
-const SET_CELLS: [u64; 2 * CELL_ROWS] = [
+static SET_CELLS: [u64; 2 * CELL_ROWS] = [
     0x01_10_00_00_00_00_00_00,
     0x00_00_00_00_00_00_00_00,
     0x00_00_00_00_00_00_00_00,
@@ -179,7 +179,7 @@ const LARGE_SOURCES: u64 = 0xff_ff_11_00_01;
 const OFFERED: u64 = 0x0ff7fff8fffebffd;
 
 // The two rows of a preset.
-#[derive(Clone, Copy)]
+#[derive(Clone, Copy, Debug, PartialEq, Eq)]
 pub struct CellRow(pub u64, pub u64);
 
 pub fn bad_preset(v: Number, size: u8) -> bool
@@ -202,22 +202,25 @@ fn is_large(v: Number, size: u8) -> bool
     (size == LARGE) & (v == LARGE_PRESET)
 }
 
-fn source_rows() -> [u64; SOURCE_ROWS]
-    ensures { SourceRows result }
+#[tactic(auto, unfolding(words::specs::Bits::bit_at, words::specs::Listed::listed, crate::specs::PresetRows::row_byte, crate::specs::PresetRows::source_under, crate::specs::PresetRows::SourceRows, crate::specs::Presets::preset_table, crate::specs::Presets::setting_of, crate::specs::Presets::preset_source))]
+fn source_rows() -> &'static [u64; SOURCE_ROWS]
+    ensures { SourceRows result.now }
 {
-    SOURCES
+    &SOURCES
 }
 
+#[tactic(auto, unfolding(words::specs::Bits::bit_at, words::specs::Listed::listed, crate::specs::PresetRows::row_byte, crate::specs::PresetRows::source_under, crate::specs::PresetRows::LargeRow, crate::specs::Presets::preset_source))]
 fn large_row() -> u64
     ensures { LargeRow result }
 {
     LARGE_SOURCES
 }
 
-fn cell_rows() -> [u64; 2 * CELL_ROWS]
-    ensures { CellRows result }
+#[tactic(auto, unfolding(words::specs::Bits::bit_at, words::specs::Listed::listed, crate::specs::PresetRows::row_byte, crate::specs::PresetRows::wired_cell, crate::specs::PresetRows::covers, crate::specs::PresetRows::cell_under, crate::specs::PresetRows::CellRows, crate::specs::Presets::preset_table, crate::specs::Presets::setting_of, crate::specs::Presets::preset_cell))]
+fn cell_rows() -> &'static [u64; 2 * CELL_ROWS]
+    ensures { CellRows result.now }
 {
-    SET_CELLS
+    &SET_CELLS
 }
 
 // A number past the table sources nothing.
@@ -258,6 +261,7 @@ pub fn sets_front(v: Number, size: u8) -> bool
     words::bit(source_row(v, size), 32)
 }
 
+#[tactic(auto, unfolding(crate::specs::PresetRows::row_byte))]
 fn byte(w: u64, i: u32) -> u8
     requires { i < 8 }
     ensures { result ≡ row_byte w i }
@@ -269,33 +273,25 @@ fn byte(w: u64, i: u32) -> u8
 fn offset_address(step: bool, place: u8, a: u8) -> u8
     ensures { result ≡ PresetRows.offset_address step place a }
 {
-    if step {
-        std::num::wrapping_add_u8(a, place)
-    } else {
-        a
-    }
+    if step { a.wrapping_add(place) } else { a }
 }
 
-fn address(first: bool, a: u8, b: u8) -> u8
-    ensures { result ≡ (if first then a else b) }
-{
-    if first { a } else { b }
-}
-
-fn either(first: bool, a: u64, b: u64) -> u64
+// One of two values.
+fn either<T: Copy>(first: bool, a: T, b: T) -> T
     ensures { result ≡ (if first then a else b) }
 {
     if first { a } else { b }
 }
 
 // The connector at index k under a row: sourced, or as it was.
+#[tactic(auto, unfolding(crate::specs::PresetRows::source_under))]
 fn connector_under(row: u64, k: u32, old: Connector) -> Connector
     requires { k < connector_count }
     ensures { result ≡ sourced (source_under row k) old }
 {
     if words::bit(row, 32 + k) {
         let first = words::bit(row, 24 + k);
-        let a = address(first, byte(row, 2), byte(row, 1));
+        let a = either(first, byte(row, 2), byte(row, 1));
         Connector {
             kind: PUSH_PULL,
             source: offset_address(words::bit(row, 0), k as u8, a),
@@ -305,26 +301,25 @@ fn connector_under(row: u64, k: u32, old: Connector) -> Connector
     }
 }
 
+#[tactic(auto, unfolding(crate::specs::PresetRows::wired_cell))]
 fn wired_cell(step: bool, place: u8, w: u64) -> Cell
     ensures { result ≡ wired_cell step place w }
 {
-    let slots = [
-        offset_address(step, place, byte(w, 3)),
-        offset_address(step, place, byte(w, 2)),
-        byte(w, 1),
-        byte(w, 0),
-    ];
     Cell {
         kind: byte(w, 5),
-        config: byte(w, 4) as Config,
-        slots: slots,
-        count: Pulses(0),
-        bit: false,
-        pulse: false,
+        config: Config::from(byte(w, 4)),
+        slots: [
+            offset_address(step, place, byte(w, 3)),
+            offset_address(step, place, byte(w, 2)),
+            byte(w, 1),
+            byte(w, 0),
+        ],
+        ..BLANK
     }
 }
 
 // Whether a row sets the cell at index i.
+#[tactic(auto, unfolding(crate::specs::PresetRows::covers))]
 fn covers(row: u64, i: u32) -> bool
     requires { i < cell_room }
     ensures { result ≡ PresetRows.covers row i }
@@ -336,6 +331,7 @@ fn covers(row: u64, i: u32) -> bool
 }
 
 // The cell at index i under a row: set whole, or as it was.
+#[tactic(auto, unfolding(crate::specs::PresetRows::cell_under))]
 fn cell_under(row: CellRow, i: u32, old: Cell) -> Cell
     requires { i < cell_room }
     ensures { result ≡ Option.get_or (cell_under row.0 row.1 i) old }
@@ -355,8 +351,7 @@ fn connectors_under(row: u64, connectors: [Connector; CONNECTORS]) -> [Connector
     let mut next = connectors;
     for k in 0..CONNECTORS as u32 {
         let at = k as usize;
-        let c = connector_under(row, k, connectors[at]);
-        next[at] = c;
+        next[at] = connector_under(row, k, connectors[at]);
     }
     next
 }
@@ -370,8 +365,7 @@ fn cells_under(row: CellRow, cells: [Cell; CELLS], n: u32) -> [Cell; CELLS]
     let mut next = cells;
     for i in 0..n {
         let at = i as usize;
-        let cell = cell_under(row, i, cells[at]);
-        next[at] = cell;
+        next[at] = cell_under(row, i, cells[at]);
     }
     next
 }
@@ -393,14 +387,12 @@ pub fn apply_preset(card: Card, v: Number) -> Card
     ensures { result ≡ preset (cells_for card.size) card v }
 {
     let row = cell_row(v);
-    let cells = card.cells;
-    let connectors = card.connectors;
     let n = cells_for(card.size) as u32;
-    let set = cells_under(row, cells, n);
-    let routed = connectors_under(source_row(v, card.size), each_of(connectors));
-    let mut next = card;
-    next.cells = set;
-    next.connectors = from_each(routed);
-    next.edited = edited_under(row.0, card.edited, n);
-    next
+    let routed = connectors_under(source_row(v, card.size), each_of(card.connectors));
+    Card {
+        cells: cells_under(row, card.cells, n),
+        connectors: from_each(routed),
+        edited: edited_under(row.0, card.edited, n),
+        ..card
+    }
 }

@@ -9,7 +9,7 @@ use cells::cell::Ticks;
 
 // For each cell the ticks in which the rules named it, and the ticks that ran.
 #[repr(C)]
-#[derive(Clone, Copy)]
+#[derive(Clone, Copy, Debug, PartialEq, Eq)]
 pub struct Tallies {
     pub cells: [Ticks; CELLS],
     pub total: Ticks,
@@ -22,23 +22,23 @@ const STANDSTILL: u32 = 4294967295;
 pub fn no_tallies() -> Tallies
     ensures { result ≡ Tally.no_tallies }
 {
-    let none = Ticks(0);
-    let cells = [none; CELLS];
     Tallies {
-        cells: cells,
-        total: none,
+        cells: [Ticks(0); CELLS],
+        total: Ticks(0),
     }
 }
 
-// The tally of a cell that the rules named.
-fn counted(v: Ticks) -> Ticks
+// A number of ticks with one more: the total after a tick that ran, and the tally of a cell that
+// the rules named.
+#[tactic(auto, unfolding(crate::specs::Tally::counted))]
+pub fn counted(v: Ticks) -> Ticks
     ensures { result ≡ Tally.counted true v }
 {
     if v.0 < STANDSTILL { Ticks(v.0 + 1) } else { v }
 }
 
 // What a tick that ran comes to: the total after it, and the cells whose tallies may go up.
-#[derive(Clone, Copy)]
+#[derive(Clone, Copy, Debug, PartialEq, Eq)]
 struct Counts {
     total: Ticks,
     named: u64,
@@ -50,16 +50,12 @@ fn counting(total: Ticks, named: CellWord) -> Counts
     ensures named_value { (result.named ≡ (if nat_lt total.0 Tally.standstill then named else 0)) × (result.named < 2 ^ cell_room) }
 {
     if total.0 < STANDSTILL {
-        let more = Ticks(total.0 + 1);
         return Counts {
-            total: more,
-            named: named as u64,
+            total: Ticks(total.0 + 1),
+            named: u64::from(named),
         };
     }
-    Counts {
-        total: total,
-        named: 0,
-    }
+    Counts { total, named: 0 }
 }
 
 // The tallies after a tick that ran, in which the rules named these cells. It goes from one named
@@ -69,16 +65,16 @@ pub fn tally(t: Tallies, named: CellWord) -> Tallies
     ensures { (n : ℕ) → n ≤ cell_room → named < 2 ^ n → result ≡ Tally.tallied_by n (bit_at named) t }
 {
     let c = counting(t.total, named);
-    let total = c.total;
-    let mut next = t;
-    next.total = total;
+    let mut next = Tallies {
+        total: c.total,
+        ..t
+    };
     let mut left = c.named;
     let mut i: u32 = 0;
     while left != 0 {
         let k = words::lowest(left);
         let at = (i + k) as usize;
-        let v = counted(next.cells[at]);
-        next.cells[at] = v;
+        next.cells[at] = counted(next.cells[at]);
         left = left >> (k + 1);
         i = i + k + 1;
     }

@@ -1,6 +1,7 @@
 -- Laws of a cell that the card uses: a cell that is not stirred and whose level slots agree may
 -- sleep; only edges stir it; when a cell wakes.
 use Prim.Native.Nat.{ℕ, ◌≤◌}
+use Rattle.std.specs.Prelude.{Some}
 use mathlib.Core.Path.{◌≡◌, refl, sym, ap, ◌∙◌}
 use mathlib.Core.Bool.{Bool, true, false, not, ◌&&◌, ◌||◌, beq, cond, true≢false}
 use native.Mathlib.Omega.{arith}
@@ -426,7 +427,7 @@ unfolding work_out work_as row_of
 constant-works config s r = refl
 
 -- its largest configuration
-pub constant-largest : (row_of constant_type).largest ≡ largest_constant
+pub constant-largest : (row_of constant_type).largest ≡ Some largest_constant
 unfolding row_of
 constant-largest = refl
 

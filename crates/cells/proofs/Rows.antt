@@ -2,7 +2,7 @@
 -- and the row of a number past the table.
 use Prim.Native.Nat.{ℕ, zero, suc, ◌≤◌, ◌<◌}
 use mathlib.Core.Path.{◌≡◌, refl, ◌∙◌}
-use mathlib.Core.Bool.{Bool, true, false, ◌&&◌, beq, cond, false≢true}
+use mathlib.Core.Bool.{Bool, true, false, ◌&&◌, cond}
 use mathlib.Core.List.{List, [], ◌∷◌}
 use native.Mathlib.Omega.{arith}
 use lib.Dec.{eqb, ltb}
@@ -61,16 +61,6 @@ in-keeps n (l ∷ ls) = among-keeps n l l.types (row_in n ls) (in-keeps n ls)
 pub row_keeps : (n : ℕ) → (row_of n).kept ≡ kept_by (row_of n).class
 unfolding row_of Keeps
 row_keeps n = in-keeps n chart
-
--- a type has a configuration exactly where its largest is above 0
-beq_same : (a b : Bool) → beq a b ≡ true → a ≡ b
-beq_same true true e = refl
-beq_same true false e = absurd (false≢true e)
-beq_same false true e = absurd (false≢true e)
-beq_same false false e = refl
-
-pub row-configured : (n : ℕ) → (row_of n).configured ≡ ltb 0 (row_of n).largest
-row-configured n = beq_same _ _ (every-row (λ (w : Row). beq w.configured (ltb 0 w.largest)) refl n)
 
 -- the lines name no type from m on
 below_all : ℕ → List (ℕ × Class) → Bool

@@ -1,8 +1,6 @@
 -- What the code gives of a cell, read as the state and the output of specs/Work, and the naming of
 -- specs/Wake.
-use Rattle.std.specs.Prelude.{ℕ, ◌≡◌, Bool, ◌||◌, cond, eqb, ltb}
-use Rattle.cells.specs.declared.table.FlopKind.{FlopKind}
-use Rattle.cells.specs.declared.table.FlopKind.TheVariants.{DFlop, SyncDFlop, ClearDFlop}
+use Rattle.std.specs.Prelude.{ℕ, ◌≡◌, Bool, ◌||◌, cond, ltb}
 use Rattle.cells.specs.declared.cell.State.{State}
 use Rattle.cells.specs.declared.cell.Worked.{Worked}
 use Rattle.cells.specs.declared.work.Effect.{Effect}
@@ -34,7 +32,3 @@ pub record StepsTo (t : Stepped) (full named : Bool) (s : State) (worked : Worke
   pub says : t.named ≡ named
   pub gives : (out : Bool) → worked_by s out t.effect ≡ stepped_to full named s out worked
   pub looks_at : t.looked ≡ cond (full || named) looks 0
-
--- the flip-flop that a type is, of 1, 12 and 18
-abbrev pub flop_of : ℕ → FlopKind
-flop_of kind = cond (eqb kind 1) DFlop (cond (eqb kind 12) SyncDFlop ClearDFlop)

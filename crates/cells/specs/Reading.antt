@@ -1,6 +1,6 @@
 -- What slots read, as the card gives it: four words, one for each quarter of the addresses. What
 -- the words hold is the card's business.
-use Rattle.std.specs.Prelude.{ℕ, ◌/◌, ◌%◌, Bool, false, List, get_or}
+use Rattle.std.specs.Prelude.{ℕ, ◌/◌, ◌%◌, Bool, List, get_or}
 use Rattle.words.specs.Bits.{bit_at}
 use Rattle.cells.specs.declared.table.Slots.{Slots}
 use Rattle.cells.specs.Table.{slots}
@@ -13,9 +13,6 @@ read_from q a = bit_at (get_or q (a / 64) 0) (a % 64)
 abbrev pub slots_from : List ℕ → (x y z f : ℕ) → Slots
 slots_from q x y z f = slots (read_from q x) (read_from q y) (read_from q z) (read_from q f)
 
--- of a type that uses two of them, or three: the others are taken as low
-abbrev pub two_from : List ℕ → (x y : ℕ) → Slots
-two_from q x y = slots (read_from q x) (read_from q y) false false
-
-abbrev pub three_from : List ℕ → (x y z : ℕ) → Slots
-three_from q x y z = slots (read_from q x) (read_from q y) (read_from q z) false
+-- the readings of the slots of a cell, which hold the addresses of a list
+abbrev pub slots_at : (q s : List ℕ) → Slots
+slots_at q s = slots_from q (get_or s 0 0) (get_or s 1 0) (get_or s 2 0) (get_or s 3 0)

@@ -1,7 +1,6 @@
 -- Document 01, "Cells", and document 02, "Counter cells": the table by cell type.
 -- A slot set and the readings of the slots are both `Slots`: one bit for each of X, Y, Z, F.
-use Rattle.std.specs.Prelude.{ℕ, Bool, true, false, not, ◌&&◌, ◌||◌, cond, List, [], ◌∷◌, eqb}
-use Rattle.std.proofs.Math.Option.{Option, none, some}
+use Rattle.std.specs.Prelude.{ℕ, Bool, true, false, not, ◌&&◌, ◌||◌, cond, List, [], ◌∷◌, eqb, Option, None, Some}
 use Rattle.cells.specs.declared.table.Slots.{Slots}
 use Rattle.cells.specs.declared.table.Row.{Row}
 use Rattle.cells.specs.declared.table.Class.{Class}
@@ -80,33 +79,25 @@ chart_line types used edge config = record { types = types; used = used; edge = 
 -- edge-sensitive"; they have no configuration
 abbrev pub chart : List ChartLine
 chart =
-    chart_line ((constant_type, Constant) ∷ []) no_slot no_slot (some largest_constant)
-    ∷ chart_line ((1, Flop DFlop) ∷ (12, Flop SyncDFlop) ∷ []) XYZF only_y none
-    ∷ chart_line ((2, Gate Lookup) ∷ []) XY no_slot (some 15)
-    ∷ chart_line ((3, Gate Lookup) ∷ []) XYZ no_slot (some 255)
-    ∷ chart_line ((4, Gate Lookup) ∷ []) XYZF no_slot (some largest_code)
-    ∷ chart_line ((5, Gate And2) ∷ (6, Gate Or2) ∷ (7, Gate Xor2) ∷ []) XY no_slot none
-    ∷ chart_line ((8, OneShot retriggerable) ∷ (14, OneShot not_retriggerable) ∷ []) XYZ XY (some largest_duration)
-    ∷ chart_line ((9, Delay retriggerable) ∷ (15, Delay not_retriggerable) ∷ []) XYZ XY (some largest_duration)
-    ∷ chart_line ((10, Gate And4) ∷ (11, Gate Or4) ∷ []) XYZF no_slot none
-    ∷ chart_line ((13, Flop Jk) ∷ []) XYZ only_z none
-    ∷ chart_line ((16, OneShot not_retriggerable) ∷ (17, Delay not_retriggerable) ∷ []) XYZF XYF (some largest_duration)
-    ∷ chart_line ((18, Flop ClearDFlop) ∷ []) XYZF only_y none
-    ∷ chart_line ((19, Counter WhileBoth) ∷ (20, Counter WhileEither) ∷ []) XYZF only_y none
-    ∷ chart_line ((21, Counter FromStart) ∷ (22, Counter FromStartAtZero) ∷ []) XYZF XYF none
+    chart_line ((constant_type, Constant) ∷ []) no_slot no_slot (Some largest_constant)
+    ∷ chart_line ((1, Flop DFlop) ∷ (12, Flop SyncDFlop) ∷ []) XYZF only_y None
+    ∷ chart_line ((2, Gate Lookup) ∷ []) XY no_slot (Some 15)
+    ∷ chart_line ((3, Gate Lookup) ∷ []) XYZ no_slot (Some 255)
+    ∷ chart_line ((4, Gate Lookup) ∷ []) XYZF no_slot (Some largest_code)
+    ∷ chart_line ((5, Gate And2) ∷ (6, Gate Or2) ∷ (7, Gate Xor2) ∷ []) XY no_slot None
+    ∷ chart_line ((8, OneShot retriggerable) ∷ (14, OneShot not_retriggerable) ∷ []) XYZ XY (Some largest_duration)
+    ∷ chart_line ((9, Delay retriggerable) ∷ (15, Delay not_retriggerable) ∷ []) XYZ XY (Some largest_duration)
+    ∷ chart_line ((10, Gate And4) ∷ (11, Gate Or4) ∷ []) XYZF no_slot None
+    ∷ chart_line ((13, Flop Jk) ∷ []) XYZ only_z None
+    ∷ chart_line ((16, OneShot not_retriggerable) ∷ (17, Delay not_retriggerable) ∷ []) XYZF XYF (Some largest_duration)
+    ∷ chart_line ((18, Flop ClearDFlop) ∷ []) XYZF only_y None
+    ∷ chart_line ((19, Counter WhileBoth) ∷ (20, Counter WhileEither) ∷ []) XYZF only_y None
+    ∷ chart_line ((21, Counter FromStart) ∷ (22, Counter FromStartAtZero) ∷ []) XYZF XYF None
     ∷ []
 
 -- the number of cell types: "Type codes now go to 22"
 abbrev pub type_count : ℕ
 type_count = 23
-
-abbrev pub has_config : Option ℕ → Bool
-has_config none = false
-has_config (some n) = true
-
-abbrev pub config_limit : Option ℕ → ℕ
-config_limit none = 0
-config_limit (some n) = n
 
 -- what a class keeps between ticks: "a flip-flop's bit, a timer's count and pulse", a counter's
 -- count and "active"
@@ -121,11 +112,11 @@ kept_by (Counter k) = Counted
 
 -- what a line says of a type that does k
 abbrev pub row_as : ChartLine → Class → Row
-row_as l k = record { used = l.used; edge = l.edge; configured = has_config l.config; largest = config_limit l.config; class = k; kept = kept_by k }
+row_as l k = record { used = l.used; edge = l.edge; largest = l.config; class = k; kept = kept_by k }
 
 -- a number past the table: no slots, and nothing done
 abbrev pub no_row : Row
-no_row = record { used = no_slot; edge = no_slot; configured = false; largest = 0; class = Nothing; kept = Stateless }
+no_row = record { used = no_slot; edge = no_slot; largest = None; class = Nothing; kept = Stateless }
 
 -- a line's row for type n, if n is one of its types, else what the other lines say
 abbrev pub row_among : ℕ → ChartLine → List (ℕ × Class) → Row → Row

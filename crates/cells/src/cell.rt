@@ -11,18 +11,18 @@ pub type Count = Config;
 // A number of pulses, which are clock edges and never ticks: a duration, a count of pulses left, or
 // a counter's count.
 #[repr(C)]
-#[derive(Clone, Copy)]
+#[derive(Clone, Copy, Debug, PartialEq, Eq)]
 pub struct Pulses(pub Count);
 
 // A number of ticks, which a tally counts.
 #[repr(C)]
-#[derive(Clone, Copy)]
+#[derive(Clone, Copy, Debug, PartialEq, Eq)]
 pub struct Ticks(pub u32);
 
 // What a cell keeps between ticks, the same for every type: a flip-flop's bit, a timer's count and
 // pulse, a counter's count. In a counter that is started and stopped the bit says "active".
 #[repr(C)]
-#[derive(Clone, Copy)]
+#[derive(Clone, Copy, Debug, PartialEq, Eq)]
 pub struct State {
     pub count: Pulses,
     pub bit: bool,
@@ -33,7 +33,7 @@ pub struct State {
 // and its state, part by part, in 16 bytes. A tick passes the parts on as they are: a State made
 // there would be packed and unpacked once for each cell.
 #[repr(C)]
-#[derive(Clone, Copy)]
+#[derive(Clone, Copy, Debug, PartialEq, Eq)]
 pub struct Cell {
     pub config: Config,
     pub count: Pulses,
@@ -44,31 +44,34 @@ pub struct Cell {
 }
 
 // A cell's state as a whole, and the cell with another one.
-pub fn state_of(cell: Cell) -> State
-    ensures { result ≡ state_of cell }
-{
-    let count = cell.count;
-    State {
-        count: count,
-        bit: cell.bit,
-        pulse: cell.pulse,
+impl From<Cell> for State {
+    ghost from_gives = { λ cell s. s ≡ state_of cell };
+
+    fn from(cell: Cell) -> State {
+        State {
+            count: cell.count,
+            bit: cell.bit,
+            pulse: cell.pulse,
+        }
     }
 }
 
-pub fn with_state(cell: Cell, s: State) -> Cell
-    ensures { result ≡ with_state cell s }
-{
-    let count = s.count;
-    let mut next = cell;
-    next.count = count;
-    next.bit = s.bit;
-    next.pulse = s.pulse;
-    next
+impl Cell {
+    pub fn with_state(self, s: State) -> Cell
+        ensures { result ≡ with_state self s }
+    {
+        Cell {
+            count: s.count,
+            bit: s.bit,
+            pulse: s.pulse,
+            ..self
+        }
+    }
 }
 
 // What working out a cell gives: the state that it keeps, and its output.
 #[repr(C)]
-#[derive(Clone, Copy)]
+#[derive(Clone, Copy, Debug, PartialEq, Eq)]
 pub struct Worked {
     pub state: State,
     pub out: bool,

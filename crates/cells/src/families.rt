@@ -1,336 +1,212 @@
 // The steps of the families of cells: a function for each way of reading the slots, which asks
 // whether the rules name the cell and reads for the work only where there is work.
-ghost use Rattle.std.specs.Prelude.{Bool, false, ◌||◌, ◌≡◌};
+ghost use Rattle.std.specs.Prelude.{◌||◌, ◌≡◌};
 ghost use Rattle.cells.specs.declared.table.Class.TheVariants.{Gate, Flop, OneShot, Delay, Counter};
-ghost use Rattle.cells.specs.declared.table.GateKind.TheVariants.{Lookup};
-ghost use Rattle.cells.specs.declared.table.FlopKind.TheVariants.{Jk};
-ghost use Rattle.cells.specs.declared.cell.Pulses.{Pulses};
 ghost use Rattle.cells.specs.declared.cell.State.{State};
-ghost use Rattle.cells.specs.Table.{slots, any_slot};
-ghost use Rattle.cells.specs.State.{state, state_of};
-ghost use Rattle.cells.specs.Reading.{read_from, two_from, three_from, slots_from};
-ghost use Rattle.cells.specs.Wake.{stirred_as};
+ghost use Rattle.cells.specs.Table.{masked, any_slot, only_z};
+ghost use Rattle.cells.specs.State.{state_of};
+ghost use Rattle.cells.specs.Reading.{slots_at};
+ghost use Rattle.cells.specs.Wake.{timer_stirred, flop_clock, counter_stirred};
 ghost use Rattle.cells.specs.Work.{keeping, looked, work_as};
-ghost use Rattle.cells.specs.Effect.{asleep, StepsTo, flop_of};
+ghost use Rattle.cells.specs.Effect.{StepsTo};
 
-use crate::cell::{Cell, Config, Pulses};
-use crate::named::{
-    flop_wakes, gated_wakes, jk_wakes, moved2, moved3, moved4, started_wakes, timer_wakes,
-};
-use crate::reading::{QUARTERS, four, three, two};
+use crate::cell::Cell;
+use crate::reading::{Seen, read, read_slots, read_used};
 use crate::step::Stepped;
-use crate::table::{CounterKind, GateKind, Slots};
-use crate::work::{Effect, counter, delay, flop, gate_out, jk, look, lookup, one_shot};
+use crate::table::{CounterKind, FlopKind, GateKind, ONLY_Z, Slots};
+use crate::wake::{counter_stirred, timer_stirred};
+use crate::work::{Effect, counter, delay, flop, gate_out, look, one_shot};
 
-// A cell that is not worked out.
-fn slept(named: bool) -> Stepped
-    ensures { result ≡ asleep named }
+// Whether one of a cell's level slots has changed since the last tick that ran.
+#[inline(always)]
+fn moved(levels: Slots, cell: Cell, seen: &Seen) -> bool
+    ensures { result ≡ any_slot (masked levels (slots_at seen.now.moved cell.slots)) }
 {
-    let effect = Effect::Slept;
-    Stepped {
-        named: named,
-        effect: effect,
-        looked: 0,
-    }
+    read_used(&seen.moved, levels, cell.slots).any()
 }
 
 // A constant, or what is no type: only an edit names it.
+#[inline(always)]
 pub(crate) fn fixed_step(full: bool, edited: bool, out: bool) -> Stepped
     ensures { (s : State) → StepsTo result full edited s (keeping s out) 0 }
 {
     if full | edited {
-        let effect = Effect::Same(out);
         Stepped {
             named: edited,
-            effect: effect,
+            effect: Effect::Same(out),
             looked: 0,
         }
     } else {
-        slept(edited)
+        Stepped::slept(edited)
     }
 }
 
-// A lookup or a gate of two slots, a lookup of three, and one of four.
-pub(crate) fn pair_step(
+// A lookup of two, three or four slots, or a gate of two.
+#[inline(always)]
+pub(crate) fn gate_step(
     gate: GateKind,
+    used: Slots,
     full: bool,
     edited: bool,
-    config: Config,
-    x: u8,
-    y: u8,
-    q: &[u64; QUARTERS],
-    d: &[u64; QUARTERS],
+    cell: Cell,
+    seen: &Seen,
 ) -> Stepped
-    ensures { (s : State) → StepsTo result full (edited || any_slot (two_from d.now x y)) s
-        (work_as (Gate gate) config s (two_from q.now x y)) 0 }
+    ensures { (s : State) → StepsTo result full (edited || any_slot (masked used (slots_at seen.now.moved cell.slots))) s
+        (work_as (Gate gate) cell.config s (masked used (slots_at seen.now.reads cell.slots))) 0 }
 {
-    let named = edited | moved2(d, x, y);
+    let named = edited | moved(used, cell, seen);
     if full | named {
-        let effect = Effect::Same(gate_out(gate, config, two(q, x, y)));
+        let r = read_used(&seen.reads, used, cell.slots);
         Stepped {
-            named: named,
-            effect: effect,
+            named,
+            effect: Effect::Same(gate_out(gate, cell.config, r)),
             looked: 0,
         }
     } else {
-        slept(named)
+        Stepped::slept(named)
     }
 }
 
-pub(crate) fn lookup3_step(
-    full: bool,
-    edited: bool,
-    config: Config,
-    x: u8,
-    y: u8,
-    z: u8,
-    q: &[u64; QUARTERS],
-    d: &[u64; QUARTERS],
-) -> Stepped
-    ensures { (s : State) → StepsTo result full (edited || any_slot (three_from d.now x y z)) s
-        (work_as (Gate Lookup) config s (three_from q.now x y z)) 0 }
-{
-    let named = edited | moved3(d, x, y, z);
-    if full | named {
-        let effect = Effect::Same(lookup(config, three(q, x, y, z)));
-        Stepped {
-            named: named,
-            effect: effect,
-            looked: 0,
-        }
-    } else {
-        slept(named)
-    }
-}
-
-pub(crate) fn lookup4_step(
-    full: bool,
-    edited: bool,
-    config: Config,
-    x: u8,
-    y: u8,
-    z: u8,
-    f: u8,
-    q: &[u64; QUARTERS],
-    d: &[u64; QUARTERS],
-) -> Stepped
-    ensures { (s : State) → StepsTo result full (edited || any_slot (slots_from d.now x y z f)) s
-        (work_as (Gate Lookup) config s (slots_from q.now x y z f)) 0 }
-{
-    let named = edited | moved4(d, x, y, z, f);
-    if full | named {
-        let effect = Effect::Same(lookup(config, four(q, x, y, z, f)));
-        Stepped {
-            named: named,
-            effect: effect,
-            looked: 0,
-        }
-    } else {
-        slept(named)
-    }
-}
-
-// A gate of four slots, which looks at them one by one. Whether the rules name it is an argument:
-// so the function is short enough to be compiled into both of its callers, with what decides as a
-// constant.
+// A gate of four slots, which looks at them one by one.
+#[inline(always)]
 pub(crate) fn look_step(
     deciding: bool,
     full: bool,
-    named: bool,
-    x: u8,
-    y: u8,
-    z: u8,
-    f: u8,
-    q: &[u64; QUARTERS],
+    edited: bool,
+    cell: Cell,
+    seen: &Seen,
 ) -> Stepped
-    ensures { (s : State) → let l = looked deciding (slots_from q.now x y z f) in
-        StepsTo result full named s (keeping s l.out) l.slots }
+    ensures { (s : State) → let l = looked deciding (slots_at seen.now.reads cell.slots) in
+        StepsTo result full (edited || any_slot (slots_at seen.now.moved cell.slots)) s (keeping s l.out) l.slots }
 {
+    let named = edited | read_slots(&seen.moved, cell.slots).any();
     if full | named {
-        let l = look(deciding, x, y, z, f, q);
-        let effect = Effect::Same(l.out);
+        let l = look(deciding, cell.slots, &seen.reads);
         Stepped {
-            named: named,
-            effect: effect,
+            named,
+            effect: Effect::Same(l.out),
             looked: l.slots,
         }
     } else {
-        slept(named)
+        Stepped::slept(named)
     }
 }
 
-// A D flip-flop, and a JK.
+// Whether a flip-flop's clock slot is high, which no other slot is read for.
+#[inline(always)]
+fn clocked(flop: FlopKind, cell: Cell, seen: &Seen) -> bool
+    ensures { result ≡ flop_clock flop (slots_at seen.now.reads cell.slots) }
+{
+    let [_, y, z, _] = cell.slots;
+    match flop {
+        FlopKind::DFlop | FlopKind::SyncDFlop | FlopKind::ClearDFlop => read(&seen.reads, y),
+        FlopKind::Jk => read(&seen.reads, z),
+    }
+}
+
+// A flip-flop.
+#[inline(always)]
 pub(crate) fn flop_step(
-    kind: u8,
+    flop_kind: FlopKind,
+    levels: Slots,
     full: bool,
     edited: bool,
-    bit: bool,
-    x: u8,
-    y: u8,
-    z: u8,
-    f: u8,
-    q: &[u64; QUARTERS],
-    d: &[u64; QUARTERS],
+    cell: Cell,
+    seen: &Seen,
 ) -> Stepped
-    ensures { (count : Pulses) (pulse : Bool) → let s = state count bit pulse in
-        StepsTo result full (edited || (read_from q.now y ||
-        any_slot (slots (read_from d.now x) false (read_from d.now z)
-        (read_from d.now f)))) s
-        (work_as (Flop (flop_of kind)) 0 s (slots_from q.now x y z f)) 0 }
+    ensures { let s = state_of cell in let r = slots_at seen.now.reads cell.slots in
+        StepsTo result full (edited || (flop_clock flop_kind r || any_slot (masked levels (slots_at seen.now.moved cell.slots)))) s
+        (work_as (Flop flop_kind) 0 s r) 0 }
 {
-    let named = edited | flop_wakes(x, y, z, f, q, d);
+    let named = edited | (clocked(flop_kind, cell, seen) | moved(levels, cell, seen));
     if full | named {
-        let effect = Effect::Bit(flop(kind, bit, x, y, z, f, q));
         Stepped {
-            named: named,
-            effect: effect,
+            named,
+            effect: Effect::Bit(flop(flop_kind, cell.bit, cell.slots, &seen.reads)),
             looked: 0,
         }
     } else {
-        slept(named)
+        Stepped::slept(named)
     }
 }
 
-pub(crate) fn jk_step(
-    full: bool,
-    edited: bool,
-    bit: bool,
-    x: u8,
-    y: u8,
-    z: u8,
-    q: &[u64; QUARTERS],
-    d: &[u64; QUARTERS],
-) -> Stepped
-    ensures { (count : Pulses) (pulse : Bool) → let s = state count bit pulse in
-        StepsTo result full (edited || (stirred_as (Flop Jk) s (three_from q.now x y z) ||
-        any_slot (two_from d.now x y))) s
-        (work_as (Flop Jk) 0 s (three_from q.now x y z)) 0 }
-{
-    let named = edited | jk_wakes(x, y, z, q, d);
-    if full | named {
-        let effect = Effect::Bit(jk(bit, x, y, z, q));
-        Stepped {
-            named: named,
-            effect: effect,
-            looked: 0,
-        }
-    } else {
-        slept(named)
-    }
-}
-
-// A one-shot and a delay, by what their slots read: the trigger and the clock are asked for in any
-// case. Their reset is the one level slot.
+// A one-shot and a delay. The trigger and the clock are asked for in any case, and the reset is the
+// one level slot.
+#[inline(always)]
 pub(crate) fn shot_step(
     retrigger: bool,
+    used: Slots,
     full: bool,
     edited: bool,
     cell: Cell,
-    r: Slots,
-    z: u8,
-    d: &[u64; QUARTERS],
+    seen: &Seen,
 ) -> Stepped
-    ensures { let s = state_of cell in
-        StepsTo result full (edited || (stirred_as (OneShot retrigger) s r ||
-        any_slot (slots false false (read_from d.now z) false))) s
+    ensures { let s = state_of cell in let r = masked used (slots_at seen.now.reads cell.slots) in
+        StepsTo result full (edited || (timer_stirred cell.count.0 cell.pulse r || any_slot (masked only_z (slots_at seen.now.moved cell.slots)))) s
         (work_as (OneShot retrigger) cell.config s r) 0 }
 {
-    let named = edited | timer_wakes(cell.count, cell.pulse, r, z, d);
+    let r = read_used(&seen.reads, used, cell.slots);
+    let named = edited | (timer_stirred(cell.count, cell.pulse, r) | moved(ONLY_Z, cell, seen));
     if full | named {
-        let effect = one_shot(retrigger, cell.config, cell.count, r);
         Stepped {
-            named: named,
-            effect: effect,
+            named,
+            effect: one_shot(retrigger, cell.config, cell.count, r),
             looked: 0,
         }
     } else {
-        slept(named)
+        Stepped::slept(named)
     }
 }
 
+#[inline(always)]
 pub(crate) fn delay_step(
     retrigger: bool,
+    used: Slots,
     full: bool,
     edited: bool,
     cell: Cell,
-    r: Slots,
-    z: u8,
-    d: &[u64; QUARTERS],
+    seen: &Seen,
 ) -> Stepped
-    ensures { let s = state_of cell in
-        StepsTo result full (edited || (stirred_as (Delay retrigger) s r ||
-        any_slot (slots false false (read_from d.now z) false))) s
+    ensures { let s = state_of cell in let r = masked used (slots_at seen.now.reads cell.slots) in
+        StepsTo result full (edited || (timer_stirred cell.count.0 cell.pulse r || any_slot (masked only_z (slots_at seen.now.moved cell.slots)))) s
         (work_as (Delay retrigger) cell.config s r) 0 }
 {
-    let named = edited | timer_wakes(cell.count, cell.pulse, r, z, d);
+    let r = read_used(&seen.reads, used, cell.slots);
+    let named = edited | (timer_stirred(cell.count, cell.pulse, r) | moved(ONLY_Z, cell, seen));
     if full | named {
-        let effect = delay(retrigger, cell.config, cell.count, cell.pulse, r);
         Stepped {
-            named: named,
-            effect: effect,
+            named,
+            effect: delay(retrigger, cell.config, cell.count, cell.pulse, r),
             looked: 0,
         }
     } else {
-        slept(named)
+        Stepped::slept(named)
     }
 }
 
-// A counter that counts while A and B say so, and one that is started and stopped.
-pub(crate) fn gated_step(
+// A counter.
+#[inline(always)]
+pub(crate) fn counter_step(
     kind: CounterKind,
+    levels: Slots,
     full: bool,
     edited: bool,
-    count: Pulses,
-    bit: bool,
-    r: Slots,
-    x: u8,
-    z: u8,
-    f: u8,
-    d: &[u64; QUARTERS],
+    cell: Cell,
+    seen: &Seen,
 ) -> Stepped
-    ensures { (pulse : Bool) → let s = state count bit pulse in
-        StepsTo result full (edited || (stirred_as (Counter kind) s r ||
-        any_slot (slots (read_from d.now x) false (read_from d.now z)
-        (read_from d.now f)))) s
+    ensures { let s = state_of cell in let r = slots_at seen.now.reads cell.slots in
+        StepsTo result full (edited || (counter_stirred kind cell.bit r || any_slot (masked levels (slots_at seen.now.moved cell.slots)))) s
         (work_as (Counter kind) 0 s r) 0 }
 {
-    let named = edited | gated_wakes(kind, bit, r, x, z, f, d);
+    let r = read_slots(&seen.reads, cell.slots);
+    let named = edited | (counter_stirred(kind, cell.bit, r) | moved(levels, cell, seen));
     if full | named {
-        let effect = counter(kind, count, bit, r);
         Stepped {
-            named: named,
-            effect: effect,
+            named,
+            effect: counter(kind, cell.count, cell.bit, r),
             looked: 0,
         }
     } else {
-        slept(named)
-    }
-}
-
-pub(crate) fn started_step(
-    kind: CounterKind,
-    full: bool,
-    edited: bool,
-    count: Pulses,
-    bit: bool,
-    r: Slots,
-    z: u8,
-    d: &[u64; QUARTERS],
-) -> Stepped
-    ensures { (pulse : Bool) → let s = state count bit pulse in
-        StepsTo result full (edited || (stirred_as (Counter kind) s r ||
-        any_slot (slots false false (read_from d.now z) false))) s
-        (work_as (Counter kind) 0 s r) 0 }
-{
-    let named = edited | started_wakes(kind, bit, r, z, d);
-    if full | named {
-        let effect = counter(kind, count, bit, r);
-        Stepped {
-            named: named,
-            effect: effect,
-            looked: 0,
-        }
-    } else {
-        slept(named)
+        Stepped::slept(named)
     }
 }

@@ -3,7 +3,6 @@
 
 pub mod cell; // a cell as the card holds it
 mod families; // one cell in a tick, family by family
-mod named; // whether the waking rules name a cell, family by family
 pub mod reading; // what the slots of a cell read
 pub mod step; // one cell in a tick: asked, and worked out
 pub mod table; // the table of cell types

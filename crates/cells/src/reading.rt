@@ -1,12 +1,23 @@
 // What a cell's slots read: an address is a bit of one of four words, a word for each quarter of
 // the addresses.
 ghost use Rattle.std.specs.Prelude.{◌≡◌, ◌<◌, ◌/◌, ◌%◌};
-ghost use Rattle.cells.specs.Reading.{read_from, two_from, three_from, slots_from};
+ghost use Rattle.cells.specs.Table.{masked};
+ghost use Rattle.cells.specs.Reading.{read_from, slots_at};
 
 use crate::table::Slots;
 
-// How many words there are.
+// How many words there are, and the words: what the addresses read, or a set of addresses.
 pub const QUARTERS: usize = 4;
+
+pub type Quarters = [u64; QUARTERS];
+
+// What a cell is asked by: what the addresses read now, and which of them have changed since the
+// last tick that ran.
+#[derive(Clone, Copy, Debug, PartialEq, Eq)]
+pub struct Seen {
+    pub reads: Quarters,
+    pub moved: Quarters,
+}
 
 // A quarter has the bases 0 to 63.
 const BASES: u8 = 64;
@@ -23,62 +34,35 @@ fn base(address: u8) -> u32
     (address % BASES) as u32
 }
 
-// An address as it is. A caller learns that a byte holds it.
-pub fn address(a: u8) -> u8
-    ensures { (result ≡ a) × (result < 256) }
-{
-    a
-}
-
 // What an address reads.
-pub fn read(q: &[u64; QUARTERS], address: u8) -> bool
+#[tactic(auto, unfolding(crate::specs::Reading::read_from))]
+pub fn read(q: &Quarters, address: u8) -> bool
     ensures { result ≡ read_from q.now address }
 {
-    let n = quarter(address);
-    let b = base(address);
-    let word = q[n];
-    words::bit(word, b)
+    words::bit(q[quarter(address)], base(address))
 }
 
-// The readings of slots that hold these addresses. The slots that are not given are taken as low.
-pub(crate) fn two(q: &[u64; QUARTERS], x: u8, y: u8) -> Slots
-    ensures { result ≡ two_from q.now x y }
+// What the four slots read that hold these addresses.
+pub fn read_slots(q: &Quarters, slots: [u8; 4]) -> Slots
+    ensures { result ≡ slots_at q.now slots }
 {
-    let rx = read(q, x);
-    let ry = read(q, y);
     Slots {
-        x: rx,
-        y: ry,
-        z: false,
-        f: false,
+        x: read(q, slots[0]),
+        y: read(q, slots[1]),
+        z: read(q, slots[2]),
+        f: read(q, slots[3]),
     }
 }
 
-pub(crate) fn three(q: &[u64; QUARTERS], x: u8, y: u8, z: u8) -> Slots
-    ensures { result ≡ three_from q.now x y z }
+// What the slots of a set read. A slot outside it is not read, and counts as low.
+#[inline(always)]
+pub(crate) fn read_used(q: &Quarters, used: Slots, slots: [u8; 4]) -> Slots
+    ensures { result ≡ masked used (slots_at q.now slots) }
 {
-    let rx = read(q, x);
-    let ry = read(q, y);
-    let rz = read(q, z);
     Slots {
-        x: rx,
-        y: ry,
-        z: rz,
-        f: false,
-    }
-}
-
-pub fn four(q: &[u64; QUARTERS], x: u8, y: u8, z: u8, f: u8) -> Slots
-    ensures { result ≡ slots_from q.now x y z f }
-{
-    let rx = read(q, x);
-    let ry = read(q, y);
-    let rz = read(q, z);
-    let rf = read(q, f);
-    Slots {
-        x: rx,
-        y: ry,
-        z: rz,
-        f: rf,
+        x: used.x && read(q, slots[0]),
+        y: used.y && read(q, slots[1]),
+        z: used.z && read(q, slots[2]),
+        f: used.f && read(q, slots[3]),
     }
 }

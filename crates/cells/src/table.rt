@@ -1,14 +1,13 @@
 // The constant table by cell type.
-ghost use Rattle.std.specs.Prelude.{◌≡◌, ◌<◌, ◌≤◌};
-ghost use Rattle.words.specs.Bits.{bit_number};
-ghost use Rattle.cells.specs.Table.{slots, kept_by, row_of};
+ghost use Rattle.std.specs.Prelude.{◌≡◌, ◌<◌};
+ghost use Rattle.cells.specs.Table.{slots, masked, any_slot, kept_by, row_of};
 ghost use Rattle.cells.specs.Work.{place_of, slots_of};
 
 use crate::cell::Config;
 
 // One bit for each input slot: the readings of the four, or a set of them.
 #[repr(C)]
-#[derive(Clone, Copy)]
+#[derive(Clone, Copy, Debug, PartialEq, Eq)]
 pub struct Slots {
     pub x: bool,
     pub y: bool,
@@ -16,8 +15,29 @@ pub struct Slots {
     pub f: bool,
 }
 
+impl Slots {
+    // The readings of the slots of a set; a slot outside it reads low.
+    pub fn within(self, set: Slots) -> Slots
+        ensures { result ≡ masked set self }
+    {
+        Slots {
+            x: set.x & self.x,
+            y: set.y & self.y,
+            z: set.z & self.z,
+            f: set.f & self.f,
+        }
+    }
+
+    // Whether some slot is in the set.
+    pub fn any(self) -> bool
+        ensures { result ≡ any_slot self }
+    {
+        (self.x | self.y) | (self.z | self.f)
+    }
+}
+
 // The gates. A lookup reads its configuration, the code; the others read their slots alone.
-#[derive(Clone, Copy)]
+#[derive(Clone, Copy, Debug, PartialEq, Eq)]
 pub enum GateKind {
     Lookup,
     And2,
@@ -28,7 +48,7 @@ pub enum GateKind {
 }
 
 // The flip-flops, types 1, 12, 18 and 13.
-#[derive(Clone, Copy)]
+#[derive(Clone, Copy, Debug, PartialEq, Eq)]
 pub enum FlopKind {
     DFlop,
     SyncDFlop,
@@ -38,7 +58,7 @@ pub enum FlopKind {
 
 // The counters, types 19 to 22: active while A and B are high, or while either is; from start to
 // stop, or so if started at a count of 0.
-#[derive(Clone, Copy)]
+#[derive(Clone, Copy, Debug, PartialEq, Eq)]
 pub enum CounterKind {
     WhileBoth,
     WhileEither,
@@ -48,7 +68,7 @@ pub enum CounterKind {
 
 // What a type does: a family, with what distinguishes its members. One-shots and delays say whether
 // they take a trigger while they are busy.
-#[derive(Clone, Copy)]
+#[derive(Clone, Copy, Debug, PartialEq, Eq)]
 pub enum Class {
     Nothing,
     Constant,
@@ -61,7 +81,7 @@ pub enum Class {
 
 // What a type keeps between ticks: nothing, a flip-flop's bit, a timer's count and pulse, or a
 // counter's count and whether it is active.
-#[derive(Clone, Copy)]
+#[derive(Clone, Copy, Debug, PartialEq, Eq)]
 pub enum Kept {
     Stateless,
     Bit,
@@ -69,14 +89,13 @@ pub enum Kept {
     Counted,
 }
 
-// What the table holds of a type. Without a configuration the largest is 0, and with one it is
-// above 0.
-#[derive(Clone, Copy)]
+// What the table holds of a type: the slots used, the edge slots, the largest configuration of a
+// type that has one, what it does, and what it keeps.
+#[derive(Clone, Copy, Debug, PartialEq, Eq)]
 pub struct Row {
     pub used: Slots,
     pub edge: Slots,
-    pub configured: bool,
-    pub largest: Config,
+    pub largest: Option<Config>,
     pub class: Class,
     pub kept: Kept,
 }
@@ -84,33 +103,40 @@ pub struct Row {
 // The number of cell types. A type is a number below it.
 pub const TYPES: usize = 23;
 
-// Sets of slots, packed: X 1, Y 2, Z 4, F 8. The readings of the four slots are packed in the same
-// way.
-const NONE: u8 = 0;
+// The sets of slots that the table names.
+pub(crate) const NONE: Slots = Slots {
+    x: false,
+    y: false,
+    z: false,
+    f: false,
+};
 
-const XY: u8 = 3;
+pub(crate) const XY: Slots = Slots {
+    x: true,
+    y: true,
+    ..NONE
+};
 
-const XYZ: u8 = 7;
+pub(crate) const XYZ: Slots = Slots { z: true, ..XY };
 
-const XYZF: u8 = 15;
+pub(crate) const XYZF: Slots = Slots { f: true, ..XYZ };
 
-const ONLY_Y: u8 = 2;
+pub(crate) const XYF: Slots = Slots { f: true, ..XY };
 
-const ONLY_Z: u8 = 4;
+pub(crate) const ONLY_Y: Slots = Slots { y: true, ..NONE };
 
-const XYF: u8 = 11;
+pub(crate) const ONLY_Z: Slots = Slots { z: true, ..NONE };
 
-// The table is kept by columns, each by type number. A constant is made anew wherever it is read,
-// and a tick reads some columns for every cell.
+// The table is kept by columns, each by type number: a tick reads some columns for every cell.
 
 // The slots used.
-const USED: [u8; TYPES] = [
+static USED: [Slots; TYPES] = [
     NONE, XYZF, XY, XYZ, XYZF, XY, XY, XY, XYZ, XYZ, XYZF, XYZF, XYZF, XYZ, XYZ, XYZ, XYZF, XYZF,
     XYZF, XYZF, XYZF, XYZF, XYZF,
 ];
 
 // The edge slots.
-const EDGE: [u8; TYPES] = [
+static EDGE: [Slots; TYPES] = [
     NONE, ONLY_Y, NONE, NONE, NONE, NONE, NONE, NONE, XY, XY, NONE, NONE, ONLY_Y, ONLY_Z, XY, XY,
     XYF, XYF, ONLY_Y, ONLY_Y, ONLY_Y, XYF, XYF,
 ];
@@ -125,48 +151,42 @@ const LARGEST_CODE: Config = 65535;
 
 const LARGEST_DURATION: Config = 4294967295;
 
-// The largest configuration, 0 where there is none.
-const LARGEST: [Config; TYPES] = [
-    LARGEST_CONSTANT,
-    0,
-    15,
-    255,
-    LARGEST_CODE,
-    0,
-    0,
-    0,
-    LARGEST_DURATION,
-    LARGEST_DURATION,
-    0,
-    0,
-    0,
-    0,
-    LARGEST_DURATION,
-    LARGEST_DURATION,
-    LARGEST_DURATION,
-    LARGEST_DURATION,
-    0,
-    0,
-    0,
-    0,
-    0,
+// The largest configuration, of the types that have one.
+static LARGEST: [Option<Config>; TYPES] = [
+    Some(LARGEST_CONSTANT),
+    None,
+    Some(15),
+    Some(255),
+    Some(LARGEST_CODE),
+    None,
+    None,
+    None,
+    Some(LARGEST_DURATION),
+    Some(LARGEST_DURATION),
+    None,
+    None,
+    None,
+    None,
+    Some(LARGEST_DURATION),
+    Some(LARGEST_DURATION),
+    Some(LARGEST_DURATION),
+    Some(LARGEST_DURATION),
+    None,
+    None,
+    None,
+    None,
+    None,
 ];
-
-// A bit as a number.
-fn number(b: bool) -> u32
-    ensures { (result ≡ bit_number b) × (result ≤ 1) }
-{
-    if b { 1 } else { 0 }
-}
 
 // Four readings, packed: a number below 16.
 pub fn packed(x: bool, y: bool, z: bool, f: bool) -> u32
     ensures { (result ≡ place_of (slots x y z f)) × (result < 16) }
 {
-    number(x) + 2 * number(y) + 4 * number(z) + 8 * number(f)
+    u32::from(x) + 2 * u32::from(y) + 4 * u32::from(z) + 8 * u32::from(f)
 }
 
-// The slots of a packed set, or packed readings. Only the lowest four bits count.
+// Packed readings, taken apart. Only the lowest four bits count.
+#[tactic(auto, unfolding(crate::specs::Work::slots_of))]
 pub fn unpacked(p: u32) -> Slots
     ensures { result ≡ slots_of p }
 {
@@ -180,6 +200,7 @@ pub fn unpacked(p: u32) -> Slots
 }
 
 // What a type does. A number past the table is no cell type: such a cell does nothing.
+#[tactic(auto, unfolding(crate::specs::Table::row_of))]
 pub fn class_of(kind: u8) -> Class
     ensures { result ≡ (row_of kind).class }
 {
@@ -216,44 +237,35 @@ fn kept_by(class: Class) -> Kept
     ensures { result ≡ kept_by class }
 {
     match class {
-        Class::Nothing => Kept::Stateless,
-        Class::Constant => Kept::Stateless,
-        Class::Gate(_) => Kept::Stateless,
+        Class::Nothing | Class::Constant | Class::Gate(_) => Kept::Stateless,
         Class::Flop(_) => Kept::Bit,
-        Class::OneShot(_) => Kept::Count,
-        Class::Delay(_) => Kept::Count,
+        Class::OneShot(_) | Class::Delay(_) => Kept::Count,
         Class::Counter(_) => Kept::Counted,
     }
 }
 
-fn wide(b: u8) -> u32
-    ensures { result ≡ b }
-{
-    b as u32
-}
-
-// The slots that a type uses, packed; past the table none.
-pub fn used_of(kind: u8) -> u32
-    ensures { (result ≡ place_of (row_of kind).used) × (result < 16) }
+// The slots that a type uses; past the table none.
+pub fn used_of(kind: u8) -> Slots
+    ensures { result ≡ (row_of kind).used }
 {
     let n = kind as usize;
-    if n < TYPES { wide(USED[n]) } else { 0 }
+    if n < TYPES { USED[n] } else { NONE }
 }
 
-// Its edge slots, packed; past the table none.
-fn edge_of(kind: u8) -> u32
-    ensures { (result ≡ place_of (row_of kind).edge) × (result < 16) }
+// Its edge slots; past the table none.
+fn edge_of(kind: u8) -> Slots
+    ensures { result ≡ (row_of kind).edge }
 {
     let n = kind as usize;
-    if n < TYPES { wide(EDGE[n]) } else { 0 }
+    if n < TYPES { EDGE[n] } else { NONE }
 }
 
-// Its largest configuration; 0 where it has none, and past the table.
-fn largest_of(kind: u8) -> Config
+// Its largest configuration, if it has one.
+fn largest_of(kind: u8) -> Option<Config>
     ensures { result ≡ (row_of kind).largest }
 {
     let n = kind as usize;
-    if n < TYPES { LARGEST[n] } else { 0 }
+    if n < TYPES { LARGEST[n] } else { None }
 }
 
 // The whole row of a type. A number past the table has no slots and no configuration, keeps nothing
@@ -262,16 +274,11 @@ pub fn row_of(kind: u8) -> Row
     ensures { result ≡ row_of kind }
 {
     let class = class_of(kind);
-    let used = unpacked(used_of(kind));
-    let edge = unpacked(edge_of(kind));
-    let largest = largest_of(kind);
-    let kept = kept_by(class);
     Row {
-        used: used,
-        edge: edge,
-        configured: 0 < largest,
-        largest: largest,
-        class: class,
-        kept: kept,
+        used: used_of(kind),
+        edge: edge_of(kind),
+        largest: largest_of(kind),
+        class,
+        kept: kept_by(class),
     }
 }

@@ -1,13 +1,11 @@
 // Whether a quick tick works out a cell.
 ghost use Rattle.std.specs.Prelude.{◌≡◌};
-ghost use Rattle.cells.specs.Table.{masked};
-ghost use Rattle.cells.specs.State.{state};
 ghost use Rattle.cells.specs.Wake;
 ghost use Rattle.cells.specs.Wake.{timer_clock, timer_stirred, flop_clock, counter_clock, has_start, counter_stirred};
 ghost use Rattle.cells.specs.Wake.{stirred_as, has_edges};
 
-use crate::cell::Pulses;
-use crate::table::{Class, CounterKind, FlopKind, Slots, TYPES, class_of, unpacked, used_of};
+use crate::cell::{Pulses, State};
+use crate::table::{Class, CounterKind, FlopKind, Slots, TYPES, class_of, used_of};
 
 // Whether a timer's clock is high while there is something to count or to end.
 pub fn timer_clock(count: Pulses, pulse: bool, r: Slots) -> bool
@@ -28,9 +26,7 @@ pub fn flop_clock(flop: FlopKind, r: Slots) -> bool
     ensures { result ≡ flop_clock flop r }
 {
     match flop {
-        FlopKind::DFlop => r.y,
-        FlopKind::SyncDFlop => r.y,
-        FlopKind::ClearDFlop => r.y,
+        FlopKind::DFlop | FlopKind::SyncDFlop | FlopKind::ClearDFlop => r.y,
         FlopKind::Jk => r.z,
     }
 }
@@ -51,12 +47,10 @@ pub fn counter_clock(counter: CounterKind, active: bool, r: Slots) -> bool
 pub fn has_start(counter: CounterKind) -> bool
     ensures { result ≡ has_start counter }
 {
-    match counter {
-        CounterKind::WhileBoth => false,
-        CounterKind::WhileEither => false,
-        CounterKind::FromStart => true,
-        CounterKind::FromStartAtZero => true,
-    }
+    matches!(
+        counter,
+        CounterKind::FromStart | CounterKind::FromStartAtZero
+    )
 }
 
 // Whether a counter's start or stop is high, or that clock.
@@ -67,44 +61,25 @@ pub fn counter_stirred(counter: CounterKind, active: bool, r: Slots) -> bool
 }
 
 // Whether an edge that matters to the class is high among the used readings.
-fn stirred_as(class: Class, count: Pulses, bit: bool, pulse: bool, r: Slots) -> bool
-    ensures { result ≡ stirred_as class (state count bit pulse) r }
+#[tactic(auto, unfolding(crate::specs::Wake::stirred_as))]
+fn stirred_as(class: Class, s: State, r: Slots) -> bool
+    ensures { result ≡ stirred_as class s r }
 {
     match class {
-        Class::Nothing => false,
-        Class::Constant => false,
-        Class::Gate(_) => false,
+        Class::Nothing | Class::Constant | Class::Gate(_) => false,
         Class::Flop(flop) => flop_clock(flop, r),
-        Class::OneShot(_) => timer_stirred(count, pulse, r),
-        Class::Delay(_) => timer_stirred(count, pulse, r),
-        Class::Counter(counter) => counter_stirred(counter, bit, r),
+        Class::OneShot(_) | Class::Delay(_) => timer_stirred(s.count, s.pulse, r),
+        Class::Counter(counter) => counter_stirred(counter, s.bit, r),
     }
 }
 
 // Whether a cell of a type is stirred by what its slots read. Slots that the type does not use do
 // not count.
-pub fn stirred(kind: u8, count: Pulses, bit: bool, pulse: bool, r: Slots) -> bool
-    ensures { result ≡ Wake.stirred kind (state count bit pulse) r }
+#[tactic(auto, unfolding(crate::specs::Wake::stirred))]
+pub fn stirred(kind: u8, s: State, r: Slots) -> bool
+    ensures { result ≡ Wake.stirred kind s r }
 {
-    stirred_as(
-        class_of(kind),
-        count,
-        bit,
-        pulse,
-        within(unpacked(used_of(kind)), r),
-    )
-}
-
-// The readings of the slots of a set; a slot outside it reads low.
-pub fn within(set: Slots, r: Slots) -> Slots
-    ensures { result ≡ masked set r }
-{
-    Slots {
-        x: set.x & r.x,
-        y: set.y & r.y,
-        z: set.z & r.z,
-        f: set.f & r.f,
-    }
+    stirred_as(class_of(kind), s, r.within(used_of(kind)))
 }
 
 // The types that have edge slots, a bit for each: a tick on a quiet card asks this of every cell.

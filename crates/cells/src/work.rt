@@ -3,17 +3,17 @@ ghost use Rattle.std.specs.Prelude.{Bool, ◌≡◌};
 ghost use Rattle.cells.specs.declared.table.Class.TheVariants.{OneShot, Delay, Counter};
 ghost use Rattle.cells.specs.declared.cell.Pulses.{Pulses};
 ghost use Rattle.cells.specs.State.{state};
-ghost use Rattle.cells.specs.Reading.{three_from, slots_from};
+ghost use Rattle.cells.specs.Reading.{slots_at};
 ghost use Rattle.cells.specs.Work;
 ghost use Rattle.cells.specs.Work.{lookup_out, looked, d_flop, sync_d_flop, clear_d_flop, flop_next, shot_busy};
 ghost use Rattle.cells.specs.Work.{delay_busy, next_count, next_pulse, pulses};
 ghost use Rattle.cells.specs.Work.{count_after, pulse_after, started_by, active_after, kept_active, counted_up, work_as};
 ghost use Rattle.cells.specs.Work.{gate_out};
-ghost use Rattle.cells.specs.Effect.{worked_by, flop_of};
+ghost use Rattle.cells.specs.Effect.{worked_by};
 
 use crate::cell::{Config, Count, Pulses};
-use crate::reading::{QUARTERS, read};
-use crate::table::{CounterKind, GateKind, Slots, packed};
+use crate::reading::{Quarters, read};
+use crate::table::{CounterKind, FlopKind, GateKind, Slots, packed};
 
 // The bit of the code at the place that the readings choose.
 pub(crate) fn lookup(code: Config, r: Slots) -> bool
@@ -37,7 +37,7 @@ pub(crate) fn gate_out(gate: GateKind, code: Config, r: Slots) -> bool
 }
 
 // What a gate of four slots answers, and how many slots it looked at.
-#[derive(Clone, Copy)]
+#[derive(Clone, Copy, Debug, PartialEq, Eq)]
 pub struct Looked {
     pub out: bool,
     pub slots: u8,
@@ -45,9 +45,10 @@ pub struct Looked {
 
 // A gate of four slots looks at F first, then at Z, Y and X, and stops at the first slot whose
 // reading decides: a low one decides AND4, a high one OR4.
-pub fn look(deciding: bool, x: u8, y: u8, z: u8, f: u8, q: &[u64; QUARTERS]) -> Looked
-    ensures { result ≡ looked deciding (slots_from q.now x y z f) }
+pub fn look(deciding: bool, slots: [u8; 4], q: &Quarters) -> Looked
+    ensures { result ≡ looked deciding (slots_at q.now slots) }
 {
+    let [x, y, z, f] = slots;
     if read(q, f) == deciding {
         return Looked {
             out: deciding,
@@ -80,9 +81,10 @@ pub const DECIDES_OR: bool = true;
 // A flip-flop's next bit. It reads a slot only where those before it have not decided: what is held
 // in four bools would be packed into a word and taken apart.
 
-fn d_flop(bit: bool, x: u8, y: u8, z: u8, f: u8, q: &[u64; QUARTERS]) -> bool
-    ensures { result ≡ d_flop (slots_from q.now x y z f) bit }
+fn d_flop(bit: bool, slots: [u8; 4], q: &Quarters) -> bool
+    ensures { result ≡ d_flop (slots_at q.now slots) bit }
 {
+    let [x, y, z, f] = slots;
     if read(q, z) {
         false
     } else if read(q, f) {
@@ -94,9 +96,10 @@ fn d_flop(bit: bool, x: u8, y: u8, z: u8, f: u8, q: &[u64; QUARTERS]) -> bool
     }
 }
 
-fn sync_d_flop(bit: bool, x: u8, y: u8, z: u8, f: u8, q: &[u64; QUARTERS]) -> bool
-    ensures { result ≡ sync_d_flop (slots_from q.now x y z f) bit }
+fn sync_d_flop(bit: bool, slots: [u8; 4], q: &Quarters) -> bool
+    ensures { result ≡ sync_d_flop (slots_at q.now slots) bit }
 {
+    let [x, y, z, f] = slots;
     if read(q, y) {
         if read(q, z) {
             false
@@ -110,9 +113,10 @@ fn sync_d_flop(bit: bool, x: u8, y: u8, z: u8, f: u8, q: &[u64; QUARTERS]) -> bo
     }
 }
 
-fn clear_d_flop(bit: bool, x: u8, y: u8, z: u8, f: u8, q: &[u64; QUARTERS]) -> bool
-    ensures { result ≡ clear_d_flop (slots_from q.now x y z f) bit }
+fn clear_d_flop(bit: bool, slots: [u8; 4], q: &Quarters) -> bool
+    ensures { result ≡ clear_d_flop (slots_at q.now slots) bit }
 {
+    let [x, y, z, f] = slots;
     if read(q, z) {
         false
     } else if read(q, y) {
@@ -122,9 +126,10 @@ fn clear_d_flop(bit: bool, x: u8, y: u8, z: u8, f: u8, q: &[u64; QUARTERS]) -> b
     }
 }
 
-pub(crate) fn jk(bit: bool, x: u8, y: u8, z: u8, q: &[u64; QUARTERS]) -> bool
-    ensures { result ≡ Work.jk (three_from q.now x y z) bit }
+fn jk(bit: bool, slots: [u8; 4], q: &Quarters) -> bool
+    ensures { result ≡ Work.jk (slots_at q.now slots) bit }
 {
+    let [x, y, z, _] = slots;
     if read(q, z) {
         if read(q, x) {
             if read(q, y) { !bit } else { true }
@@ -136,18 +141,20 @@ pub(crate) fn jk(bit: bool, x: u8, y: u8, z: u8, q: &[u64; QUARTERS]) -> bool
     }
 }
 
-// The next bit of a flip-flop with D, by its type: 1, 12 or 18.
-pub(crate) fn flop(kind: u8, bit: bool, x: u8, y: u8, z: u8, f: u8, q: &[u64; QUARTERS]) -> bool
-    ensures { result ≡ flop_next (flop_of kind) (slots_from q.now x y z f) bit }
+// The next bit of a flip-flop.
+pub(crate) fn flop(flop: FlopKind, bit: bool, slots: [u8; 4], q: &Quarters) -> bool
+    ensures { result ≡ flop_next flop (slots_at q.now slots) bit }
 {
-    match kind {
-        1 => d_flop(bit, x, y, z, f, q),
-        12 => sync_d_flop(bit, x, y, z, f, q),
-        _ => clear_d_flop(bit, x, y, z, f, q),
+    match flop {
+        FlopKind::DFlop => d_flop(bit, slots, q),
+        FlopKind::SyncDFlop => sync_d_flop(bit, slots, q),
+        FlopKind::ClearDFlop => clear_d_flop(bit, slots, q),
+        FlopKind::Jk => jk(bit, slots, q),
     }
 }
 
 // Whether a timer takes its trigger.
+#[tactic(auto, unfolding(crate::specs::Work::taken))]
 fn taken(retrigger: bool, r: Slots, busy: bool) -> bool
     ensures { result ≡ Work.taken retrigger r busy }
 {
@@ -253,14 +260,13 @@ fn kept_active(counter: CounterKind, old: bool, new: bool) -> bool
     ensures { result ≡ kept_active counter old new }
 {
     match counter {
-        CounterKind::WhileBoth => old,
-        CounterKind::WhileEither => old,
-        CounterKind::FromStart => new,
-        CounterKind::FromStartAtZero => new,
+        CounterKind::WhileBoth | CounterKind::WhileEither => old,
+        CounterKind::FromStart | CounterKind::FromStartAtZero => new,
     }
 }
 
 // A count with one more, if there is room.
+#[tactic(auto, unfolding(crate::specs::Work::raised))]
 fn raised(count: Pulses) -> Pulses
     ensures { result ≡ pulses (Work.raised count.0) }
 {
@@ -286,7 +292,7 @@ fn counted_up(reset: bool, active: bool, clock: bool, count: Pulses) -> Pulses
 
 // What becomes of a cell: nothing, its output alone, or with that what is new in its state. A
 // caller writes back only what is new.
-#[derive(Clone, Copy)]
+#[derive(Clone, Copy, Debug, PartialEq, Eq)]
 pub enum Effect {
     // it was not worked out, and keeps its output
     Slept,
@@ -305,6 +311,7 @@ pub enum Effect {
 // Each of the families asks only for the parts of the state that matter to it, and says what
 // becomes of any state that has them.
 
+#[tactic(auto, unfolding(crate::specs::Work::work_as))]
 pub(crate) fn one_shot(retrigger: bool, config: Config, count: Pulses, r: Slots) -> Effect
     ensures { (bit pulse out : Bool)
         → let s = state count bit pulse in worked_by s out result ≡ work_as (OneShot retrigger) config s r }
@@ -313,6 +320,7 @@ pub(crate) fn one_shot(retrigger: bool, config: Config, count: Pulses, r: Slots)
     Effect::Count(count_after(took, Pulses(config), count, r))
 }
 
+#[tactic(auto, unfolding(crate::specs::Work::work_as))]
 pub(crate) fn delay(retrigger: bool, config: Config, count: Pulses, pulse: bool, r: Slots) -> Effect
     ensures { (bit out : Bool)
         → let s = state count bit pulse in worked_by s out result ≡ work_as (Delay retrigger) config s r }
@@ -322,6 +330,7 @@ pub(crate) fn delay(retrigger: bool, config: Config, count: Pulses, pulse: bool,
     Effect::Timed(next, pulse_after(took, Pulses(config), count, pulse, r))
 }
 
+#[tactic(auto, unfolding(crate::specs::Work::work_as))]
 pub(crate) fn counter(counter: CounterKind, count: Pulses, bit: bool, r: Slots) -> Effect
     ensures { (pulse out : Bool)
         → let s = state count bit pulse in worked_by s out result ≡ work_as (Counter counter) 0 s r }

@@ -1,4 +1,5 @@
 -- Laws of 18: of the settings of m cells a card of n, no more, can hold those that set and read no cell above n.
+use Rattle.std.specs.Prelude.{unwrap_or}
 use Prim.Native.Nat.{ℕ, zero, suc, ◌+◌, ◌-◌, ◌≤◌, ◌<◌, zero-le}
 use mathlib.Core.Path.{◌≡◌, refl, sym, ap, ap₂, ◌∙◌}
 use mathlib.Core.Bool.{Bool, true, false, not, ◌&&◌, ◌||◌, and-true, and-false, and_assoc}
@@ -127,7 +128,7 @@ module _ (n m : ℕ) (few : n ≤ m) (most : m ≤ cell_room) where
       let row = row_of cell.kind in
       let s = cell.slots in
       let q : ℕ → Bool = λ i. not (reads_above n m (get_or s i 0)) in
-      let head = and_left (not (bad_cell_type cell.kind) && leb cell.config row.largest) (valid_slots m row s) ok in
+      let head = and_left (not (bad_cell_type cell.kind) && leb cell.config (unwrap_or row.largest 0)) (valid_slots m row s) ok in
       let pass = all-four _ _ _ _ (and_right (eqb (length s) 4) _ (slots-pass m cell ok)) in
       let x = slot-below row.used.x row.edge.x (get_or s 0 0) pass.0 in
       let y = slot-below row.used.y row.edge.y (get_or s 1 0) pass.1 in

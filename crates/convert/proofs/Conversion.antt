@@ -1,4 +1,5 @@
 -- The promises of a conversion, over the number n of cells.
+use Rattle.std.specs.Prelude.{unwrap_or}
 use Prim.Native.Nat.{ℕ, zero, suc, ◌+◌, ◌-◌, ◌^◌, ◌≤◌, ◌<◌}
 use mathlib.Core.Path.{◌≡◌, refl, sym, ap, ap₂, subst, ◌∙◌}
 use mathlib.Core.Bool.{Bool, true, false, not, ◌&&◌, ◌||◌, true≢false, and-false}
@@ -451,8 +452,8 @@ unfolding narrow_cell timer
 only_durations n cell ok long =
     let over : largest_narrow < cell.config = leb-false cell.config largest_narrow long in
     let row = row_of cell.kind in
-    let large : leb row.largest largest_narrow ≡ false = lt-leb row.largest largest_narrow (omega (arith, config-most n cell ok)) in
-    let test = every-row (λ (r : Row). leb r.largest largest_narrow || timer r.kept) refl cell.kind in
+    let large : leb (unwrap_or row.largest 0) largest_narrow ≡ false = lt-leb (unwrap_or row.largest 0) largest_narrow (omega (arith, config-most n cell ok)) in
+    let test = every-row (λ (r : Row). leb (unwrap_or r.largest 0) largest_narrow || timer r.kept) refl cell.kind in
     only-timer row.kept (rw large at test)
 
 -- by the tests that are left once the loader has none

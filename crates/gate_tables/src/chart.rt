@@ -8,7 +8,7 @@
 use crate::{put, put_byte, put_field, put_number};
 use Slot::{F, X, Y, Z};
 use cells::cell::{Cell, Config, Pulses, State, Worked};
-use cells::reading::QUARTERS;
+use cells::reading::{Quarters, Seen};
 use cells::table::{Row, Slots, TYPES, packed, row_of, unpacked};
 use cells::work::{DECIDES_AND, DECIDES_OR, Effect, Looked, look};
 
@@ -73,7 +73,7 @@ fn reading(step: Step) -> Slots {
 }
 
 fn put_slots(set: Slots) {
-    let none = !(set.x || set.y || set.z || set.f);
+    let none = !set.any();
     let letters = [
         (set.x, b'X'),
         (set.y, b'Y'),
@@ -90,10 +90,9 @@ fn put_slots(set: Slots) {
 }
 
 fn put_largest(row: Row) {
-    if row.configured {
-        put_number(row.largest as u64);
-    } else {
-        put_byte(b'-');
+    match row.largest {
+        Some(largest) => put_number(u64::from(largest)),
+        None => put_byte(b'-'),
     }
 }
 
@@ -125,7 +124,7 @@ fn put_step(r: Slots, w: Worked) {
 }
 
 // Words of which the addresses 0 to 3 read these four.
-fn levels(r: Slots) -> [u64; QUARTERS] {
+fn levels(r: Slots) -> Quarters {
     let p = packed(r.x, r.y, r.z, r.f);
     [p as u64, 0, 0, 0]
 }
@@ -154,14 +153,14 @@ fn step(kind: u8, s: State, r: Slots) -> State {
         bit: s.bit,
         pulse: s.pulse,
     };
-    let t = cells::step::step(true, false, cell, 0, 1, 2, 3, &q, &q);
+    let t = cells::step::step(true, false, cell, &Seen { reads: q, moved: q });
     let w = worked(s, t.effect);
     put_step(r, w);
     w.state
 }
 
 fn put_duration(row: Row) {
-    if row.configured {
+    if row.largest.is_some() {
         put(b" duration ");
         put_number(DURATION as u64);
     }
@@ -186,7 +185,7 @@ fn put_course(kind: u8, steps: &[Step]) {
 // How a gate of four slots looks at these readings.
 fn look_at(deciding: bool, r: Slots) -> Looked {
     let q = levels(r);
-    look(deciding, 0, 1, 2, 3, &q)
+    look(deciding, [0, 1, 2, 3], &q)
 }
 
 fn put_look(kind: u8, r: Slots, l: Looked) {

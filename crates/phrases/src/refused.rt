@@ -62,13 +62,9 @@ fn put_preset(page: &mut Page, v: Number, size: u8) {
 
 // 9: no configuration, or over its range.
 fn put_config(page: &mut Page, cell: Cell) {
-    let row = row_of(cell.kind);
     let name = type_name(cell.kind);
-    if row.configured {
-        return page.say(format_args!(
-            "    9: {name} takes a configuration from 0 to {}.\n",
-            row.largest
-        ));
+    if let Some(largest) = row_of(cell.kind).largest {
+        return page.say(format_args!("    9: {name} takes a configuration from 0 to {largest}.\n"));
     }
     if is_counter(cell.kind) {
         return page.say(format_args!(

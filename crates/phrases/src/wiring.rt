@@ -44,7 +44,7 @@ fn put_slots(page: &mut Page, cell: Cell) {
 pub fn put_cell(page: &mut Page, i: u8, cell: Cell) {
     let kind = cell.kind;
     page.say(format_args!("    {}: {}", CellName(i), type_name(kind)));
-    if row_of(kind).configured {
+    if row_of(kind).largest.is_some() {
         let config = cell.config;
         page.say(format_args!(", {}", Setting { kind, config }));
     }

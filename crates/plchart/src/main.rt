@@ -7,7 +7,7 @@ ghost use Rattle.std.proofs.lemmas.List.Edits.{sets};
 ghost use Rattle.card.specs.Address.{cell_count};
 ghost use Rattle.plchart.specs.Rows.{field_text, row_text, chart_text, field_most, row_most, text_most};
 
-use card::chart::{ADDRESSES, Entry, chart, entry_of};
+use card::chart::{ADDRESSES, Entry, entry_of};
 use card::limits::SMALL;
 
 // The most bytes of a field, ten digits and what ends it, and of a row. All rows have room in this
@@ -50,11 +50,10 @@ fn put_chart(out: &mut [u8; TEXT_MOST]) -> usize
     ensures value { result ≡ length (chart_text cell_count) }
     ensures upper_bound { result ≤ text_most }
 {
-    let chart = chart();
     let mut at = 0;
     for a in 0..ADDRESSES {
         let a = a as u8;
-        at = put_row(out, at, a, entry_of(&chart, a, SMALL));
+        at = put_row(out, at, a, entry_of(a, SMALL));
     }
     at
 }

@@ -15,8 +15,8 @@ use crate::cell::{Reasons, reasons_of};
 use card::card::Card;
 use card::limits::{CELLS, CellWord, EditedSet};
 use card::place::cells_for;
-use cells::cell::{Cell, state_of};
-use cells::reading::{address, four};
+use cells::cell::{Cell, State};
+use cells::reading::read_slots;
 use cells::table::Slots;
 use ticks::tick::{Ticked, full_tick, quick_tick, seen_memory};
 use ticks::view::{Input, Wires, wires_of, words_last, words_now};
@@ -31,15 +31,10 @@ fn reasons_at(cell: Cell, i: u32, edited: EditedSet, w: Wires, below: CellWord, 
 {
     let q = words_now(i, below, w);
     let p = words_last(i, w);
-    let s = cell.slots;
-    let x = address(s[0]);
-    let y = address(s[1]);
-    let z = address(s[2]);
-    let f = address(s[3]);
-    let is_edited = words::bit(edited as u64, i);
-    let now = four(&q, x, y, z, f);
-    let last = four(&p, x, y, z, f);
-    reasons_of(cell.kind, state_of(cell), is_edited, now, last)
+    let is_edited = words::bit(edited, i);
+    let now = read_slots(&q, cell.slots);
+    let last = read_slots(&p, cell.slots);
+    reasons_of(cell.kind, State::from(cell), is_edited, now, last)
 }
 
 // No cell has a reason.

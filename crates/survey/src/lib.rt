@@ -14,7 +14,7 @@ use card::connectors::connector_at;
 use card::limits::{CELLS, CONNECTORS, CellWord, FIRST_CONNECTOR, Number, OPEN_DRAIN, PUSH_PULL};
 use card::place::{cells_for, is_connector};
 use cells::cell::Cell;
-use cells::table::{unpacked, used_of};
+use cells::table::{Slots, used_of};
 use ticks::view::sees;
 
 // The number for a place that is no connector's.
@@ -23,7 +23,7 @@ const NO_PLACE: u8 = 5;
 // What a survey gives: 0, or 5 for a place that is no connector's, and what depends on the
 // connector, as a word with a bit for each cell and a word in the sample's order.
 #[repr(C)]
-#[derive(Clone, Copy)]
+#[derive(Clone, Copy, Debug, PartialEq, Eq)]
 pub struct Surveyed {
     pub k: u8,
     pub cells: CellWord,
@@ -31,7 +31,7 @@ pub struct Surveyed {
 }
 
 // Two words of what depends on a line.
-#[derive(Clone, Copy)]
+#[derive(Clone, Copy, Debug, PartialEq, Eq)]
 struct Found {
     cells: CellWord,
     connectors: u16,
@@ -51,24 +51,25 @@ fn holds(set: u64, address: u8) -> bool
 }
 
 // Whether a cell has a used slot whose base is in the set.
+#[tactic(auto, unfolding(crate::specs::Survey::reads_set))]
 fn reads_set(cell: Cell, set: u64) -> bool
     ensures { result ≡ reads_set (bit_at set) cell }
 {
-    let used = unpacked(used_of(cell.kind));
-    let s = cell.slots;
-    let x = holds(set, s[0]);
-    let y = holds(set, s[1]);
-    let z = holds(set, s[2]);
-    let f = holds(set, s[3]);
-    ((used.x & x) | (used.y & y)) | ((used.z & z) | (used.f & f))
+    let [x, y, z, f] = cell.slots;
+    let held = Slots {
+        x: holds(set, x),
+        y: holds(set, y),
+        z: holds(set, z),
+        f: holds(set, f),
+    };
+    held.within(used_of(cell.kind)).any()
 }
 
 // Whether a connector is an output whose source's base is in the set.
 fn driven_from(c: Connector, set: u64) -> bool
     ensures { result ≡ driven_from (bit_at set) c }
 {
-    let from = holds(set, c.source);
-    ((c.kind == OPEN_DRAIN) | (c.kind == PUSH_PULL)) & from
+    ((c.kind == OPEN_DRAIN) | (c.kind == PUSH_PULL)) & holds(set, c.source)
 }
 
 // The cells that read the set, of the first n.
@@ -144,11 +145,9 @@ pub fn dependents(card: Card, place: Number) -> Surveyed
         };
     }
     let n = cells_for(card.size);
-    let cells = card.cells;
-    let connectors = card.connectors;
     let r = reach(
-        cells,
-        connectors,
+        card.cells,
+        card.connectors,
         (place - FIRST_CONNECTOR as Number) as u32,
         n,
     );

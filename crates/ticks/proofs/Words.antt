@@ -14,7 +14,7 @@ use borrow.Author.Tests.{lt-ltb, le-ltb}
 use Rattle.words.specs.Bits.{bit_at, word_of}
 use Rattle.words.proofs.Laws.{bit-xor}
 use Rattle.cells.specs.Table.{slots}
-use Rattle.cells.specs.Reading.{read_from, slots_from}
+use Rattle.cells.specs.Reading.{read_from, slots_at}
 use Rattle.cells.proofs.Laws.{changes}
 use Rattle.ticks.specs.Reading.{level_at, reads, slots_read, mixed, view}
 use Rattle.ticks.specs.Words.{ReadsAs, Differ, MovesAs}
@@ -48,27 +48,21 @@ differ-moves now last earlier d p q e rp rq a h = e a h ∙ ap₂ (λ (x y : Boo
 
 -- ---- the slots of a cell
 
--- the addresses that the code has for the slots are those of the cell
-pub record Holds (s : List ℕ) (x y z f : ℕ) : Type 0 where
-  pub at_x : (x ≡ get_or s 0 0) × (x < 256)
-  pub at_y : (y ≡ get_or s 1 0) × (y < 256)
-  pub at-z : (z ≡ get_or s 2 0) × (z < 256)
-  pub at_f : (f ≡ get_or s 3 0) × (f < 256)
+-- the addresses in the slots are bytes
+pub record Bytes (s : List ℕ) : Type 0 where
+  pub at_x : get_or s 0 0 < 256
+  pub at_y : get_or s 1 0 < 256
+  pub at_z : get_or s 2 0 < 256
+  pub at_f : get_or s 3 0 < 256
 
-pub slots-as : (now before : ℕ → Bool) (q s : List ℕ) (x y z f : ℕ) → ReadsAs q now before → Holds s x y z f → slots_from q x y z f ≡ slots_read now before s
+pub slots-as : (now before : ℕ → Bool) (q s : List ℕ) → ReadsAs q now before → Bytes s → slots_at q s ≡ slots_read now before s
 unfolding ReadsAs slots_read
-slots-as now before q s x y z f r h = λ i. slots (at x _ h.at_x i) (at y _ h.at_y i) (at z _ h.at-z i) (at f _ h.at_f i)
-  where
-    at : (a b : ℕ) → (a ≡ b) × (a < 256) → read_from q a ≡ reads now before b
-    at a b e = r a e.1 ∙ ap (reads now before) e.0
+slots-as now before q s r h = λ i. slots (r _ h.at_x i) (r _ h.at_y i) (r _ h.at_z i) (r _ h.at_f i)
 
-pub slots-moved : (now last earlier : ℕ → Bool) (d s : List ℕ) (x y z f : ℕ) → MovesAs d now last earlier → Holds s x y z f
-    → slots_from d x y z f ≡ changes (slots_read now last s) (slots_read last earlier s)
+pub slots-moved : (now last earlier : ℕ → Bool) (d s : List ℕ) → MovesAs d now last earlier → Bytes s
+    → slots_at d s ≡ changes (slots_read now last s) (slots_read last earlier s)
 unfolding MovesAs slots_read
-slots-moved now last earlier d s x y z f m h = λ i. slots (at x _ h.at_x i) (at y _ h.at_y i) (at z _ h.at-z i) (at f _ h.at_f i)
-  where
-    at : (a b : ℕ) → (a ≡ b) × (a < 256) → read_from d a ≡ not (beq (reads now last b) (reads last earlier b))
-    at a b e = m a e.1 ∙ ap (λ (k : ℕ). not (beq (reads now last k) (reads last earlier k))) e.0
+slots-moved now last earlier d s m h = λ i. slots (m _ h.at_x i) (m _ h.at_y i) (m _ h.at_z i) (m _ h.at_f i)
 
 -- ---- the next reader
 

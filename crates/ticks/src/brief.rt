@@ -2,21 +2,20 @@
 // memory and the tick total alone, and these are made without a card.
 ghost use Rattle.std.specs.Prelude.{true, false, ◌≡◌};
 ghost use Rattle.card.specs.Address.{cells_for};
-ghost use Rattle.ticks.specs.Brief.{one_more, slept_brief, BriefOf};
+ghost use Rattle.ticks.specs.Brief.{slept_brief, BriefOf};
 ghost use Rattle.ticks.specs.Tick.{idle_answer};
 
 use crate::connectors::Lines;
 use crate::quiet::{is_quiet, unchanged};
-use crate::tick::{Answer, lines_in, seen_memory};
+use crate::tick::{Answer, IDLE, lines_in, moved_on, seen_memory};
 use crate::view::{Input, wires_of};
 use card::card::{Card, Memory};
 use card::place::cells_for;
+use card::tallies::counted;
 use cells::cell::Ticks;
 
-const STANDSTILL: u32 = 4294967295;
-
 // The lines of a tick; and where it is quiet, all that it changes, and its answer.
-#[derive(Clone, Copy)]
+#[derive(Clone, Copy, Debug, PartialEq, Eq)]
 pub struct Brief {
     pub memory: Memory,
     pub total: Ticks,
@@ -29,52 +28,23 @@ pub struct Brief {
 pub fn no_answer() -> Answer
     ensures { result ≡ idle_answer }
 {
-    Answer {
-        ran: false,
-        driven: 0,
-        cells: 0,
-        woken: 0,
-        count: 0,
-    }
-}
-
-// The tick total after a tick that ran.
-fn one_more(total: Ticks) -> Ticks
-    ensures { result ≡ one_more total }
-{
-    if total.0 < STANDSTILL {
-        Ticks(total.0 + 1)
-    } else {
-        total
-    }
+    IDLE
 }
 
 fn slept(m: Memory, l: Lines, total: Ticks, quiet: bool) -> Brief
     ensures { result ≡ slept_brief m l total quiet }
 {
-    let memory = Memory {
-        driven: l.driven,
-        pulled: l.pulled,
-        outputs: m.outputs,
-        outputs2: m.outputs,
-        outputs3: m.outputs2,
-        levels: l.levels,
-        levels2: m.levels,
-    };
-    let answer = Answer {
-        ran: true,
-        driven: l.driven,
-        cells: m.outputs,
-        woken: 0,
-        count: 0,
-    };
-    let more = one_more(total);
     Brief {
-        memory: memory,
-        total: more,
-        answer: answer,
+        memory: moved_on(m, l, m.outputs),
+        total: counted(total),
+        answer: Answer {
+            ran: true,
+            driven: l.driven,
+            cells: m.outputs,
+            ..IDLE
+        },
         lines: l,
-        quiet: quiet,
+        quiet,
     }
 }
 
@@ -85,14 +55,11 @@ pub fn in_brief(card: Card, input: Input) -> Brief
 {
     let n = cells_for(card.size);
     let m = seen_memory(card.memory, n);
-    let connectors = card.connectors;
-    let l = lines_in(connectors, m, input);
-    let tallies = card.tallies;
+    let l = lines_in(card.connectors, m, input);
     let w = wires_of(m, l.levels);
     if (card.edited != 0) | !unchanged(w) {
-        return slept(m, l, tallies.total, false);
+        return slept(m, l, card.tallies.total, false);
     }
-    let cells = card.cells;
-    let quiet = is_quiet(cells, card.edited, w, n);
-    slept(m, l, tallies.total, quiet)
+    let quiet = is_quiet(card.cells, card.edited, w, n);
+    slept(m, l, card.tallies.total, quiet)
 }

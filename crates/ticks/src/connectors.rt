@@ -8,10 +8,10 @@ ghost use Rattle.ticks.specs.Words.{ReadsAs};
 use crate::view::quarters;
 use card::card::Connectors;
 use card::limits::BACKPLANE;
-use cells::reading::{QUARTERS, read};
+use cells::reading::{Quarters, read};
 
 // The driven word of a tick, the lines of the backplane that it pulls low, and the levels.
-#[derive(Clone, Copy)]
+#[derive(Clone, Copy, Debug, PartialEq, Eq)]
 pub struct Lines {
     pub driven: u16,
     pub pulled: u16,
@@ -28,7 +28,7 @@ pub fn effective(sample: u16, attached: u16) -> u16
 
 // Whether an address is high. Address 0 never is, and is not read: an output that nothing feeds has
 // it as its source.
-fn is_high(q: &[u64; QUARTERS], source: u8) -> bool
+fn is_high(q: &Quarters, source: u8) -> bool
     ensures { (f g : ℕ → Bool) → ReadsAs q.now f g → f 0 ≡ false → result ≡ reads f g source }
 {
     if source == 0 {
@@ -82,8 +82,8 @@ pub(crate) fn drive(connectors: Connectors, now: u64, before: u64, sample: u16) 
     let pulled = pulled_by(connectors, driven);
     let levels = levels_from(connectors.push_pull, connectors.open_drain, driven, sample);
     Lines {
-        driven: driven,
-        pulled: pulled,
-        levels: levels,
+        driven,
+        pulled,
+        levels,
     }
 }

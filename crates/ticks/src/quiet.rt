@@ -2,6 +2,7 @@
 // readers see one view, level slots read as they did, and a cell sleeps unless an edge slot of it
 // is high all the same.
 ghost use Rattle.std.specs.Prelude.{true, false, ◌≡◌, ◌^◌, ◌≤◌, ◌<◌, length};
+ghost use Rattle.std.specs.List.{list_all};
 ghost use Rattle.words.specs.Bits.{bit_at};
 ghost use Rattle.card.specs.Address.{cell_room};
 ghost use Rattle.ticks.specs.Rest.{steady, cell_rests, all_rest, is_quiet, slept_all};
@@ -9,8 +10,9 @@ ghost use Rattle.ticks.specs.Tick.{turned};
 
 use crate::view::{Wires, quarters, sees};
 use card::limits::{CELLS, EditedSet};
-use cells::cell::Cell;
-use cells::reading::{address, four};
+use cells::cell::{Cell, State};
+use cells::reading::read_slots;
+use cells::wake::{has_edges, stirred};
 
 // Whether no word has changed in the last two ticks.
 pub fn unchanged(w: Wires) -> bool
@@ -25,35 +27,27 @@ pub fn unchanged(w: Wires) -> bool
 fn rests(cell: Cell, view: u64) -> bool
     ensures { result ≡ cell_rests (bit_at view) cell }
 {
-    if !cells::wake::has_edges(cell.kind) {
+    if !has_edges(cell.kind) {
         return true;
     }
     let q = quarters(view, view);
-    let s = cell.slots;
-    let x = address(s[0]);
-    let y = address(s[1]);
-    let z = address(s[2]);
-    let f = address(s[3]);
-    !cells::wake::stirred(
-        cell.kind,
-        cell.count,
-        cell.bit,
-        cell.pulse,
-        four(&q, x, y, z, f),
-    )
+    !stirred(cell.kind, State::from(cell), read_slots(&q, cell.slots))
 }
 
+// Whether nothing stirs some cells.
+fn rest_among(cells: &[Cell], view: u64) -> bool
+    ensures { result ≡ list_all (cell_rests (bit_at view)) cells.now }
+{
+    cells.iter().all(|&cell| rests(cell, view))
+}
+
+// Whether nothing stirs the first n cells.
 pub fn all_rest(cells: [Cell; CELLS], view: u64, n: u8) -> bool
     requires { n ≤ cell_room }
     ensures value { result ≡ all_rest n (bit_at view) cells }
     ensures cells_len { length cells ≡ cell_room }
 {
-    for i in 0..n as usize {
-        if !rests(cells[i], view) {
-            return false;
-        }
-    }
-    true
+    rest_among(&cells[..n as usize], view)
 }
 
 // Whether a quick tick takes the fast path, in which it leaves every cell as it is. It may say no

@@ -29,13 +29,11 @@ fn rests_on(card: Card, input: Input, n: u8) -> bool
     ensures { Decides result (AtRest n card input) }
 {
     let m = card.memory;
-    let connectors = card.connectors;
-    let l = lines_in(connectors, m, input);
+    let l = lines_in(card.connectors, m, input);
     if ((l.driven != m.driven) | (l.pulled != m.pulled)) | (l.levels != m.levels) {
         return false;
     }
-    let cells = card.cells;
-    all_rest(cells, sees(0, m.outputs, m.outputs, m.levels), n)
+    all_rest(card.cells, sees(0, m.outputs, m.outputs, m.levels), n)
 }
 
 // Whether a quick tick with the input would name no cell and leave all but the tick total as it is.

@@ -14,19 +14,19 @@ ghost use Rattle.ticks.specs.Words.{ReadsAs, MovesAs, shifted_at, FitsMemory};
 
 use crate::connectors::{Lines, drive, effective};
 use crate::quiet::is_quiet;
-use crate::view::{ALL, Input, Wires, sees, wires_of, words_moved, words_now};
+use crate::view::{ALL, Input, Wires, seen_by, sees, wires_of};
 use card::card::{Card, Connectors, Memory};
 use card::edits::all_edited;
 use card::limits::{CELLS, CellWord, EditedSet};
 use card::place::cells_for;
 use card::tallies::tally;
 use cells::cell::Cell;
-use cells::reading::{QUARTERS, address};
+use cells::reading::Seen;
 use cells::step::{Stepped, step};
 use cells::work::Effect;
 
 // What a tick makes of all cells.
-#[derive(Clone, Copy)]
+#[derive(Clone, Copy, Debug, PartialEq, Eq)]
 pub struct Turned {
     pub cells: [Cell; CELLS],
     pub outputs: CellWord,
@@ -36,7 +36,7 @@ pub struct Turned {
 
 // A tick's answer. An idle tick has not run, and its words are 0.
 #[repr(C)]
-#[derive(Clone, Copy)]
+#[derive(Clone, Copy, Debug, PartialEq, Eq)]
 pub struct Answer {
     pub ran: bool,
     pub driven: u16,
@@ -45,33 +45,30 @@ pub struct Answer {
     pub count: u32,
 }
 
+// That of an idle tick.
+pub(crate) const IDLE: Answer = Answer {
+    ran: false,
+    driven: 0,
+    cells: 0,
+    woken: 0,
+    count: 0,
+};
+
 #[repr(C)]
-#[derive(Clone, Copy)]
+#[derive(Clone, Copy, Debug, PartialEq, Eq)]
 pub struct Ticked {
     pub card: Card,
     pub answer: Answer,
 }
 
-// A cell asked and, where it is due, worked out. q holds what the addresses read, d which of them
-// have changed since the last tick.
-fn stepped(
-    full: bool,
-    edited: bool,
-    cell: Cell,
-    q: &[u64; QUARTERS],
-    d: &[u64; QUARTERS],
-) -> Stepped
-    ensures { (f g h : ℕ → Bool) → ReadsAs q.now f g → MovesAs d.now f g h →
+// A cell asked and, where it is due, worked out.
+fn stepped(full: bool, edited: bool, cell: Cell, seen: &Seen) -> Stepped
+    ensures { (f g h : ℕ → Bool) → ReadsAs seen.now.reads f g → MovesAs seen.now.moved f g h →
         let read = slots_read f g cell.slots in
         StepsTo result full (rules_name cell edited read (slots_read g h cell.slots)) (state_of cell)
         (work_out cell.kind cell.config (state_of cell) read) (looked_at cell.kind read) }
 {
-    let s = cell.slots;
-    let x = address(s[0]);
-    let y = address(s[1]);
-    let z = address(s[2]);
-    let f = address(s[3]);
-    step(full, edited, cell, x, y, z, f, q, d)
+    step(full, edited, cell, seen)
 }
 
 // The first n bits of a word.
@@ -87,11 +84,12 @@ pub fn seen_memory(m: Memory, n: u8) -> Memory
     requires { n ≤ cell_room }
     ensures { result ≡ trimmed n m }
 {
-    let mut next = m;
-    next.outputs = low(m.outputs as EditedSet, n);
-    next.outputs2 = low(m.outputs2 as EditedSet, n);
-    next.outputs3 = low(m.outputs3 as EditedSet, n);
-    next
+    Memory {
+        outputs: low(m.outputs as EditedSet, n),
+        outputs2: low(m.outputs2 as EditedSet, n),
+        outputs3: low(m.outputs3 as EditedSet, n),
+        ..m
+    }
 }
 
 // The cells that are worked out: all in a full tick, and those that the rules name.
@@ -148,6 +146,21 @@ pub(crate) fn lines_in(connectors: Connectors, m: Memory, input: Input) -> Lines
     drive(connectors, now, before, sample)
 }
 
+// The memory after a tick that ran, with what it drove, pulled low and showed, and its outputs.
+pub(crate) fn moved_on(m: Memory, l: Lines, outputs: CellWord) -> Memory
+    ensures { result ≡ Tick.moved m l outputs }
+{
+    Memory {
+        driven: l.driven,
+        pulled: l.pulled,
+        outputs,
+        outputs2: m.outputs,
+        outputs3: m.outputs2,
+        levels: l.levels,
+        levels2: m.levels,
+    }
+}
+
 // The card after a tick that ran, and its answer. The cells are turned already, and the memory m is
 // moved on; `named` are the cells that the rules name.
 fn ran_with(
@@ -161,31 +174,19 @@ fn ran_with(
     ensures { (n : ℕ) → n ≤ cell_room → named < 2 ^ n
         → result ≡ ran_with n m card l (turned_to card.cells outputs named woken) }
 {
-    let memory = Memory {
-        driven: l.driven,
-        pulled: l.pulled,
-        outputs: outputs,
-        outputs2: m.outputs,
-        outputs3: m.outputs2,
-        levels: l.levels,
-        levels2: m.levels,
-    };
     let tallies = tally(card.tallies, named);
     let mut next = card;
     next.edited = 0;
-    next.memory = memory;
+    next.memory = moved_on(m, l, outputs);
     next.tallies = tallies;
     let answer = Answer {
         ran: true,
         driven: l.driven,
         cells: outputs,
-        woken: woken,
-        count: u32::count_ones(woken),
+        woken,
+        count: woken.count_ones(),
     };
-    Ticked {
-        card: next,
-        answer: answer,
-    }
+    Ticked { card: next, answer }
 }
 
 // A tick that runs: the turns of all cells, in order. The outputs start as those of the last tick,
@@ -202,12 +203,11 @@ fn turn_each(full: bool, card: Card, m: Memory, l: Lines, n: u8) -> Ticked
     let mut next = card;
     let mut outputs = w.outputs;
     let mut named: EditedSet = 0;
-    let mut q = words_now(0, outputs, w);
-    let mut d = words_moved(0, outputs, w);
+    let mut seen = seen_by(0, outputs, w);
     for i in 0..n as u32 {
         let at = i as usize;
         let edited = words::bit(card.edited, i);
-        let step = stepped(full, edited, next.cells[at], &q, &d);
+        let step = stepped(full, edited, next.cells[at], &seen);
         let last = words::bit(outputs as u64, i);
         let mut out = last;
         let effect = step.effect;
@@ -217,29 +217,27 @@ fn turn_each(full: bool, card: Card, m: Memory, l: Lines, n: u8) -> Ticked
                 out = o;
             }
             Effect::Bit(b) => {
-                let mut cell = next.cells[at];
-                cell.bit = b;
-                next.cells[at] = cell;
+                next.cells[at].bit = b;
                 out = b;
             }
             Effect::Count(n) => {
-                let mut cell = next.cells[at];
-                cell.count = n;
-                next.cells[at] = cell;
+                next.cells[at].count = n;
                 out = 0 < n.0;
             }
             Effect::Timed(n, p) => {
-                let mut cell = next.cells[at];
-                cell.count = n;
-                cell.pulse = p;
-                next.cells[at] = cell;
+                next.cells[at] = Cell {
+                    count: n,
+                    pulse: p,
+                    ..next.cells[at]
+                };
                 out = p;
             }
             Effect::Counted(n, b, o) => {
-                let mut cell = next.cells[at];
-                cell.count = n;
-                cell.bit = b;
-                next.cells[at] = cell;
+                next.cells[at] = Cell {
+                    count: n,
+                    bit: b,
+                    ..next.cells[at]
+                };
                 out = o;
             }
         }
@@ -250,8 +248,7 @@ fn turn_each(full: bool, card: Card, m: Memory, l: Lines, n: u8) -> Ticked
             moved = true;
         }
         if moved {
-            q = words_now(i + 1, outputs, w);
-            d = words_moved(i + 1, outputs, w);
+            seen = seen_by(i + 1, outputs, w);
         }
     }
     let woken = woken_by(full, named, n);
@@ -269,17 +266,7 @@ fn is_own(code: u8, trigger: u8) -> bool
 pub fn idle(card: Card) -> Ticked
     ensures { result ≡ Tick.idle card }
 {
-    let answer = Answer {
-        ran: false,
-        driven: 0,
-        cells: 0,
-        woken: 0,
-        count: 0,
-    };
-    Ticked {
-        card: card,
-        answer: answer,
-    }
+    Ticked { card, answer: IDLE }
 }
 
 // Every cell is worked out.
@@ -291,8 +278,7 @@ pub fn full_tick(card: Card, input: Input) -> Ticked
     }
     let n = cells_for(card.size);
     let m = seen_memory(card.memory, n);
-    let connectors = card.connectors;
-    let l = lines_in(connectors, m, input);
+    let l = lines_in(card.connectors, m, input);
     turn_each(true, card, m, l, n)
 }
 
@@ -305,10 +291,8 @@ pub fn quick_tick(card: Card, input: Input) -> Ticked
     }
     let n = cells_for(card.size);
     let m = seen_memory(card.memory, n);
-    let connectors = card.connectors;
-    let l = lines_in(connectors, m, input);
-    let cells = card.cells;
-    if is_quiet(cells, card.edited, wires_of(m, l.levels), n) {
+    let l = lines_in(card.connectors, m, input);
+    if is_quiet(card.cells, card.edited, wires_of(m, l.levels), n) {
         return ran_with(card, m, l, m.outputs, 0, 0);
     }
     turn_each(false, card, m, l, n)
@@ -322,8 +306,7 @@ pub fn lines_of(card: Card, input: Input) -> Lines
 {
     let n = cells_for(card.size);
     let m = seen_memory(card.memory, n);
-    let connectors = card.connectors;
-    lines_in(connectors, m, input)
+    lines_in(card.connectors, m, input)
 }
 
 // A tick of either kind that runs with these lines, without a look whether it is quiet.
@@ -349,9 +332,7 @@ pub fn lines_by(memory: Memory, connectors: Connectors, size: u8, input: Input) 
 pub fn full_tick_on(card: Card, l: Lines) -> Ticked
     ensures { result ≡ Tick.ticked_on (cells_for card.size) true card l }
 {
-    let n = cells_for(card.size);
-    let m = seen_memory(card.memory, n);
-    turn_each(true, card, m, l, n)
+    turned_on(true, card, l)
 }
 
 // The same, of the cells that the waking rules name.
@@ -360,8 +341,7 @@ pub fn quick_tick_on(card: Card, l: Lines) -> Ticked
 {
     let n = cells_for(card.size);
     let m = seen_memory(card.memory, n);
-    let cells = card.cells;
-    if is_quiet(cells, card.edited, wires_of(m, l.levels), n) {
+    if is_quiet(card.cells, card.edited, wires_of(m, l.levels), n) {
         return ran_with(card, m, l, m.outputs, 0, 0);
     }
     turn_each(false, card, m, l, n)

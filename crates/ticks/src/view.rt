@@ -9,12 +9,12 @@ ghost use Rattle.ticks.specs.Tick.{sees_now, saw_last, saw_earlier, wires_of};
 
 use card::card::Memory;
 use card::limits::CellWord;
-use cells::reading::QUARTERS;
+use cells::reading::{Quarters, Seen};
 
 // What comes in with a tick: the code of its clock, the word sampled at the connectors, and which
 // of them have something attached.
 #[repr(C)]
-#[derive(Clone, Copy)]
+#[derive(Clone, Copy, Debug, PartialEq, Eq)]
 pub struct Input {
     pub code: u8,
     pub sample: u16,
@@ -23,7 +23,7 @@ pub struct Input {
 
 // What the readers of a tick see besides its own outputs: the levels of this tick, of the last one
 // that ran (2) and of the one before (3), and the cell words of the last three ticks that ran.
-#[derive(Clone, Copy)]
+#[derive(Clone, Copy, Debug, PartialEq, Eq)]
 pub struct Wires {
     pub levels: u16,
     pub levels2: u16,
@@ -38,7 +38,7 @@ pub fn wires_of(m: Memory, levels: u16) -> Wires
     ensures { result ≡ wires_of m levels }
 {
     Wires {
-        levels: levels,
+        levels,
         levels2: m.levels,
         levels3: m.levels2,
         outputs: m.outputs,
@@ -65,7 +65,7 @@ pub const ALL: u64 = 0xffff_ffff_ffff_ffff;
 
 // The words that addresses are read from, one for each quarter of them: level, inverse, rose, fell.
 // In the last one base 0 is high, for 192.
-pub(crate) fn quarters(now: u64, before: u64) -> [u64; QUARTERS]
+pub(crate) fn quarters(now: u64, before: u64) -> Quarters
     ensures { ReadsAs result (bit_at now) (bit_at before) }
 {
     let low = now ^ ALL;
@@ -73,14 +73,14 @@ pub(crate) fn quarters(now: u64, before: u64) -> [u64; QUARTERS]
 }
 
 // The addresses whose readings differ between two sets of words.
-fn differing(a: [u64; QUARTERS], b: [u64; QUARTERS]) -> [u64; QUARTERS]
+fn differing(a: Quarters, b: Quarters) -> Quarters
     ensures { Differ result a b }
 {
     [a[0] ^ b[0], a[1] ^ b[1], a[2] ^ b[2], a[3] ^ b[3]]
 }
 
 // What a reader in position i reads in this tick, below which this tick's outputs are known.
-pub fn words_now(i: u32, below: CellWord, w: Wires) -> [u64; QUARTERS]
+pub fn words_now(i: u32, below: CellWord, w: Wires) -> Quarters
     requires { i < 64 }
     ensures { (n : ℕ) → n ≤ cell_room → below < 2 ^ n → Fits n w
         → ReadsAs result (sees_now n i w below) (saw_last n i w) }
@@ -91,7 +91,7 @@ pub fn words_now(i: u32, below: CellWord, w: Wires) -> [u64; QUARTERS]
 }
 
 // What it read in the last tick that ran.
-pub fn words_last(i: u32, w: Wires) -> [u64; QUARTERS]
+pub fn words_last(i: u32, w: Wires) -> Quarters
     requires { i < 64 }
     ensures { (n : ℕ) → n ≤ cell_room → Fits n w → ReadsAs result (saw_last n i w) (saw_earlier n i w) }
 {
@@ -100,13 +100,18 @@ pub fn words_last(i: u32, w: Wires) -> [u64; QUARTERS]
     quarters(last, earlier)
 }
 
-// The addresses whose readings have changed since the last tick that ran.
-pub(crate) fn words_moved(i: u32, below: CellWord, w: Wires) -> [u64; QUARTERS]
+// What a cell in position i is asked by: what it reads, and what has changed since the last tick
+// that ran.
+pub(crate) fn seen_by(i: u32, below: CellWord, w: Wires) -> Seen
     requires { i < 64 }
-    ensures { (n : ℕ) → n ≤ cell_room → below < 2 ^ n → Fits n w
-        → MovesAs result (sees_now n i w below) (saw_last n i w) (saw_earlier n i w) }
+    ensures reads { (n : ℕ) → n ≤ cell_room → below < 2 ^ n → Fits n w
+        → ReadsAs result.reads (sees_now n i w below) (saw_last n i w) }
+    ensures moved { (n : ℕ) → n ≤ cell_room → below < 2 ^ n → Fits n w
+        → MovesAs result.moved (sees_now n i w below) (saw_last n i w) (saw_earlier n i w) }
 {
-    let now = words_now(i, below, w);
-    let last = words_last(i, w);
-    differing(now, last)
+    let reads = words_now(i, below, w);
+    Seen {
+        reads,
+        moved: differing(reads, words_last(i, w)),
+    }
 }

@@ -1,4 +1,5 @@
 -- The text of a card that lines can set is no longer than the longest: a bound for each part, over the lists of cells and connectors.
+use Rattle.std.specs.Prelude.{is_some}
 use Prim.Native.Nat.{ℕ, suc, ◌+◌, ◌^◌, ◌≤◌, ◌<◌}
 use mathlib.Core.Path.{◌≡◌, refl, sym, ap, ◌∙◌}
 use mathlib.Core.Bool.{Bool, true, false}
@@ -77,7 +78,7 @@ module _ (n : ℕ) (cell : Cell) (ok : valid_cell n cell ≡ true) where
       let config = cell-config n cell ok in
       let x = part-size M-E= (first_cell + i) LF in
       let y = part-most true (cca Y) cell.kind LF type_digits (lit≤ tt) (omega arith) in
-      let z = part-most (row_of cell.kind).configured (cca Z) cell.config LF config_digits (lit≤ tt) (omega arith) in
+      let z = part-most (is_some (row_of cell.kind).largest) (cca Z) cell.config LF config_digits (lit≤ tt) (omega arith) in
       let slots = slots-most in
       rw (sym (cell_parts cell i)) (simp length-append (omega arith))
 

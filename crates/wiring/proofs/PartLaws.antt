@@ -1,5 +1,6 @@
 -- Laws of a wiring written part by part: the parts of a line, of the slots, of a cell and of a connector make the texts of the definition, and a loop
 -- over a list writes the texts of its commands.
+use Rattle.std.specs.Prelude.{is_some}
 use Prim.Native.Nat.{ℕ, suc, ◌+◌, ◌*◌, ◌≤◌, ◌<◌, zero-le}
 use mathlib.Core.Path.{◌≡◌, refl, sym, ap, ap₂, ◌∙◌}
 use mathlib.Core.Bool.{Bool, true, false}
@@ -107,15 +108,15 @@ module _ (cell : Cell) where
         )
 
   optional-parts : commands_text
-      (only (row_of cell.kind).configured (SetConfig cell.config) ++ only (any_slot (row_of cell.kind).used) (SetSlots (pairs_in cell)))
-      ≡ part (row_of cell.kind).configured (cca Z) cell.config LF ++ slots_text cell
+      (only (is_some (row_of cell.kind).largest) (SetConfig cell.config) ++ only (any_slot (row_of cell.kind).used) (SetSlots (pairs_in cell)))
+      ≡ part (is_some (row_of cell.kind).largest) (cca Z) cell.config LF ++ slots_text cell
   unfolding slots_text
   optional-parts =
-      commands-append (only (row_of cell.kind).configured (SetConfig cell.config)) _
-      ∙ ap (λ (t : List ℕ). t ++ slots_text cell) (config-part (row_of cell.kind).configured cell.config)
+      commands-append (only (is_some (row_of cell.kind).largest) (SetConfig cell.config)) _
+      ∙ ap (λ (t : List ℕ). t ++ slots_text cell) (config-part (is_some (row_of cell.kind).largest) cell.config)
 
   pub cell_parts : (i : ℕ)
-      → ((part true M-E= (first_cell + i) LF ++ part true (cca Y) cell.kind LF) ++ part (row_of cell.kind).configured (cca Z) cell.config LF)
+      → ((part true M-E= (first_cell + i) LF ++ part true (cca Y) cell.kind LF) ++ part (is_some (row_of cell.kind).largest) (cca Z) cell.config LF)
       ++ slots_text cell
       ≡ commands_text (cell_commands i cell)
   unfolding part cell_commands commands_text lines_text command_text

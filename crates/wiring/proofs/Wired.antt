@@ -1,4 +1,5 @@
 -- Valid settings are set by their lines: one command at a place, the commands of one cell and of one connector, lifted over their lists.
+use Rattle.std.specs.Prelude.{is_some}
 use Prim.Native.Nat.{ℕ, suc, ◌+◌, ◌-◌, ◌^◌, ◌≤◌, ◌<◌}
 use mathlib.Core.Path.{◌≡◌, refl, sym, ap, subst, ◌∙◌}
 use mathlib.Core.Bool.{Bool, true, false, cond, ◌&&◌, ◌||◌, and-false}
@@ -268,9 +269,9 @@ module _ (n store : ℕ) (apart : first_cell + n ≤ first_connector) where
         let d1 = obeyed n moved (SetKind kind) in
         let w1 = kind-obeyed _ moved w0 kind in
         let config = SetConfig cell.config in
-        let d2 = cond row.configured (obeyed n d1 config) d1 in
+        let d2 = cond (is_some row.largest) (obeyed n d1 config) d1 in
         let w2 : CellWritten c i (configured_as cell) d2 =
-        either-written there (typed kind) d1 w1 row.configured _ _ (config-obeyed there (typed kind) d1 w1 cell.config) in
+        either-written there (typed kind) d1 w1 (is_some row.largest) _ _ (config-obeyed there (typed kind) d1 w1 cell.config) in
         let same = ap (λ (x : Cell). x.kind) (configured-is n cell ok) in
         let slots = SetSlots (pairs_in cell) in
         let d3 = cond (any_slot row.used) (obeyed n d2 slots) d2 in
@@ -282,7 +283,7 @@ module _ (n store : ℕ) (apart : first_cell + n ≤ first_connector) where
               next (small-printable (first_cell + i) (omega arith)) move-free
               (next (small-printable kind (omega arith)) (kind-free _ moved w0 kind known)
               (both_run
-              (only-runs row.configured d1 config (λ e. small-printable cell.config small)
+              (only-runs (is_some row.largest) d1 config (λ e. small-printable cell.config small)
               (λ e. config-free there (typed kind) d1 w1 cell.config small (config-permitted n cell ok e)))
               (only-runs (any_slot row.used) d2 slots (slots-printable n cell ok)
               (λ e. slots-free there (configured_as cell) d2 w2 cell ok same))));

@@ -1,6 +1,6 @@
 -- The settings of a card as a list of commands, and as the lines that say them. Document 01,
 -- "Lines", has the commands' forms.
-use Rattle.std.specs.Prelude.{ℕ, suc, ◌+◌, Bool, cond, List, [], ◌∷◌, ◌++◌, map, get_or, Option, Some, None}
+use Rattle.std.specs.Prelude.{ℕ, suc, ◌+◌, Bool, cond, List, [], ◌∷◌, ◌++◌, map, get_or, is_some, Option, Some, None}
 use Rattle.cells.specs.declared.cell.Cell.{Cell}
 use Rattle.cells.specs.Table.{row_of, any_slot}
 use Rattle.card.specs.declared.card.Connector.{Connector}
@@ -35,7 +35,7 @@ unfoldable pub cell_commands : ℕ → Cell → List Command
 cell_commands i cell =
     Move (first_cell + i)
     ∷ SetKind cell.kind
-    ∷ only (row_of cell.kind).configured (SetConfig cell.config) ++ only (any_slot (row_of cell.kind).used) (SetSlots (pairs_in cell))
+    ∷ only (is_some (row_of cell.kind).largest) (SetConfig cell.config) ++ only (any_slot (row_of cell.kind).used) (SetSlots (pairs_in cell))
 
 -- a connector: the pointer, the type, the source
 unfoldable pub connector_commands : ℕ → Connector → List Command

@@ -92,7 +92,14 @@ fn put_cell(out: &mut [u8; TEXT_MOST], at: usize, i: u8, cell: Cell) -> usize
     let row = cells::table::row_of(cell.kind);
     let y = put(out, at, true, b"M E=", (i + FIRST_CELL) as u32, b"\n");
     let z = put(out, y, true, b"36CCA Y=", cell.kind as u32, b"\n");
-    let x = put(out, z, row.configured, b"36CCA Z=", cell.config, b"\n");
+    let x = put(
+        out,
+        z,
+        row.largest.is_some(),
+        b"36CCA Z=",
+        cell.config,
+        b"\n",
+    );
     put_slots(out, x, cell)
 }
 

@@ -9,4 +9,4 @@ pub returns : goal.returns
 unfolding driven_from
 returns c =
     let a = c.args in
-    ap (λ (b : Bool). is_output a.c.kind && b) c.holds-from.ensures
+    ap (λ (b : Bool). is_output a.c.kind && b) c.holds.ensures

@@ -16,7 +16,7 @@ loop-k-preserved c =
     let a = c.args in
     let h : l.k < connector_count = search rules in (
       omega arith,
-      listed_next (connector_at a.c) l.k (replicate connector_count no_connector) l.all _ no_connector l.invariant.1 c.connector_at-one.ensures h,
+      listed_next (connector_at a.c) l.k (replicate connector_count no_connector) l.all _ no_connector l.invariant.1 c.connector_at.ensures h,
     )
 
 pub returns : goal.returns

@@ -1,7 +1,6 @@
 -- `card::edits::current_cell` meets its contract: the test is whether the pointer is at one.
 use Rattle.std.proofs.Common.{sym, ◌∙◌, arith}
 use Rattle.card.specs.Address.{first_cell}
-use Rattle.card.specs.Edits.{current_cell}
 use Rattle.card.proofs.Places.{among-bounds, cells-most}
 use Rattle.card.proofs.edits.current_cell.Goals as goal
 
@@ -12,11 +11,3 @@ pub bounds-card-at : goal.bounds-card-at
 bounds-card-at c =
     let here = sym c.is_cell.ensures ∙ c.if-is_cell.true in
     omega (arith, among-bounds first_cell _ c.args.card.pointer here, cells-most c.args.card.size)
-
-pub returns-then-is_cell : goal.returns-then-is_cell
-unfolding current_cell
-returns-then-is_cell c = rw (sym c.is_cell.ensures ∙ c.if-is_cell.true)
-
-pub returns-else-is_cell : goal.returns-else-is_cell
-unfolding current_cell
-returns-else-is_cell c = rw (sym c.is_cell.ensures ∙ c.if-is_cell.false)

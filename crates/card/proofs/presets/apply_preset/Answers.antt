@@ -27,7 +27,7 @@ returns c =
     let sized = c.cells_for-n.ensures in
     let n = c.cells_for-n.result in
     let d = a.card.connectors in
-    let cells = c.cells_under-set.ensures
+    let cells = c.cells_under.ensures
     ∙ ap (λ (front : List Cell). front ++ drop n a.card.cells)
     (listed_same (λ i. Option.get_or (cell_under row.0 row.1 i) (get_or a.card.cells i no_cell)) (cell_with_preset a.card a.v) n
     (λ i h. ap (λ (o : Option Cell). Option.get_or o (get_or a.card.cells i no_cell)) (says i (omega (arith, sized.upper_bound, h))))) in
@@ -37,7 +37,7 @@ returns c =
     ∙ listed_same (λ k. sourced (source_under from.result k) (get_or (each d) k no_connector)) (connector_with_preset n a.card a.v) connector_count
     (λ k h. ap (sourced (source_under from.result k)) (each_at d k h)
     ∙ ap (λ (o : Option ℕ). sourced o (connector_at d k)) (from.ensures k h ∙ ap (λ (m : ℕ). preset_source m a.v k) (sym sized.value))) in
-    let connectors = c.from_each-next.ensures ∙ ap from_each routed in
+    let connectors = c.from_each.ensures ∙ ap from_each routed in
     let edited = c.edited_under.ensures
     ∙ built-same (λ i. bit_at a.card.edited i || covers row.0 i) (edited_with_preset a.card a.v) n
     (λ i h. ap (λ (b : Bool). bit_at a.card.edited i || b)

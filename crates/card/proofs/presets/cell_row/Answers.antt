@@ -9,7 +9,7 @@ use Rattle.card.proofs.presets.cell_row.Goals as goal
 pub returns-then-n-lt-CELL_ROWS : goal.returns-then-n-lt-CELL_ROWS
 unfolding CellRows
 returns-then-n-lt-CELL_ROWS c =
-    let rows = c.cell_rows-rows.result in
+    let rows = c.cell_rows-rows.result.now in
     row_at (λ v. cell_under (get_or rows (2 * v) 0) (get_or rows (2 * v + 1) 0)) preset_cell cell_rows cell_room
     c.cell_rows-rows.ensures c.args.v (search rules)
 

@@ -15,7 +15,7 @@ loop-i-preserved c =
     let a = c.args in
     let l = c.loop-i in (
       omega arith,
-      listed_next (under a.row.0 a.row.1 a.cells) l.i a.cells l.next _ no_cell l.invariant.1 c.cell_under-cell.ensures (search rules),
+      listed_next (under a.row.0 a.row.1 a.cells) l.i a.cells l.next _ no_cell l.invariant.1 c.cell_under.ensures (search rules),
     )
 
 pub returns : goal.returns

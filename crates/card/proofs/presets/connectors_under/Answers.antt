@@ -16,7 +16,7 @@ loop-k-preserved c =
     let a = c.args in
     let l = c.loop-k in (
       omega arith,
-      listed_next (under a.row a.connectors) l.k a.connectors l.next _ no_connector l.invariant.1 c.connector_under-c.ensures (search rules),
+      listed_next (under a.row a.connectors) l.k a.connectors l.next _ no_connector l.invariant.1 c.connector_under.ensures (search rules),
     )
 
 pub returns : goal.returns

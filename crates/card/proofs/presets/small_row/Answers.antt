@@ -10,7 +10,7 @@ use Rattle.card.proofs.presets.small_row.Goals as goal
 pub returns-then-n-lt-SOURCE_ROWS : goal.returns-then-n-lt-SOURCE_ROWS
 unfolding SourceRows
 returns-then-n-lt-SOURCE_ROWS c =
-    row_at (λ v. source_under (get_or c.source_rows-rows.result v 0)) (preset_source cell_count) source_rows connector_count
+    row_at (λ v. source_under (get_or c.source_rows-rows.result.now v 0)) (preset_source cell_count) source_rows connector_count
     c.source_rows-rows.ensures c.args.v (search rules)
 
 pub returns-else-n-lt-SOURCE_ROWS : goal.returns-else-n-lt-SOURCE_ROWS

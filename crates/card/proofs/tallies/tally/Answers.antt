@@ -41,7 +41,7 @@ loop-left-smaller c = search (rules, here (goal.at.loop-left-smaller c).After-lo
 pub loop-left-preserved : goal.loop-left-preserved
 loop-left-preserved c =
     let l = c.loop-left in
-    (next-counted _ _ (fits (goal.at.loop-left-preserved c).At-loop-left) (room (goal.at.loop-left-preserved c).At-loop-left) _ _ _ _ _ l.invariant.0 c.lowest-k.ensures.0 c.counted-v.ensures, l.invariant.1)
+    (next-counted _ _ (fits (goal.at.loop-left-preserved c).At-loop-left) (room (goal.at.loop-left-preserved c).At-loop-left) _ _ _ _ _ l.invariant.0 c.lowest-k.ensures.0 c.counted.ensures, l.invariant.1)
 
 pub returns : goal.returns
 returns c n h small =

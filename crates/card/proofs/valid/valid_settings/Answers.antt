@@ -2,8 +2,9 @@
 use Rattle.std.proofs.Common.{◌≡◌, length, take, arith, length-take-le, rules, eq-eqb}
 use mathlib.Core.Bool.{and-true}
 use Rattle.card.proofs.Places.{cells-most}
+use Rattle.card.proofs.Settings.{every-all}
 use Rattle.card.specs.Address.{cell_room, cells_for, connector_count}
-use Rattle.card.specs.Valid.{valid}
+use Rattle.card.specs.Valid.{valid, valid_cell, valid_connector}
 use Rattle.card.proofs.valid.valid_settings.Goals as goal
 
 pub returns : goal.returns
@@ -22,5 +23,7 @@ returns c =
       c.valid_connectors.ensures,
       taken,
       others,
+      every-all (valid_cell (cells_for a.size)) (take (cells_for a.size) a.cells),
+      every-all (valid_connector (cells_for a.size)) a.connectors,
       and-true,
     )

@@ -12,7 +12,7 @@ unfolding reasons_of
 returns c =
     let a = c.args in
     let row = c.row_of-row.ensures in
-    let moved = c.differing-moved.ensures ∙ ap (λ (s : Slots). Wake.differing s a.now a.last) (c.level_slots.ensures ∙ ap level_slots row) in
+    let moved = c.differing.ensures ∙ ap (λ (s : Slots). Wake.differing s a.now a.last) (c.level_slots.ensures ∙ ap level_slots row) in
     let now = c.within-r.ensures ∙ ap (λ (v : Row). masked v.used a.now) row in
     let clock = c.clock_as.ensures ∙ ap₂ (λ (v : Row) (r : Slots). clock_as v.class a.s r) row now in
     let triggers = c.has_triggers-triggers.ensures ∙ ap (λ (v : Row). has_triggers v.class) row in

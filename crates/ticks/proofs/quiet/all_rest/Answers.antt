@@ -1,37 +1,31 @@
--- `ticks::quiet::all_rest` meets its contract: after i turns the first i cells rest.
-use Prim.Native.Nat.{zero-le}
-use mathlib.Core.Path.{◌≡◌, refl, sym, ◌∙◌}
+-- `ticks::quiet::all_rest` meets its contract: the first n cells, one by one.
+use Prim.Native.Nat.{ℕ, zero, suc, ◌+◌, ◌≤◌}
+use mathlib.Core.Path.{◌≡◌, refl, ap, ◌∙◌}
+use mathlib.Core.Bool.{Bool, ◌&&◌}
+use mathlib.Core.List.{List}
 use native.Mathlib.Omega.{arith}
+use lib.ListN.{get_or, length, take}
+use Rattle.std.proofs.Common.{add-one}
+use Rattle.std.specs.List.{list_all}
+use Rattle.std.proofs.lemmas.List.Folds.{list_all_more}
 use Rattle.words.specs.Bits.{bit_at}
-use Rattle.ticks.specs.Rest.{all_rest}
-use borrow.Author.Tests.{not-true, not-false}
-use Rattle.ticks.proofs.AtRest.{rest-next, rest-fails}
+use Rattle.cells.specs.declared.cell.Cell.{Cell}
+use Rattle.card.specs.Fresh.{no_cell}
+use Rattle.ticks.specs.Rest.{cell_rests, all_rest}
 use borrow.Author.Rules.{rules}
 use Rattle.ticks.proofs.quiet.all_rest.Goals as goal
 
-pub loop-i-init : goal.loop-i-init
+listed : (n : ℕ) (v : ℕ → Bool) (cells : List Cell) → n ≤ length cells → list_all (cell_rests v) (take n cells) ≡ all_rest n v cells
 unfolding all_rest
-loop-i-init c = (zero-le, refl)
-
-pub returns-then-not-rests : goal.returns-then-not-rests
-returns-then-not-rests c =
-    let l = c.loop-i in
-    let a = c.args in
-    let stirs = sym c.rests.ensures ∙ not-true _ c.if-not-rests.true-raw in record {
-      value = sym (rest-fails a.n (bit_at a.view) a.cells l.i (omega arith) stirs);
-      cells_len = search rules;
-    }
-
-pub loop-i-preserved : goal.loop-i-preserved
-loop-i-preserved c =
-    let l = c.loop-i in
-    let a = c.args in
-    (omega arith, rest-next l.i (bit_at a.view) a.cells l.invariant.1 (sym c.rests.ensures ∙ not-false _ c.if-not-rests.false-raw))
+listed zero v cells h = refl
+listed (suc n) v cells h =
+    (rw add-one at (list_all_more (cell_rests v) cells n no_cell (omega arith)))
+    ∙ ap (λ (b : Bool). b && cell_rests v (get_or cells n no_cell)) (listed n v cells (omega arith))
 
 pub returns : goal.returns
 returns c =
-    let l = c.loop-i in
-    let end : l.i ≡ c.args.n = omega arith in record {
-      value = sym (rw end at l.invariant.1);
+    let a = c.args in
+    record {
+      value = c.rest_among.ensures ∙ listed a.n (bit_at a.view) a.cells (search rules);
       cells_len = search rules;
     }

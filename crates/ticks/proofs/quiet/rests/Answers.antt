@@ -1,13 +1,13 @@
 -- `ticks::quiet::rests` meets its contract: a type without edge slots is never stirred, and for any
 -- other the test is made.
-use mathlib.Core.Path.{sym, ap, ◌∙◌}
+use mathlib.Core.Path.{sym, ap, ap₂, ◌∙◌}
 use mathlib.Core.Bool.{not}
 use borrow.Author.Tests.{not-true}
 use Rattle.words.specs.Bits.{bit_at}
-use Rattle.cells.specs.State.{state_of}
 use Rattle.cells.specs.Wake.{stirred}
 use Rattle.cells.proofs.Laws.{edgeless-still}
-use Rattle.ticks.proofs.Words.{Holds, slots-as}
+use Rattle.ticks.proofs.Words.{Bytes, slots-as}
+use borrow.Author.Rules.{rules}
 use Rattle.ticks.proofs.quiet.rests.Goals as goal
 
 pub returns-then-not-has_edges : goal.returns-then-not-has_edges
@@ -18,12 +18,12 @@ returns-then-not-has_edges c =
 pub returns : goal.returns
 returns c =
     let a = c.args in
-    let held : Holds a.cell.slots _ _ _ _ =
+    let bytes : Bytes a.cell.slots =
     record {
-      at_x = c.address-x.ensures;
-      at_y = c.address-y.ensures;
-      at-z = c.address-z.ensures;
-      at_f = c.address-f.ensures;
+      at_x = search rules;
+      at_y = search rules;
+      at_z = search rules;
+      at_f = search rules;
     } in
-    let now = slots-as (bit_at a.view) (bit_at a.view) _ a.cell.slots _ _ _ _ c.quarters-q.ensures held in
-    ap not (c.stirred.ensures ∙ ap (stirred a.cell.kind (state_of a.cell)) (c.four.ensures ∙ now))
+    let now = slots-as (bit_at a.view) (bit_at a.view) _ a.cell.slots c.quarters-q.ensures bytes in
+    ap not (c.stirred.ensures ∙ ap₂ (stirred a.cell.kind) c.from.ensures (c.read_slots.ensures ∙ now))

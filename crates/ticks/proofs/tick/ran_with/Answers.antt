@@ -3,4 +3,4 @@
 use Rattle.ticks.proofs.tick.ran_with.Goals as goal
 
 pub returns : goal.returns
-returns c n h small = rw (c.tally-tallies.ensures n h small)
+returns c n h small = rw (c.moved_on-next.ensures, c.tally-tallies.ensures n h small)

@@ -12,7 +12,8 @@ use Rattle.cells.specs.Wake.{stirred, moved, wakes}
 use Rattle.cells.specs.Work.{looked_at, work_out}
 use Rattle.cells.proofs.Laws.{moved-disagree}
 use Rattle.ticks.specs.Reading.{slots_read}
-use Rattle.ticks.proofs.Words.{Holds, slots-as, slots-moved}
+use Rattle.ticks.proofs.Words.{Bytes, slots-as, slots-moved}
+use borrow.Author.Rules.{rules}
 use Rattle.ticks.proofs.tick.stepped.Goals as goal
 
 -- what is asked, by the readings of the definition
@@ -27,15 +28,15 @@ pub returns : goal.returns
 unfolding wakes
 returns c f g h r m =
     let a = c.args in
-    let held : Holds a.cell.slots _ _ _ _ =
-    record {
-      at_x = c.address-x.ensures;
-      at_y = c.address-y.ensures;
-      at-z = c.address-z.ensures;
-      at_f = c.address-f.ensures;
-    } in
     let kind = a.cell.kind in
-    let now = slots-as f g a.q.now a.cell.slots _ _ _ _ r held in
-    let other = slots-moved f g h a.d.now a.cell.slots _ _ _ _ m held in
+    let bytes : Bytes a.cell.slots =
+    record {
+      at_x = search rules;
+      at_y = search rules;
+      at_z = search rules;
+      at_f = search rules;
+    } in
+    let now = slots-as f g a.seen.now.reads a.cell.slots r bytes in
+    let other = slots-moved f g h a.seen.now.moved a.cell.slots m bytes in
     as-asked _ a.full a.edited kind a.cell.config (state_of a.cell) _ _ _ _ _ c.step.ensures now other (moved-disagree kind
     (slots_read f g a.cell.slots) (slots_read g h a.cell.slots))

@@ -16,6 +16,7 @@ use Rattle.words.specs.Listed.{listed}
 use Rattle.words.proofs.Laws.{bit-built, built-same, built-of-bits, built-next, built-fits}
 use Rattle.words.proofs.Listed.{behind-at, listed_kept, listed_next}
 use Rattle.cells.specs.declared.cell.Cell.{Cell}
+use Rattle.cells.specs.declared.reading.Seen.{Seen}
 use Rattle.cells.specs.declared.work.Effect.{Effect}
 use Rattle.cells.specs.State.{state_of, with_state}
 use Rattle.cells.specs.Work.{looked_at, work_out}
@@ -59,8 +60,8 @@ loop-i-init c =
       refl,
       halfway-start outs (bit_at wires.outputs) a.n wires.outputs fits.0 (λ k h. refl),
       refl,
-      c.words_now-q.ensures a.n (room (goal.at.loop-i-init c).Start) fits.0 fits,
-      c.words_moved-d.ensures a.n (room (goal.at.loop-i-init c).Start) fits.0 fits,
+      c.seen_by-seen.ensures.reads a.n (room (goal.at.loop-i-init c).Start) fits.0 fits,
+      c.seen_by-seen.ensures.moved a.n (room (goal.at.loop-i-init c).Start) fits.0 fits,
     )
 
 pub overflow_cast-outputs : goal.overflow_cast-outputs
@@ -84,7 +85,7 @@ sixteen c = search (as_long, c.well_formed)
 -- cell i is one of the cells
 within : (at : At-loop-i) → at.loop-i.i < count at → at.loop-i.i < length at.args.card.cells
 within at inside =
-    omega (arith, sixteen at.before.before.before.before.before, room at.before.before.before.before.before, inside)
+    omega (arith, sixteen at.before.before.before.before, room at.before.before.before.before, inside)
 
 -- the cells so far
 cells-so : (at : At-loop-i) → let a = at.args in
@@ -138,7 +139,7 @@ taken s =
     let last = read_last a.n l.i wires old.slots in
     let out = bit_at wires.outputs l.i in
     let was = bit_at a.card.edited l.i in
-    let turn = turn-here s.before.before.before.before.before.before s.loop-i-test.true in
+    let turn = turn-here s.before.before.before.before.before s.loop-i-test.true in
     let is = subst
     (λ (b : Bool). StepsTo r a.full (rules_name old b now last) (state_of old)
     (work_out old.kind old.config (state_of old) now) (looked_at old.kind now))
@@ -183,7 +184,7 @@ met m =
     let wires = m.wires_of-w.result in
     let inside = m.loop-i-test.true in
     let after = after_of a.n a.full a.card wires in
-    let at = m.before.before.before.before.before.before.before.before in
+    let at = m.before.before.before.before.before.before.before in
     let here = within at inside in
     let old : Cell = get_or l.next.cells l.i no_cell in
     let same = behind-at after l.i a.card.cells l.next.cells no_cell (cells-so at) here in
@@ -243,15 +244,15 @@ turned_on j =
 -- the words of the next reader: made anew, or still those
 next-words : (c : Joined-moved) → let l = c.loop-i in
     let w = c.wires_of-w.result in
-    ReadsAs c.if-moved.q (sees_now c.args.n (l.i + 1) w c.if-out-last.outputs) (saw_last c.args.n (l.i + 1) w)
-    × MovesAs c.if-moved.d (sees_now c.args.n (l.i + 1) w c.if-out-last.outputs) (saw_last c.args.n (l.i + 1) w) (saw_earlier c.args.n (l.i + 1) w)
+    ReadsAs c.if-moved.seen.reads (sees_now c.args.n (l.i + 1) w c.if-out-last.outputs) (saw_last c.args.n (l.i + 1) w)
+    × MovesAs c.if-moved.seen.moved (sees_now c.args.n (l.i + 1) w c.if-out-last.outputs) (saw_last c.args.n (l.i + 1) w) (saw_earlier c.args.n (l.i + 1) w)
 unfolding Turned-on
 next-words c =
     let l = c.loop-i in
     let a = c.args in
     let wires = c.wires_of-w.result in
     let step = turned_on c.before in
-    let set : After-wires_of-w = c.before.before.before.before.before.before.before.before.before.before.before.before.before.before.before.before in
+    let set : After-wires_of-w = c.before.before.before.before.before.before.before.before.before.before.before.before.before.before in
     let start = set.before in
     let fits = fits-wires set in
     let outputs = c.if-out-last.outputs in
@@ -260,14 +261,14 @@ next-words c =
     let earlier = saw_earlier a.n (l.i + 1) wires in
     elim c.if-moved.branch [
       | then-moved w ↦ (
-        subst (λ (q : List ℕ). ReadsAs q now last) (sym w.q-is) (w.words_now-q-then-moved.ensures a.n (room start) step.0.0 fits),
-        subst (λ (d : List ℕ). MovesAs d now last earlier) (sym w.d-is) (w.words_moved-d-then-moved.ensures a.n (room start) step.0.0 fits),
+        subst (λ (s : Seen). ReadsAs s.reads now last) (sym w.seen-is) (w.seen_by-seen-then-moved.ensures.reads a.n (room start) step.0.0 fits),
+        subst (λ (s : Seen). MovesAs s.moved now last earlier) (sym w.seen-is) (w.seen_by-seen-then-moved.ensures.moved a.n (room start) step.0.0 fits),
       )
       | else-moved w ↦
           let kept = words-kept a.n l.i _ wires l.outputs outputs (step.1 w.if-moved.false)
           (λ k h. l.invariant.2.1 k h ∙ sym (step.0.1 k (omega arith))) (step.0.1 l.i (omega arith))
-          l.q l.d l.invariant.4 l.invariant.5 in
-          (subst (λ (q : List ℕ). ReadsAs q now last) (sym w.q-is) kept.0, subst (λ (d : List ℕ). MovesAs d now last earlier) (sym w.d-is) kept.1)
+          l.seen.reads l.seen.moved l.invariant.4 l.invariant.5 in
+          (subst (λ (s : Seen). ReadsAs s.reads now last) (sym w.seen-is) kept.0, subst (λ (s : Seen). MovesAs s.moved now last earlier) (sym w.seen-is) kept.1)
     ]
 
 pub loop-i-preserved : goal.loop-i-preserved

@@ -16,8 +16,8 @@ invariant-loop-i l =
     × (l.next ≡ seated l.card (up_to l.n l.full l.card l.w l.i))
     × Halfway (outs_of l.n l.full l.card l.w) (bit_at l.w.outputs) l.n l.i l.outputs
     × (l.named ≡ word_of (names_of l.n l.full l.card l.w) l.i)
-    × ReadsAs l.q (sees_now l.n l.i l.w l.outputs) (saw_last l.n l.i l.w)
-    × MovesAs l.d (sees_now l.n l.i l.w l.outputs) (saw_last l.n l.i l.w) (saw_earlier l.n l.i l.w)
+    × ReadsAs l.seen.reads (sees_now l.n l.i l.w l.outputs) (saw_last l.n l.i l.w)
+    × MovesAs l.seen.moved (sees_now l.n l.i l.w l.outputs) (saw_last l.n l.i l.w) (saw_earlier l.n l.i l.w)
 
 abbrev pub decreases-loop-i : goal.decreases-loop-i
 decreases-loop-i l = l.n - l.i

@@ -1,7 +1,8 @@
 -- `wiring::parts::put_cell` meets its contract: three lines of one number, the third where the type has a configuration, and the slots.
+use Rattle.std.specs.Prelude.{is_some}
 use Prim.Native.Nat.{ℕ, ◌+◌}
-use mathlib.Core.Path.{◌≡◌, ap}
-use mathlib.Core.Bool.{true}
+use mathlib.Core.Path.{◌≡◌, ap, ◌∙◌}
+use mathlib.Core.Bool.{Bool, true}
 use mathlib.Core.List.{◌++◌}
 use native.Mathlib.Omega.{arith}
 use Rattle.cells.specs.declared.table.Row.{Row}
@@ -18,10 +19,11 @@ returns c =
     let number : a.i + first_cell ≡ first_cell + a.i = omega arith in
     let move = ap (λ (v : ℕ). part true M-E= v LF) number in
     let two = part true M-E= (first_cell + a.i) LF ++ part true (cca Y) a.cell.kind LF in
-    let set = ap (λ (w : Row). two ++ part w.configured (cca Z) a.cell.config LF) c.row_of-row.ensures in
+    let has = c.is_some.ensures ∙ ap (λ (w : Row). is_some w.largest) c.row_of-row.ensures in
+    let set = ap (λ (b : Bool). two ++ part b (cca Z) a.cell.config LF) has in
     let first : Placed a.out.now a.at _ _ _ = record { bytes = c.put-y.ensures.out_after; at-end = c.put-y.ensures.value } in
     let typed = placed-then (placed-as move first) (part true (cca Y) a.cell.kind LF) c.put-z.ensures.out_after c.put-z.ensures.value in
-    let config = placed-then typed (part c.row_of-row.result.configured (cca Z) a.cell.config LF) c.put-x.ensures.out_after c.put-x.ensures.value in
+    let config = placed-then typed (part c.is_some.result (cca Z) a.cell.config LF) c.put-x.ensures.out_after c.put-x.ensures.value in
     let slotted = placed-then (placed-as set config) (slots_text a.cell) c.put_slots.ensures.out_after c.put_slots.ensures.value in
     let whole = placed-as (cell_parts a.cell a.i) slotted in record {
       out_after = whole.bytes;

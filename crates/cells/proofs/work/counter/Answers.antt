@@ -1,7 +1,0 @@
--- `cells::work::counter` meets its contract: what is new is its callees' answers.
-use Rattle.cells.specs.Work.{work_as}
-use Rattle.cells.proofs.work.counter.Goals as goal
-
-pub returns : goal.returns
-unfolding work_as
-returns c pulse out = cc
