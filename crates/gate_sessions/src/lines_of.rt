@@ -1,6 +1,4 @@
 // The lines of a stored session, and what each of them prints.
-ghost use Rattle.std.specs.Prelude.{◌≤◌, length};
-
 use crate::{Form, put};
 use card::card::Card;
 use input::system::Source;
@@ -12,23 +10,9 @@ use ticks::rest::at_rest;
 // The record of a card of thirty-two cells; that of a card of sixteen is shorter.
 pub const STORE: usize = 516;
 
-// A line, and what it prints.
-pub fn answered(card: Card, line: &[u8], store: &mut [u8]) -> Card {
-    let mut out = [0u8; LONGEST_PRINT];
-    let entered = session::enter(card, line, store, &mut out);
-    let len = entered.len;
-    put(&out[0..len]);
-    entered.card
-}
-
-// What a tick printed, without its LF, and whether the card is at rest.
-fn put_tick(out: &[u8], len: usize, rests: bool)
-    requires { len ≤ length out.now }
-{
-    if len == 0 {
-        return;
-    }
-    put(&out[0..len - 1]);
+// What a tick printed, and whether the card is at rest.
+fn put_tick(printed: &[u8], rests: bool) {
+    put(printed.strip_suffix(b"\n").unwrap_or(printed));
     if rests {
         put(b" rest\n");
     } else {
@@ -36,34 +20,19 @@ fn put_tick(out: &[u8], len: usize, rests: bool)
     }
 }
 
-// A line of which only a tick prints. The card is at rest where a further tick with the same input
-// would change nothing.
-fn rested(card: Card, line: &[u8], store: &mut [u8]) -> Card {
+// A line, and what its form prints of it. The card is at rest where a further tick with the same
+// input would change nothing.
+pub fn take_line(card: Card, line: &[u8], store: &mut [u8], form: Form) -> Card {
     let mut out = [0u8; LONGEST_PRINT];
     let entered = session::enter(card, line, store, &mut out);
     let next = entered.card;
-    let event = entered.event;
-    match event {
-        Event::Tick(t) => put_tick(&out, entered.len, at_rest(next, t.input)),
+    let printed = &out[..entered.len];
+    match (form, entered.event) {
+        (Form::Session | Form::Tallies, _) => put(printed),
+        (Form::Rests, Event::Tick(t)) => put_tick(printed, at_rest(next, t.input)),
         _ => {}
     }
     next
-}
-
-// A line that prints nothing.
-fn unanswered(card: Card, line: &[u8], store: &mut [u8]) -> Card {
-    let mut out = [0u8; LONGEST_PRINT];
-    let entered = session::enter(card, line, store, &mut out);
-    entered.card
-}
-
-fn take_line(card: Card, line: &[u8], store: &mut [u8], form: Form) -> Card {
-    match form {
-        Form::Session => answered(card, line, store),
-        Form::Rests => rested(card, line, store),
-        Form::Tallies => crate::tallies::take_line(card, line, store),
-        _ => unanswered(card, line, store),
-    }
 }
 
 // What was found of the file: a line uses as much of the store as a record of the card is long.
@@ -72,7 +41,11 @@ fn take(card: Card, found: Found, line: &[u8], store: &mut [u8], form: Form) -> 
         return card;
     }
     let n = record_length(card.size).min(store.len());
-    take_line(card, line, &mut store[..n], form)
+    let store = &mut store[..n];
+    match form {
+        Form::Tallies => crate::tallies::take_line(card, line, store),
+        _ => take_line(card, line, store, form),
+    }
 }
 
 // The card that the lines of an open file leave.

@@ -1,7 +1,6 @@
 // Sessions that ask for the tallies: a line `#` prints the tick total and the tally of each cell,
 // and `# TOTAL N1 N2 ..` gives the card these numbers and prints `ok`. Other lines are the card's.
-use crate::lines_of::answered;
-use crate::{put, put_number};
+use crate::{Form, lines_of, put, put_number};
 use card::card::Card;
 use card::tallies::{Tallies, no_tallies};
 use cells::cell::Ticks;
@@ -49,15 +48,14 @@ fn is_plain(line: &[u8]) -> bool {
 
 pub fn take_line(card: Card, line: &[u8], store: &mut [u8]) -> Card {
     if is_plain(line) {
-        return answered(card, line, store);
+        return lines_of::take_line(card, line, store, Form::Tallies);
     }
     if line.len() == 1 {
         put_tallies(card.tallies, card.size);
         return card;
     }
-    let t = given(line);
     let mut next = card;
-    next.tallies = t;
+    next.tallies = given(line);
     put(b"ok\n");
     next
 }
