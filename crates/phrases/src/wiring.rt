@@ -9,7 +9,7 @@ use card::card::{Card, Connector};
 use card::connectors::each_of;
 use card::limits::{CELLS, CONNECTORS, EditedSet};
 use card::place::cells_for;
-use cells::cell::{Cell, state_of};
+use cells::cell::Cell;
 use cells::table::row_of;
 use grammar::grammar::Slot;
 
