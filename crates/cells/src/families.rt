@@ -13,7 +13,7 @@ ghost use Rattle.cells.specs.Effect.{StepsTo};
 use crate::cell::Cell;
 use crate::reading::{Seen, read, read_slots, read_used};
 use crate::step::Stepped;
-use crate::table::{CounterKind, FlopKind, GateKind, ONLY_Z, Slots};
+use crate::table::{CounterKind, FlopKind, GateKind, ONLY_Z, Slots, XYZF};
 use crate::wake::{counter_stirred, timer_stirred};
 use crate::work::{Effect, counter, delay, flop, gate_out, look, one_shot};
 
@@ -22,7 +22,19 @@ use crate::work::{Effect, counter, delay, flop, gate_out, look, one_shot};
 fn moved(levels: Slots, cell: Cell, seen: &Seen) -> bool
     ensures { result ≡ any_slot (masked levels (slots_at seen.now.moved cell.slots)) }
 {
-    read_used(&seen.moved, levels, cell.slots).any()
+    let [x, y, z, f] = cell.slots;
+    let set = &seen.moved;
+    ((levels.x && read(set, x)) || (levels.y && read(set, y)))
+        || ((levels.z && read(set, z)) || (levels.f && read(set, f)))
+}
+
+// Whether a cell is stirred, or one of its level slots has changed. The slots of a cell that is
+// stirred are not read.
+#[inline(always)]
+fn wakes(stirred: bool, levels: Slots, cell: Cell, seen: &Seen) -> bool
+    ensures { result ≡ (stirred || any_slot (masked levels (slots_at seen.now.moved cell.slots))) }
+{
+    stirred || moved(levels, cell, seen)
 }
 
 // A constant, or what is no type: only an edit names it.
@@ -79,7 +91,7 @@ pub(crate) fn look_step(
     ensures { (s : State) → let l = looked deciding (slots_at seen.now.reads cell.slots) in
         StepsTo result full (edited || any_slot (slots_at seen.now.moved cell.slots)) s (keeping s l.out) l.slots }
 {
-    let named = edited | read_slots(&seen.moved, cell.slots).any();
+    let named = edited | moved(XYZF, cell, seen);
     if full | named {
         let l = look(deciding, cell.slots, &seen.reads);
         Stepped {
@@ -118,7 +130,7 @@ pub(crate) fn flop_step(
         StepsTo result full (edited || (flop_clock flop_kind r || any_slot (masked levels (slots_at seen.now.moved cell.slots)))) s
         (work_as (Flop flop_kind) 0 s r) 0 }
 {
-    let named = edited | (clocked(flop_kind, cell, seen) | moved(levels, cell, seen));
+    let named = edited | wakes(clocked(flop_kind, cell, seen), levels, cell, seen);
     if full | named {
         Stepped {
             named,
@@ -146,7 +158,7 @@ pub(crate) fn shot_step(
         (work_as (OneShot retrigger) cell.config s r) 0 }
 {
     let r = read_used(&seen.reads, used, cell.slots);
-    let named = edited | (timer_stirred(cell.count, cell.pulse, r) | moved(ONLY_Z, cell, seen));
+    let named = edited | wakes(timer_stirred(cell.count, cell.pulse, r), ONLY_Z, cell, seen);
     if full | named {
         Stepped {
             named,
@@ -172,7 +184,7 @@ pub(crate) fn delay_step(
         (work_as (Delay retrigger) cell.config s r) 0 }
 {
     let r = read_used(&seen.reads, used, cell.slots);
-    let named = edited | (timer_stirred(cell.count, cell.pulse, r) | moved(ONLY_Z, cell, seen));
+    let named = edited | wakes(timer_stirred(cell.count, cell.pulse, r), ONLY_Z, cell, seen);
     if full | named {
         Stepped {
             named,
@@ -199,7 +211,7 @@ pub(crate) fn counter_step(
         (work_as (Counter kind) 0 s r) 0 }
 {
     let r = read_slots(&seen.reads, cell.slots);
-    let named = edited | (counter_stirred(kind, cell.bit, r) | moved(levels, cell, seen));
+    let named = edited | wakes(counter_stirred(kind, cell.bit, r), levels, cell, seen);
     if full | named {
         Stepped {
             named,

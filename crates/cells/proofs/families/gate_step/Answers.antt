@@ -1,8 +1,7 @@
 -- `cells::families::gate_step` meets its contract: what is asked is what the definition asks, and the
 -- work is its callee's.
-use mathlib.Core.Path.{refl, ap, ap₂, ◌∙◌}
+use mathlib.Core.Path.{refl, ap, ◌∙◌}
 use mathlib.Core.Bool.{Bool, ◌||◌}
-use Rattle.cells.specs.State.{state_of}
 use Rattle.cells.specs.Work.{keeping, gate_out, work_as}
 use Rattle.cells.proofs.Steps.{step-worked, step-slept}
 use Rattle.cells.proofs.families.gate_step.Goals as goal
