@@ -1,13 +1,14 @@
 -- Laws of decisions: what an accepted command rules out, and that its numbers fit.
-use Prim.Native.Nat.{ℕ, ◌<◌}
+use Prim.Native.Nat.{ℕ, ◌≤◌, ◌<◌}
 use mathlib.Core.Path.{◌≡◌, refl}
 use mathlib.Core.Bool.{Bool, true, false, ◌||◌, true≢false}
 use native.Mathlib.Omega.{arith}
 use lib.Dec.{eqb}
+use borrow.Author.Tests.{ltb-false}
 use Rattle.std.specs.Prelude.{Option, Some, None, IfSome, Result, Ok, Err}
 use Rattle.words.proofs.Bools.{or_left, or_right}
 use Rattle.card.specs.declared.change.Change.TheVariants.{Nothing}
-use Rattle.card.specs.Address.{cells_for}
+use Rattle.card.specs.Address.{cell_room, cells_for}
 use Rattle.card.specs.Valid.{bad_place, bad_cell_type, bad_connector_type, bad_clock, bad_address}
 use Rattle.card.proofs.Bounds.{place-most, clock-most, kind-most, connector-kind-most}
 use Rattle.card.proofs.Places.{cells-most}
@@ -68,8 +69,12 @@ no_change (Err why) e = refl
 
 -- ---- a number that is not refused fits
 
+pub place-fits : (n v : ℕ) → n ≤ cell_room → bad_place n v ≡ false → v < 256
+place-fits n v room h = let g = place-most n v room h in omega arith
+
+-- of a card of a size
 pub place_fits : (size v : ℕ) → bad_place (cells_for size) v ≡ false → v < 256
-place_fits size v h = let g = place-most (cells_for size) v (cells-most size) h in omega arith
+place_fits size v h = place-fits (cells_for size) v (cells-most size) h
 
 pub clock_fits : (v : ℕ) → bad_clock v ≡ false → v < 256
 clock_fits v h = let g = clock-most v h in omega arith
@@ -82,6 +87,9 @@ connector_fits v h = let g = connector-kind-most v h in omega arith
 
 pub address_fits : (n v : ℕ) → bad_address n v ≡ false → v < 256
 address_fits n v h = let g = address-most n v h in omega arith
+
+pub number_fits : (v : ℕ) → too_large v ≡ false → v < 4294967296
+number_fits v h = let g = ltb-false 4294967295 v h in omega arith
 
 -- of a slot that is given, or not
 slot-fits : (n : ℕ) (o : Option ℕ) → given_and (bad_address n) o ≡ false → IfSome o (λ v. v < 256)
