@@ -10,7 +10,7 @@
 mod reader; // where a reader of lines is
 pub mod system; // what a program reads and writes, and why a call failed
 
-ghost use Rattle.std.specs.Prelude.{true, false, ltb, ◌≡◌, ℕ, ◌≤◌, ◌<◌, ◌+◌, min, length, take, get_or, IfOk, MatchResult};
+ghost use Rattle.std.specs.Prelude.{true, false, ltb, ◌≡◌, ℕ, ◌≤◌, ◌<◌, ◌+◌, min, length, take, get_or, MatchResult};
 ghost use Rattle.std.specs.List.{position};
 ghost use Rattle.input.specs.Lines.{is_lf, part, kept, block_length, most_reads};
 ghost use Rattle.input.specs.Reading.{is_line, Looked, Refilled, Next};
@@ -82,7 +82,7 @@ pub struct ReadFailed {
 // One read, to the front of a part of a buffer; how many bytes came. It is one call of the system,
 // so that what a person types is given at once, and nothing is read ahead.
 fn read_into(input: &mut Source, part: &mut [u8]) -> Result<usize, ReadFailed>
-    ensures { IfOk result (λ n. n ≤ length part.old) }
+    ensures { MatchResult result (λ n. n ≤ length part.old) (λ e. e.after ≡ 0) }
 {
     let got = match input {
         Source::Standard(standard) => standard.read(part),
@@ -94,7 +94,7 @@ fn read_into(input: &mut Source, part: &mut [u8]) -> Result<usize, ReadFailed>
 // One read, to a place of a block.
 fn read_at(input: &mut Source, block: &mut [u8], at: usize) -> Result<usize, ReadFailed>
     requires { at + block_length ≤ length block.old }
-    ensures n_le_block_length { IfOk result (λ n. n ≤ block_length) }
+    ensures n_le_block_length { MatchResult result (λ n. n ≤ block_length) (λ e. e.after ≤ block_length) }
     ensures block_unchanged { take at block.new ≡ take at block.old }
 {
     read_into(input, &mut block[at..at + BLOCK])
@@ -109,7 +109,7 @@ pub fn read_behind(
 ) -> Result<usize, ReadFailed>
     requires len_in_bounds { len ≤ length line.now }
     requires block_length_in_bounds { len + block_length ≤ length block.old }
-    ensures n_le_block_length { IfOk result (λ n. n ≤ block_length) }
+    ensures n_le_block_length { MatchResult result (λ n. n ≤ block_length) (λ e. e.after ≤ block_length) }
     ensures block_after { take len block.new ≡ take len line.now }
 {
     block[..len].copy_from_slice(&line[..len]);
