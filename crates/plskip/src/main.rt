@@ -22,8 +22,7 @@ use ticks::view::Input;
 #[derive(Clone, Copy)]
 struct Run {
     input: Input,
-    known: bool,
-    left: u32,
+    left: Option<u32>,
     counts: Counts,
 }
 
@@ -37,52 +36,39 @@ struct Counts {
     lines: u64,
 }
 
-// No count goes on beyond the largest.
-fn one_more(n: u64, more: bool) -> u64 {
-    if !more {
-        return n;
-    }
-    if n < u64::MAX { n + 1 } else { n }
-}
-
-fn same(a: Input, b: Input) -> bool {
-    (a.code == b.code) & (a.sample == b.sample) & (a.attached == b.attached)
-}
-
 // A line of the card, or a load: the card may be another.
 fn after_line(run: Run) -> Run {
-    let mut counts = run.counts;
-    counts.lines = one_more(counts.lines, true);
     let mut next = run;
-    next.known = false;
-    next.counts = counts;
+    next.left = None;
+    next.counts.lines = run.counts.lines.saturating_add(1);
     next
 }
 
 // A tick that ran, with the card that it met and the one that it left.
 fn after_tick(run: Run, before: Card, card: Card, input: Input) -> Run {
-    let old = run.input;
-    let same_input = same(old, input);
-    let mut left = run.left;
-    if !(run.known & same_input) {
-        left = steady_for(before, input);
-    }
+    let same_input = run.input == input;
+    let left = match run.left {
+        Some(left) if same_input => left,
+        _ => steady_for(before, input),
+    };
     let asleep = 0 < left;
-    if asleep {
-        left -= 1;
-    } else {
-        left = steady_for(card, input);
-    }
     let mut counts = run.counts;
-    counts.changes = one_more(counts.changes, (0 < counts.ticks) & !same_input);
-    counts.ticks = one_more(counts.ticks, true);
-    counts.slept = one_more(counts.slept, asleep);
-    let mut next = run;
-    next.input = input;
-    next.known = true;
-    next.left = left;
-    next.counts = counts;
-    next
+    if (0 < counts.ticks) & !same_input {
+        counts.changes = counts.changes.saturating_add(1);
+    }
+    if asleep {
+        counts.slept = counts.slept.saturating_add(1);
+    }
+    counts.ticks = counts.ticks.saturating_add(1);
+    Run {
+        input,
+        left: Some(if asleep {
+            left - 1
+        } else {
+            steady_for(card, input)
+        }),
+        counts,
+    }
 }
 
 // After the line that a feed has given, if it has given one.
@@ -97,8 +83,7 @@ fn after(run: Run, feed: &Feed) -> Run {
             }
             after_tick(run, feed.before, feed.card, t.input)
         }
-        Event::Load(_) => after_line(run),
-        Event::Line(_) => after_line(run),
+        Event::Load(_) | Event::Line(_) => after_line(run),
     }
 }
 
@@ -117,10 +102,9 @@ fn fresh_run() -> Run {
         lines: 0,
     };
     Run {
-        input: input,
-        known: false,
-        left: 0,
-        counts: counts,
+        input,
+        left: None,
+        counts,
     }
 }
 
@@ -151,15 +135,11 @@ fn put_share(out: &mut Writer, n: u64, total: u64) -> Written {
     out.put_with(b"", tenths % 10, b" %")
 }
 
-fn less(a: u64, b: u64) -> u64 {
-    if b < a { a - b } else { 0 }
-}
-
 fn put_counts(out: &mut Writer, c: Counts) -> Written {
     out.put_with(b"ticks: ", c.ticks, b"")?;
     out.put_with(b"\nslept through: ", c.slept, b"")?;
     put_share(out, c.slept, c.ticks)?;
-    let awake = less(c.ticks, c.slept);
+    let awake = c.ticks.saturating_sub(c.slept);
     out.put_with(b"\nawake: ", awake, b" ticks, ")?;
     out.put_with(b"", c.changes, b" other inputs, ")?;
     out.put_with(b"", c.lines, b" lines\n")?;
