@@ -56,7 +56,7 @@ fn put_connectors(before: Card, after: Card) -> bool {
     let news = each_of(after.connectors);
     let mut any = false;
     for (k, (old, new)) in olds.iter().zip(&news).enumerate() {
-        if old.kind != new.kind || old.source != new.source {
+        if *old != *new {
             put_connector(k + 33, *new);
             any = true;
         }

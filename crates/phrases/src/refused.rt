@@ -81,7 +81,7 @@ fn put_config(page: &mut Page, cell: Cell) {
 fn put_unused(page: &mut Page, kind: u8) {
     let used = row_of(kind).used;
     let name = type_name(kind);
-    if !((used.x | used.y) | (used.z | used.f)) {
+    if !used.any() {
         return page.say(format_args!("    10: {name} has no slots.\n"));
     }
     page.say(format_args!("    10: {name} uses only the slots"));

@@ -28,7 +28,7 @@ fn put_slot(page: &mut Page, first: usize, used: bool, kind: u8, slot: Slot, add
 fn put_slots(page: &mut Page, cell: Cell) {
     let used = row_of(cell.kind).used;
     let [x, y, z, f] = cell.slots;
-    if !((used.x | used.y) | (used.z | used.f)) {
+    if !used.any() {
         return;
     }
     page.say("      ");
@@ -93,13 +93,9 @@ fn put_connector_item(page: &mut Page, k: u8, c: Connector) {
 
 // ---- what differs between two cards
 
-// Whether two cells have the same settings, and the same state.
+// Whether two cells have the same settings, whatever their states are.
 fn alike(a: Cell, b: Cell) -> bool {
     (a.kind == b.kind) & (a.config == b.config) & (a.slots == b.slots)
-}
-
-fn same_state(a: Cell, b: Cell) -> bool {
-    (a.bit == b.bit) & (a.pulse == b.pulse) & (a.count.0 == b.count.0)
 }
 
 // Cells that have other settings now, and in a row those that have another state.
@@ -109,7 +105,7 @@ fn put_cells(page: &mut Page, rows: bool, before: [Cell; CELLS], after: [Cell; C
         let was = before[i as usize];
         let is = after[i as usize];
         if rows {
-            if !(alike(was, is) & same_state(was, is)) {
+            if was != is {
                 page.separate(first, b",");
                 put_cell_item(page, i, is);
             }
@@ -130,7 +126,7 @@ fn put_connectors(
     for k in 0..CONNECTORS as u8 {
         let was = before[k as usize];
         let is = after[k as usize];
-        if (was.kind != is.kind) | (was.source != is.source) {
+        if was != is {
             if rows {
                 page.separate(first, b",");
                 put_connector_item(page, k, is);
