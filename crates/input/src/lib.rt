@@ -171,11 +171,15 @@ impl Reader {
         }
     }
 
-    // The line that was given last, or what follows the last LF, in the block of the reader.
+    // The line that was given last, or what follows the last LF, in the block of the reader. `part`
+    // is empty where `end` is before `start`, which `new` and `next_line` never leave.
     pub fn text<'a>(&self, block: &'a [u8]) -> &'a [u8]
         requires { self.now.n ≤ length block.now }
         ensures { result.now ≡ part self.now.start self.now.end block.now }
     {
+        if self.end < self.start {
+            return &[];
+        }
         &block[self.start..self.end]
     }
 
@@ -203,6 +207,7 @@ impl Reader {
     // The line from `start` has no LF up to the last byte that has been read. Its first bytes, as
     // many as are kept, go to the front of the block, and the bytes of a read after them.
     fn refilled(self, input: &mut Source, block: &mut [u8], line: &mut [u8]) -> Reader
+        requires start_le_n { self.start ≤ self.n }
         requires n_in_bounds { self.n ≤ length block.old }
         requires block_length_in_bounds { length line.old + block_length ≤ length block.old }
         requires left_nonzero { 0 < self.left }
@@ -239,6 +244,7 @@ impl Reader {
         requires block_length_in_bounds { length line.old + block_length ≤ length block.old }
         requires left_nonzero { 0 < self.old.left }
         ensures next { Next (length line.old) self.old self.new block.old block.new }
+        ensures start_le_end { self.new.start ≤ self.new.end }
         ensures n_in_bounds_2 { self.new.n ≤ length block.new }
         ensures left_lt_left { self.new.left < self.old.left }
     {

@@ -19,6 +19,5 @@ pub struct Reader {
     pub found: Found,
     // lines that may still be given, and reads that may be made
     pub left: u64,
-    ghost order: { start ≤ end },
     ghost within: { end ≤ n },
 }

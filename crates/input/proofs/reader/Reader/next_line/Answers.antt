@@ -15,6 +15,7 @@ pub refilled-q-requires : goal.refilled-q-requires
 refilled-q-requires c =
     let u = c.loop-q.invariant in
     let more = u.0.ends.more (sym c.has_line.ensures ∙ c.if-has_line.true) in record {
+      start_le_n = omega (arith, u.0.order, u.0.ends.within);
       n_in_bounds = u.0.ends.inside;
       block_length_in_bounds = omega (arith, u.1, u.2, c.requires.block_length_in_bounds);
       left_nonzero = more;
@@ -39,6 +40,7 @@ returns c =
     let looked = c.behind-q.ensures in
     let r = c.args.self.now in record {
       next = next-found _ r c.behind-q.result l.q _ _ _ looked u refl refl refl c.found_at_end.ensures;
+      start_le_end = u.order;
       n_in_bounds_2 = u.ends.inside;
       left_lt_left = omega (arith, u.left, looked.left);
     }
