@@ -32,7 +32,6 @@ pub struct Arguments {
     pub anyway: bool,
     pub rows: bool,
     pub asleep: bool,
-    ghost small: { from < most_from },
 }
 
 // The words so far.
@@ -282,7 +281,9 @@ fn open_at(rt: &HostRuntime, help: &[u8], place: usize) -> Option<Source> {
 
 // The words of a program that takes these options and reads an input. There is nothing to do where
 // the help was written, and where an input cannot be read, which was said.
-pub fn read(rt: &HostRuntime, help: &[u8], takes: &[Switch]) -> Option<Arguments> {
+pub fn read(rt: &HostRuntime, help: &[u8], takes: &[Switch]) -> Option<Arguments>
+    ensures { IfSome result (λ a. a.from < most_from) }
+{
     let w = all_words(rt, help, takes, true).ok()?;
     let input = match w.file {
         Some(place) => open_at(rt, help, place)?,
