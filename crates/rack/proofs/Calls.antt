@@ -12,20 +12,22 @@ use Rattle.card.specs.Address.{cell_count, cells_for}
 use Rattle.card.specs.Context.{context_of}
 use Rattle.card.specs.Change.{changed}
 use Rattle.saved.specs.Record.{config_width, saved_to, load_number, loaded}
-use Rattle.std.specs.Prelude.{Result}
+use Rattle.std.specs.Prelude.{Result, Err}
 use Rattle.lines.specs.declared.decision.Accepted.{Accepted}
-use Rattle.lines.specs.declared.refused.Refused.{Refused}
+use Rattle.lines.specs.declared.refused.Refused.{Refused as LineRefused}
 use Rattle.lines.specs.declared.decision.Response.TheVariants.{Silent}
 use Rattle.lines.specs.declared.decision.Response.{Response}
 use Rattle.lines.specs.declared.line.Outcome.{Outcome}
 use Rattle.lines.specs.Line.{saves, number_in, change_in, response_in, shortest_reply, acceptance, refusal_text, reply_of, reply_with, line_decision, line_outcome, result_for}
 use Rattle.calls.proofs.Lists.{refused-kept}
-use Rattle.rack.specs.declared.row.Refused.TheVariants.{OverSupply, NoRack, ByCard}
+use Rattle.rack.specs.declared.row.Refused.{Refused}
+use Rattle.rack.specs.declared.row.Refused.TheVariants.{OverSupply, ByCard}
 use Rattle.rack.specs.Supply.{draws_of, over}
-use Rattle.rack.specs.Rack.{no_rack, over_supply, bad_number, start_card, card_of, outcome_by, outcome_in, row_outcome, number_by, load_in, row_load_number}
+use Rattle.rack.specs.Rack.{over_supply, start_card, card_of, refusal_number, outcome_by, outcome_in, row_outcome, number_by, load_in, row_load_number}
 use Rattle.rack.specs.Rack.{RowResult, row_result}
 use Rattle.rack.specs.Row.{IsPlace, IsRefused}
 use Rattle.rack.proofs.Rows.{taken-size}
+use Rattle.rack.proofs.Takes.{Placed, taken-bad, taken-over}
 
 module _ (cards : List Card) (number : ℕ) where
   abbrev c : Card
@@ -44,7 +46,9 @@ module _ (cards : List Card) (number : ℕ) where
 
     pub supply : (b : Card) (many : Bool) → over (draws_of cards) place own.connectors b.connectors ≡ many
         → over (draws_of cards) (number - 1) c.connectors b.connectors ≡ many
-    supply b many e = (λ i. over (draws_of cards) (sym at.value i) (sym here i).connectors b.connectors) ∙ e
+    supply b many e =
+        sym (taken-over cards number place c.connectors b.connectors at)
+        ∙ (λ i. over (draws_of cards) place (sym here i).connectors b.connectors) ∙ e
 
     -- and saved from there
     pub saved_here : (saves : Bool) (store after : List ℕ) → after ≡ cond saves (saved_to (cells_for own.size) config_width own store) store
@@ -57,11 +61,11 @@ module _ (cards : List Card) (number : ℕ) where
     abbrev o : Outcome
     o = row_outcome cell_count cards number text reply store
 
-    pub no_card : bad_number cards number ≡ true → IsRefused c o NoRack
+    pub no_card : (why : Refused) → Placed cards number (Err why) → IsRefused c o why
     unfolding row_outcome
-    no_card e = rw e (refl, refl, refl)
+    no_card why h = rw (h.0, sym (taken-bad cards number (Err why) h)) (refl, refl, refl)
 
-    module _ (place : ℕ) (d : Card) (at : IsPlace cards number place) (x : Result Accepted Refused) (next : Card)
+    module _ (place : ℕ) (d : Card) (at : IsPlace cards number place) (x : Result Accepted LineRefused) (next : Card)
         (said : let n = cells_for (own place d at).size in x ≡ line_decision n (context_of n (own place d at)) text reply store)
         (made : next ≡ changed (cells_for (own place d at).size) (own place d at) (change_in x)) where
       abbrev alone : Outcome
@@ -105,9 +109,10 @@ module _ (cards : List Card) (number : ℕ) where
   -- ---- a load
 
   module _ (bytes : List ℕ) where
-    pub no_card_load : bad_number cards number ≡ true → row_load_number cell_count cards number bytes ≡ no_rack
+    pub no_card_load : (why : Refused) → Placed cards number (Err why) → let k = row_load_number cell_count cards number bytes in
+        (k ≡ refusal_number why) × (eqb k 0 ≡ false)
     unfolding row_load_number
-    no_card_load e = rw e refl
+    no_card_load why h = rw (h.0, sym (taken-bad cards number (Err why) h)) (refl, refl)
 
     module _ (place : ℕ) (d : Card) (at : IsPlace cards number place) (k : ℕ) (next : Card)
         (k-is : k ≡ load_number (cells_for (own place d at).size) bytes) (next-is : next ≡ loaded (cells_for (own place d at).size) (own place d at) bytes) where

@@ -9,4 +9,5 @@ pub mod Refused
 pub mod Started
 pub mod Cards
 pub mod Ticks
+pub mod Takes
 pub mod Calls

@@ -9,7 +9,7 @@ pub returns-in_err-place : goal.returns-in_err-place
 returns-in_err-place c =
     let a = c.args in
     let p = err_from_is_err_and c.from_residual.result c.from_residual.ensures.1 in
-    rw (p.1, p.2, c.in_err-place.ensures.0) (no_card a.row.now a.number a.text.now a.reply a.store c.in_err-place.ensures.1)
+    rw (p.1, p.2) (no_card a.row.now a.number a.text.now a.reply a.store _ c.in_err-place.ensures)
 
 pub returns-in_err-accepted : goal.returns-in_err-accepted
 returns-in_err-accepted c =

@@ -9,7 +9,7 @@ pub returns-in_err-place : goal.returns-in_err-place
 returns-in_err-place c =
     let a = c.args in
     let p = err_from_is_err_and c.from_residual.result c.from_residual.ensures.1 in
-    rw (p.1, p.2, c.in_err-place.ensures.0, no_card_load a.row.now a.number a.bytes.now c.in_err-place.ensures.1) (refl, refl)
+    rw (p.1, p.2) (no_card_load a.row.now a.number a.bytes.now _ c.in_err-place.ensures)
 
 pub returns-then-l-ne0 : goal.returns-then-l-ne0
 returns-then-l-ne0 c =
