@@ -18,7 +18,7 @@ use Rattle.text.proofs.DigitLaws.{value-below}
 use Rattle.words.proofs.Bools.{and_left, and_right, and_both}
 use Rattle.text.specs.Digits.{every}
 use Rattle.grammar.specs.declared.grammar.Pairs.{Pairs}
-use Rattle.grammar.specs.declared.pairs.Reading.{Reading}
+use Rattle.grammar.specs.declared.grammar.Reading.{Reading}
 use Rattle.grammar.specs.declared.grammar.Slot.{Slot}
 use Rattle.grammar.specs.declared.grammar.Slot.TheVariants.{X, Y, Z, F}
 use Rattle.grammar.specs.Grammar.{char_at, is_word, is_whole, to_end, slot_of, pair_of, give, pair_with, next_pair, pair_read, steps, ◌>>=◌}

@@ -16,7 +16,7 @@ use Rattle.words.proofs.Bools.{and_left, and_right, and_both}
 use Rattle.card.specs.Address.{cell_room}
 use Rattle.text.specs.Digits.{every}
 use Rattle.grammar.specs.declared.grammar.Pairs.{Pairs}
-use Rattle.grammar.specs.declared.pairs.Reading.{Reading}
+use Rattle.grammar.specs.declared.grammar.Reading.{Reading}
 use Rattle.grammar.specs.declared.grammar.Slot.{Slot}
 use Rattle.grammar.specs.declared.grammar.Slot.TheVariants.{X, Y, Z, F}
 use Rattle.grammar.specs.declared.grammar.Command.{Command}

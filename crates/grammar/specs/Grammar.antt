@@ -7,7 +7,7 @@ use Rattle.cells.specs.declared.table.Slots.{Slots}
 use Rattle.cells.specs.Table.{slots, any_slot}
 use Rattle.card.specs.Address.{cell_room}
 use Rattle.grammar.specs.declared.grammar.Pairs.{Pairs}
-use Rattle.grammar.specs.declared.pairs.Reading.{Reading}
+use Rattle.grammar.specs.declared.grammar.Reading.{Reading}
 use Rattle.grammar.specs.declared.grammar.Slot.{Slot}
 use Rattle.grammar.specs.declared.grammar.Slot.TheVariants.{X, Y, Z, F}
 use Rattle.grammar.specs.declared.grammar.Command.{Command}

@@ -61,6 +61,13 @@ pub enum NoCommand {
     Elsewhere,
 }
 
+// The pairs that have been read, and where the next one starts.
+#[derive(Clone, Copy)]
+pub struct Reading {
+    pub pairs: Pairs,
+    pub at: usize,
+}
+
 // The byte at a place; past the end 0, which no form has.
 pub(crate) fn char_at(text: &[u8], at: usize) -> u8
     ensures { result ≡ char_at text.now at }

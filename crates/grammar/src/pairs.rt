@@ -3,7 +3,7 @@ ghost use Rattle.std.specs.Prelude.{◌≡◌, ◌+◌, ◌≤◌, length, IfSom
 ghost use Rattle.grammar.specs.Grammar;
 ghost use Rattle.grammar.specs.Grammar.{longest_line, pair_read, pairs_of};
 
-use crate::grammar::{Pairs, Slot, char_at, number_from, slot_of};
+use crate::grammar::{Pairs, Reading, Slot, char_at, number_from, slot_of};
 use card::limits::Number;
 use cells::table::Slots;
 
@@ -45,16 +45,6 @@ impl Pairs {
     }
 }
 
-// How many slots there are: a line gives each of them once at most.
-const SLOTS: usize = 4;
-
-// The pairs that have been read, and where the next one starts.
-#[derive(Clone, Copy)]
-pub struct Reading {
-    pub pairs: Pairs,
-    pub at: usize,
-}
-
 // One pair more, where the line goes on: a blank, a letter not given before, `=` and a number.
 #[tactic(auto, using(crate::proofs::Words::next_within), unfolding(crate::specs::Grammar::pair_read))]
 fn read_pair(text: &[u8], r: Reading) -> Option<Reading>
@@ -79,14 +69,15 @@ fn read_pair(text: &[u8], r: Reading) -> Option<Reading>
     })
 }
 
-// All pairs from a place to the end of the line, which is no longer than a line may be.
+// All pairs from a place to the end of the line, which is no longer than a line may be. There are
+// four letters, so four steps are enough.
 #[tactic(auto, unfolding(crate::specs::Grammar::pairs_of, crate::specs::Grammar::steps))]
 pub fn all_pairs(text: &[u8], at: usize) -> Option<Pairs>
     requires at_le_longest_line { at ≤ longest_line }
     requires text_len_bound { length text.now ≤ longest_line }
     ensures { result ≡ pairs_of text.now at }
 {
-    let mut r = Reading {
+    let start = Reading {
         pairs: Pairs {
             x: None,
             y: None,
@@ -95,9 +86,10 @@ pub fn all_pairs(text: &[u8], at: usize) -> Option<Pairs>
         },
         at,
     };
-    for _step in 0..SLOTS {
-        r = read_pair(text, r)?;
-    }
+    let one = read_pair(text, start)?;
+    let two = read_pair(text, one)?;
+    let three = read_pair(text, two)?;
+    let r = read_pair(text, three)?;
     let given = r.pairs.given();
     let any = (given.x | given.y) | (given.z | given.f);
     ((r.at == text.len()) & any).then_some(r.pairs)

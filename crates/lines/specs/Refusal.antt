@@ -1,5 +1,5 @@
--- Document 01, "When the card says no": the lowest number that applies to a command, 0 where none
--- does.
+-- Document 01, "When the card says no": why a command is refused, by the lowest number that
+-- applies.
 use Rattle.std.specs.Prelude.{ℕ, Bool, true, false, ◌&&◌, ◌||◌, not, cond, ltb, Option, Some, None}
 use Rattle.cells.specs.declared.table.Slots.{Slots}
 use Rattle.cells.specs.Table.{slots}
