@@ -69,8 +69,7 @@ pub fn keep(line: &mut [u8], text: &[u8]) -> usize
     ensures line_len_unchanged { length line.new ≡ length line.old }
 {
     let n = text.len().min(line.len());
-    line[..n].copy_from_slice(&text[..n]);
-    n
+    text::copy(line, 0, &text[..n])
 }
 
 // A read that failed, after so many bytes had come: `system::fail` says why.
@@ -112,7 +111,7 @@ pub fn read_behind(
     ensures n_le_block_length { MatchResult result (λ n. n ≤ block_length) (λ e. e.after ≤ block_length) }
     ensures block_after { take len block.new ≡ take len line.now }
 {
-    block[..len].copy_from_slice(&line[..len]);
+    text::copy(block, 0, &line[..len]);
     read_at(input, block, len)
 }
 

@@ -11,7 +11,7 @@ use std::marker::Model;
 pub const ROOM: usize = 65536;
 
 // The bytes that are written so far. A contract sees them alone.
-#[derive(Drop)]
+#[derive(Clone, Drop)]
 pub struct Page {
     bytes: [u8; ROOM],
     len: usize,
@@ -60,8 +60,7 @@ impl Page {
     {
         let end = self.len + piece.len();
         if end <= ROOM {
-            self.bytes[self.len..end].copy_from_slice(piece);
-            self.len = end;
+            self.len = text::copy(&mut self.bytes, self.len, piece);
         }
     }
 
@@ -88,17 +87,23 @@ impl fmt::Write for Page {
     }
 }
 
-// A line of input, or of a file, as it is shown: a byte that no line has is `?`.
+// Whether a line may have a byte.
+fn is_plain(byte: u8) -> bool {
+    matches!(byte, b' '..=b'~')
+}
+
+// A line of input, or of a file, as it is shown: a byte that no line has is `?`. The bytes between
+// two such are written at once, and not one by one.
 #[derive(Clone, Copy)]
 pub struct Shown<'a>(pub &'a [u8]);
 
 impl Display for Shown<'_> {
     fn fmt<W: fmt::Write>(&self, f: &mut fmt::Formatter<W>) -> fmt::Result {
-        for byte in self.0 {
-            f.write_char(match *byte {
-                b' '..=b'~' => *byte as char,
-                _ => '?',
-            })?;
+        for run in self.0.chunk_by(|a, b| is_plain(*a) && is_plain(*b)) {
+            match (run, str::from_utf8(run)) {
+                ([first, ..], Ok(text)) if is_plain(*first) => f.write_str(text)?,
+                _ => f.write_char('?')?,
+            }
         }
         Ok(())
     }

@@ -4,13 +4,12 @@
 // A write that failed is reported once, with the system's words. After it nothing more is written,
 // so that what came out is never without its middle, and the program can end.
 ghost use Rattle.std.specs.Prelude.{◌≡◌, ◌≤◌, Result, Ok, IfOk, IsErr};
-ghost use Rattle.std.specs.Result.{ForOk};
 ghost use Rattle.program.specs.Writer.{room_length};
 
 use input::system::{STDOUT, fail};
 
 // `room_length`: the length of the buffer.
-const ROOM: usize = 65536;
+pub const ROOM: usize = 65536;
 
 // A write that failed, and was reported.
 #[derive(Clone, Copy, Debug, PartialEq, Eq)]
@@ -28,12 +27,12 @@ pub fn write(text: &[u8]) -> Written {
     Err(WriteFailed)
 }
 
-#[derive(Drop)]
+// How many bytes wait at the front of the room, unless a write has failed. Where more are said to
+// wait than there is room for, that counts as a write that failed.
+#[derive(Clone, Copy)]
 pub struct Writer {
-    room: [u8; ROOM],
-    // how many bytes wait at the front of the room, unless a write has failed
+    pub room: [u8; ROOM],
     pub waiting: Result<usize, WriteFailed>,
-    ghost within: { ForOk waiting (λ used. used ≤ room_length) },
 }
 
 impl Writer {
@@ -49,9 +48,14 @@ impl Writer {
     // What waits is given to write.
     pub fn flush(&mut self) -> Written
         ensures empty { IfOk self.new.waiting (λ used. used ≡ 0) }
+        ensures within { IfOk self.new.waiting (λ used. used ≤ room_length) }
         ensures failed { IsErr self.old.waiting → IsErr result }
     {
         let used = self.waiting?;
+        if ROOM < used {
+            self.waiting = Err(WriteFailed);
+            return Err(WriteFailed);
+        }
         let written = write(&self.room[..used]);
         self.waiting = written.map(|_| 0);
         written
@@ -60,32 +64,35 @@ impl Writer {
     // A piece of text after what waits. Where it has no room there, what waits is given to write,
     // and the piece waits alone, or, where it is longer than the room, is written at once.
     pub fn put(&mut self, text: &[u8]) -> Written
-        ensures { IsErr self.old.waiting → IsErr result }
+        ensures failed { IsErr self.old.waiting → IsErr result }
+        ensures within { IfOk self.new.waiting (λ used. used ≤ room_length) }
     {
-        if ROOM - self.waiting? < text.len() {
-            self.flush()?;
+        let used = self.waiting?;
+        if used <= ROOM && text.len() <= ROOM - used {
+            self.waiting = Ok(text::copy(&mut self.room, used, text));
+            return Ok(());
         }
+        self.flush()?;
         if ROOM < text.len() {
             let written = write(text);
             self.waiting = written.map(|_| 0);
             return written;
         }
-        let used = self.waiting?;
-        let end = used + text.len();
-        self.room[used..end].copy_from_slice(text);
-        self.waiting = Ok(end);
+        self.waiting = Ok(text::copy(&mut self.room, 0, text));
         Ok(())
     }
 
     pub fn put_byte(&mut self, b: u8) -> Written
-        ensures { IsErr self.old.waiting → IsErr result }
+        ensures failed { IsErr self.old.waiting → IsErr result }
+        ensures within { IfOk self.new.waiting (λ used. used ≤ room_length) }
     {
         self.put(&[b])
     }
 
     // A number in decimal.
     pub fn put_number(&mut self, n: u64) -> Written
-        ensures { IsErr self.old.waiting → IsErr result }
+        ensures failed { IsErr self.old.waiting → IsErr result }
+        ensures within { IfOk self.new.waiting (λ used. used ≤ room_length) }
     {
         let mut digits = [0u8; 20];
         let k = io::decimal(n, &mut digits);
@@ -94,7 +101,8 @@ impl Writer {
 
     // A number between two pieces.
     pub fn put_with(&mut self, before: &[u8], n: u64, after: &[u8]) -> Written
-        ensures { IsErr self.old.waiting → IsErr result }
+        ensures failed { IsErr self.old.waiting → IsErr result }
+        ensures within { IfOk self.new.waiting (λ used. used ≤ room_length) }
     {
         self.put(before)?;
         self.put_number(n)?;
