@@ -23,13 +23,13 @@ use input::system::{STDERR, STDOUT, Source};
 use input::{BLOCK, Found, each_line};
 use rack::rack_calls::{rack_line, rack_load, rack_start, rack_tick};
 use rack::row::start_card;
-use rack::supply::MOST;
+use rack::supply::HELD;
 use rack::tick::RackInput;
 use saved::record::RECORD_LENGTH;
 use ticks::tick::Answer;
 
 // One card more than a rack may have.
-const ROOM: usize = MOST + 1;
+const ROOM: usize = HELD;
 
 // The longest line that is kept whole, and the longest that is taken.
 const KEPT: usize = 644;
@@ -88,9 +88,9 @@ fn put_number(v: u64) {
     io::print_decimal(STDOUT, v);
 }
 
-// ---- the calls
+// ---- the calls: what each answers is printed but for its last piece, which it gives back
 
-fn make(rig: &mut Rig, fields: &[u8]) -> Result<(), Expected> {
+fn make(rig: &mut Rig, fields: &[u8]) -> Result<&'static [u8], Expected> {
     let (count, large) = match fields {
         [count] => (*count, false),
         [count, b' ', b'3', b'2'] => (*count, true),
@@ -105,16 +105,15 @@ fn make(rig: &mut Rig, fields: &[u8]) -> Result<(), Expected> {
     if large && 0 < n {
         rig.cards[n - 1] = fresh_of(LARGE);
     }
-    put(b"ok");
-    Ok(())
+    Ok(b"ok\n")
 }
 
-fn start(rig: &mut Rig, fields: &[u8]) -> Result<(), Expected> {
+fn start(rig: &mut Rig, fields: &[u8]) -> Result<&'static [u8], Expected> {
     if !fields.is_empty() {
         return Err(Expected::Start);
     }
     put_number(rack_start(rig.row()) as u64);
-    Ok(())
+    Ok(b"\n")
 }
 
 fn put_word(v: u32) {
@@ -161,7 +160,7 @@ fn tick_input(fields: &[u8]) -> Option<(bool, RackInput)> {
     Some((full, input))
 }
 
-fn tick(rig: &mut Rig, fields: &[u8]) -> Result<(), Expected> {
+fn tick(rig: &mut Rig, fields: &[u8]) -> Result<&'static [u8], Expected> {
     let (full, input) = tick_input(fields).ok_or(Expected::Tick)?;
     let ticked = rack_tick(rig.row(), full, input);
     put_number(ticked.k as u64);
@@ -170,7 +169,7 @@ fn tick(rig: &mut Rig, fields: &[u8]) -> Result<(), Expected> {
             put_answer(*answer);
         }
     }
-    Ok(())
+    Ok(b"\n")
 }
 
 // A reply without its CR and LF, and what comes before it.
@@ -186,7 +185,7 @@ fn put_reply(k: u8, len: usize, reply: &[u8]) {
     }
 }
 
-fn line_to(rig: &mut Rig, fields: &[u8]) -> Result<(), Expected> {
+fn line_to(rig: &mut Rig, fields: &[u8]) -> Result<&'static [u8], Expected> {
     let (card, rest) = number(fields).ok_or(Expected::Line)?;
     let (room, text) = number(rest).ok_or(Expected::Line)?;
     let size = room.min(REPLY as u64) as usize;
@@ -195,18 +194,18 @@ fn line_to(rig: &mut Rig, fields: &[u8]) -> Result<(), Expected> {
     let mut store = [0u8; RECORD_LENGTH];
     let replied = rack_line(rig.row(), card as usize, text, reply, &mut store);
     put_reply(replied.k, replied.len, reply);
-    Ok(())
+    Ok(b"\n")
 }
 
-fn load(rig: &mut Rig, fields: &[u8]) -> Result<(), Expected> {
+fn load(rig: &mut Rig, fields: &[u8]) -> Result<&'static [u8], Expected> {
     let (card, rest) = number(fields).ok_or(Expected::Load)?;
     let mut bytes = [0u8; RECORD];
     let len = record(rest, &mut bytes).ok_or(Expected::Load)?;
     put_number(rack_load(rig.row(), card as usize, &bytes[..len]) as u64);
-    Ok(())
+    Ok(b"\n")
 }
 
-fn call(rig: &mut Rig, line: &[u8]) -> Result<(), Expected> {
+fn call(rig: &mut Rig, line: &[u8]) -> Result<&'static [u8], Expected> {
     if LONGEST < line.len() {
         return Err(Expected::Shorter);
     }
@@ -228,7 +227,7 @@ fn call(rig: &mut Rig, line: &[u8]) -> Result<(), Expected> {
 // A call and its answer, whose last piece is written with a check: whether that went.
 fn answer(rig: &mut Rig, line: &[u8]) -> bool {
     match call(rig, line) {
-        Ok(()) => program::writer::write(b"\n").is_ok(),
+        Ok(last) => program::writer::write(last).is_ok(),
         Err(expected) => {
             io::write_all(STDERR, b"plrack: a line is refused: ");
             io::write_all(STDERR, expected.form());

@@ -10,6 +10,9 @@ use card::limits::{FRONT, FRONT_WORD};
 // The most cards of a rack.
 pub const MOST: usize = 4;
 
+// One card more: what a program holds that also asks of rows that are no racks.
+pub const HELD: usize = MOST + 1;
+
 // What the lamps of a rack may draw together, and the share that is each card's own.
 const SUPPLY: u32 = 16;
 
